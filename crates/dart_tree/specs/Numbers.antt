@@ -1,0 +1,64 @@
+-- The numbers of the nodes: in reading order, a node before the nodes in it.
+use Rattle.std.specs.Prelude.{◌≡◌, ℕ, ◌+◌, refl}
+use Rattle.std.proofs.Common.{ap, ap₂}
+use Rattle.dart_tree.specs.Tree.{Tree, Trees, Part, no_more, more, absent, present, name, integer, int_type, declare, assign, eval, print, block, function, unit}
+use Rattle.dart_tree.specs.declared.places.Place.{Place}
+use Rattle.dart_tree.specs.declared.nodes.Name.{Name}
+
+abbrev mutual
+  -- how many nodes a tree has: itself, those in it, and each name that it declares or assigns
+  pub nodes_in : Tree → ℕ
+  nodes_in (name at word) = 1
+  nodes_in (integer at literal) = 1
+  nodes_in (int_type at) = 1
+  nodes_in (declare at declared variable initial) = 2 + nodes_in declared + nodes_in_part initial
+  nodes_in (assign at target value) = 2 + nodes_in value
+  nodes_in (eval at value) = 1 + nodes_in value
+  nodes_in (print at value) = 1 + nodes_in value
+  nodes_in (block at statements) = 1 + nodes_in_all statements
+  nodes_in (function at body) = 1 + nodes_in body
+  nodes_in (unit at main) = 1 + nodes_in main
+
+  -- how many nodes the trees of a list have together
+  pub nodes_in_all : Trees → ℕ
+  nodes_in_all no_more = 0
+  nodes_in_all (more first rest) = nodes_in first + nodes_in_all rest
+
+  -- how many nodes a part has: none where it is left out
+  pub nodes_in_part : Part → ℕ
+  nodes_in_part absent = 0
+  nodes_in_part (present tree) = nodes_in tree
+
+-- a place with another number
+abbrev pub place_numbered : ℕ → Place → Place
+place_numbered n at = record at { node = record { 0 = n } }
+
+-- a name with another number
+abbrev pub name_numbered : ℕ → Name → Name
+name_numbered n x = record x { at = place_numbered n x.at }
+
+abbrev mutual
+  -- the same tree with its nodes numbered in reading order from n on: of a declaration the type, the name, the initializer
+  pub numbered : ℕ → Tree → Tree
+  numbered n (name at word) = name (place_numbered n at) word
+  numbered n (integer at literal) = integer (place_numbered n at) literal
+  numbered n (int_type at) = int_type (place_numbered n at)
+  numbered n (declare at declared variable initial) =
+      declare (place_numbered n at) (numbered (n + 1) declared) (name_numbered (n + 1 + nodes_in declared) variable)
+      (part_numbered (n + 2 + nodes_in declared) initial)
+  numbered n (assign at target value) = assign (place_numbered n at) (name_numbered (n + 1) target) (numbered (n + 2) value)
+  numbered n (eval at value) = eval (place_numbered n at) (numbered (n + 1) value)
+  numbered n (print at value) = print (place_numbered n at) (numbered (n + 1) value)
+  numbered n (block at statements) = block (place_numbered n at) (all_numbered (n + 1) statements)
+  numbered n (function at body) = function (place_numbered n at) (numbered (n + 1) body)
+  numbered n (unit at main) = unit (place_numbered n at) (numbered (n + 1) main)
+
+  -- the trees of a list, each numbered from where the one before it ends
+  pub all_numbered : ℕ → Trees → Trees
+  all_numbered n no_more = no_more
+  all_numbered n (more first rest) = more (numbered n first) (all_numbered (n + nodes_in first) rest)
+
+  -- a part with its nodes numbered from n on
+  pub part_numbered : ℕ → Part → Part
+  part_numbered n absent = absent
+  part_numbered n (present tree) = present (numbered n tree)

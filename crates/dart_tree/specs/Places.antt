@@ -1,0 +1,21 @@
+-- Where a node stands.
+use Rattle.dart_tree.specs.Tree.{Tree, name, integer, int_type, declare, assign, eval, print, block, function, unit}
+use Rattle.dart_tree.specs.declared.places.Place.{Place}
+use Rattle.dart_tree.specs.declared.places.Span.{Span}
+
+-- the number and the range of a node
+abbrev pub place_of : Tree → Place
+place_of (name at word) = at
+place_of (integer at literal) = at
+place_of (int_type at) = at
+place_of (declare at declared variable initial) = at
+place_of (assign at target value) = at
+place_of (eval at value) = at
+place_of (print at value) = at
+place_of (block at statements) = at
+place_of (function at body) = at
+place_of (unit at main) = at
+
+-- the range of a node
+abbrev pub span_of : Tree → Span
+span_of t = (place_of t).span

@@ -1,0 +1,19 @@
+//! Where a node stands, and its number.
+
+/// The number of a node: how many nodes of its unit stand before it in reading order.
+#[derive(Clone, Copy, Debug, PartialEq, Eq, PartialOrd, Ord)]
+pub struct NodeId(pub u32);
+
+/// A range of the text, from its first to past its last UTF-16 code unit, counted from 0.
+#[derive(Clone, Copy, Debug, PartialEq, Eq)]
+pub struct Span {
+    pub start: u32,
+    pub end: u32,
+}
+
+/// The number of a node, and the range of the text from its first to its last token.
+#[derive(Clone, Copy, Debug, PartialEq, Eq)]
+pub struct Place {
+    pub node: NodeId,
+    pub span: Span,
+}
