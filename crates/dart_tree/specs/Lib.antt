@@ -5,3 +5,4 @@ pub mod Places
 pub mod Counts
 pub mod Counters
 pub mod Numbers
+pub mod NumberLaws

@@ -1,6 +1,5 @@
 -- The numbers of the nodes: in reading order, a node before the nodes in it.
-use Rattle.std.specs.Prelude.{◌≡◌, ℕ, ◌+◌, refl}
-use Rattle.std.proofs.Common.{ap, ap₂}
+use Rattle.std.specs.Prelude.{ℕ, ◌+◌, List, [], ◌∷◌, ◌++◌}
 use Rattle.dart_tree.specs.Tree.{Tree, Trees, Part, no_more, more, absent, present, name, integer, int_type, declare, assign, eval, print, block, function, unit}
 use Rattle.dart_tree.specs.declared.places.Place.{Place}
 use Rattle.dart_tree.specs.declared.nodes.Name.{Name}
@@ -62,3 +61,31 @@ abbrev mutual
   pub part_numbered : ℕ → Part → Part
   part_numbered n absent = absent
   part_numbered n (present tree) = present (numbered n tree)
+
+-- the number that a place has
+abbrev pub number_at : Place → ℕ
+number_at at = at.node.0
+
+abbrev mutual
+  -- the numbers of a tree's nodes in reading order, those of its declared and assigned names among them
+  pub numbers_of : Tree → List ℕ
+  numbers_of (name at word) = number_at at ∷ []
+  numbers_of (integer at literal) = number_at at ∷ []
+  numbers_of (int_type at) = number_at at ∷ []
+  numbers_of (declare at declared variable initial) = number_at at ∷ (numbers_of declared ++ number_at variable.at ∷ numbers_of_part initial)
+  numbers_of (assign at target value) = number_at at ∷ number_at target.at ∷ numbers_of value
+  numbers_of (eval at value) = number_at at ∷ numbers_of value
+  numbers_of (print at value) = number_at at ∷ numbers_of value
+  numbers_of (block at statements) = number_at at ∷ numbers_of_all statements
+  numbers_of (function at body) = number_at at ∷ numbers_of body
+  numbers_of (unit at main) = number_at at ∷ numbers_of main
+
+  -- the numbers of the nodes of a list of trees
+  pub numbers_of_all : Trees → List ℕ
+  numbers_of_all no_more = []
+  numbers_of_all (more first rest) = numbers_of first ++ numbers_of_all rest
+
+  -- the numbers of a part's nodes
+  pub numbers_of_part : Part → List ℕ
+  numbers_of_part absent = []
+  numbers_of_part (present tree) = numbers_of tree

@@ -17,7 +17,7 @@ pub use nodes::{
     Block, Expr, ExprNode, Function, IntegerLiteral, Name, Production, Radix, Stmt, StmtNode, Unit,
     WrittenType, WrittenTypeNode,
 };
-pub use numbering::number_unit;
+pub use numbering::{number_unit, numbering_laws};
 pub use places::{NodeId, Place, Span};
 
 #[cfg(test)]

@@ -1,8 +1,10 @@
 //! The numbers of a unit's nodes.
 
-ghost use Rattle.std.specs.Prelude.{◌≡◌, ◌+◌, ◌<◌, ◌^◌};
-ghost use Rattle.dart_tree.specs.Tree.{trees_of};
-ghost use Rattle.dart_tree.specs.Numbers.{nodes_in, nodes_in_all, numbered, all_numbered, place_numbered, name_numbered};
+ghost use Rattle.std.specs.Prelude.{◌≡◌, ℕ, ◌+◌, ◌<◌, ◌^◌};
+ghost use Rattle.std.specs.List.{range_with_len};
+ghost use Rattle.dart_tree.specs.Tree.{Tree, trees_of};
+ghost use Rattle.dart_tree.specs.Places.{place_of};
+ghost use Rattle.dart_tree.specs.Numbers.{numbers_of, nodes_in, nodes_in_all, numbered, all_numbered, place_numbered, name_numbered};
 
 use crate::nodes::{
     Block, Expr, ExprNode, Function, Name, Stmt, StmtNode, Unit, WrittenType, WrittenTypeNode,
@@ -17,6 +19,15 @@ pub fn number_unit(unit: &mut Unit)
     number_place(&mut unit.at, 0);
     let _end = number_function(&mut unit.main, 1);
 }
+
+/// The laws of numbering: in reading order the numbers count up by one from the first given, no
+/// node is lost or gained, ranges stay, and numbers that were there before do not matter.
+pub fn numbering_laws()
+    ensures in_order { (first : ℕ) (t : Tree) → numbers_of (numbered first t) ≡ range_with_len first (nodes_in t) }
+    ensures as_many { (first : ℕ) (t : Tree) → nodes_in (numbered first t) ≡ nodes_in t }
+    ensures places { (first : ℕ) (t : Tree) → place_of (numbered first t) ≡ place_numbered first (place_of t) }
+    ensures anew { (first before : ℕ) (t : Tree) → numbered first (numbered before t) ≡ numbered first t }
+{}
 
 /// Numbers a function's nodes from `first` on, and answers the number after the last.
 fn number_function(function: &mut Function, first: u32) -> u32
