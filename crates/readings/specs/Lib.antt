@@ -1,0 +1,5 @@
+pub mod Members
+pub mod Readings
+pub mod Descent
+pub mod Agreement
+pub mod Longest
