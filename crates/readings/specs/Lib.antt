@@ -3,3 +3,5 @@ pub mod Readings
 pub mod Descent
 pub mod Agreement
 pub mod Longest
+pub mod Combinators
+pub mod Repetition
