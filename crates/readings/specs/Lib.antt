@@ -5,3 +5,4 @@ pub mod Agreement
 pub mod Longest
 pub mod Combinators
 pub mod Repetition
+pub mod Parses

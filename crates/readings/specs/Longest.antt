@@ -1,5 +1,5 @@
 -- The longest of readings of which one beats the others.
-use Rattle.std.specs.Prelude.{◌≡◌, ℕ, ◌<◌, ◌≤◌, Bool, true, false, List, [], ◌∷◌, Option, Some, None, length, nat_lt, if◌then◌else◌, refl, ◌⊎◌}
+use Rattle.std.specs.Prelude.{◌≡◌, ℕ, suc, ◌<◌, ◌≤◌, Bool, true, false, List, [], ◌∷◌, Option, Some, None, length, nat_lt, if◌then◌else◌, refl, ◌⊎◌}
 use Rattle.std.proofs.Common.{sym, ◌∙◌, ap, subst, inl, inr, arith}
 use Rattle.std.proofs.lemmas.Bool.Decides.{nat_tests}
 use Rattle.readings.specs.Members.{In}
@@ -60,3 +60,31 @@ longest_is s all (Some b) m = best_of s all b m.0 m.1
 -- a descent that agrees with a rule finds its longest reading
 pub agrees_longest : {T A : Type 0} (s : T → Bool) (p : Rule T A) (g : Descent T A) → Agrees s p g → (ts : List T) → longest (p ts) ≡ g ts
 agrees_longest s p g a ts = longest_is s (p ts) (g ts) (a ts)
+
+none_below : (n : ℕ) → nat_lt n 0 ≡ false
+none_below n = grind (arith, nat_tests)
+
+some_above : (n : ℕ) → nat_lt 0 (suc n) ≡ true
+some_above n = grind (arith, nat_tests)
+
+incomplete : {T A : Type 0} (b : Bool) (x y : A) (t u : T) (ts us : List T) → complete (if b then Some (y, u ∷ us) else Some (x, t ∷ ts)) ≡ None
+incomplete true x y t u ts us = refl
+incomplete false x y t u ts us = refl
+
+complete_at : {T A : Type 0} (x y : A) (ts us : List T) → complete (if nat_lt (length us) (length ts) then Some (y, us) else Some (x, ts)) ≡ whole_or x ts (whole_or y us None)
+complete_at x y [] us = let e : nat_lt (length us) 0 ≡ false = none_below (length us) in rw e refl
+complete_at x y (t ∷ ts) [] = let e : nat_lt 0 (suc (length ts)) ≡ true = some_above (length ts) in rw e refl
+complete_at x y (t ∷ ts) (u ∷ us) = incomplete (nat_lt (length (u ∷ us)) (length (t ∷ ts))) x y t u ts us
+
+complete_best : {T A : Type 0} (x : A) (ts : List T) (o : Option (Reading T A)) → complete (better (x, ts) o) ≡ whole_or x ts (complete o)
+complete_best x ts None = refl
+complete_best x ts (Some y) = complete_at x y.0 ts y.1
+
+-- the first reading that leaves no token is the longest, if that one leaves none
+pub whole_is : {T A : Type 0} (all : List (Reading T A)) → whole all ≡ complete (longest all)
+whole_is [] = refl
+whole_is (x ∷ xs) = ap (whole_or x.0 x.1) (whole_is xs) ∙ sym (complete_best x.0 x.1 (longest xs))
+
+-- and the descent finds it
+pub agrees_whole : {T A : Type 0} (s : T → Bool) (p : Rule T A) (g : Descent T A) → Agrees s p g → (ts : List T) → whole (p ts) ≡ complete (g ts)
+agrees_whole s p g a ts = whole_is (p ts) ∙ ap complete (agrees_longest s p g a ts)
