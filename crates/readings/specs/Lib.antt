@@ -6,3 +6,4 @@ pub mod Longest
 pub mod Combinators
 pub mod Repetition
 pub mod Parses
+pub mod Loops

@@ -124,7 +124,7 @@ keeps_at_most : {T A : Type 0} (n : ℕ) (p : Rule T A) → Shrinks p → Keeps 
 keeps_at_most zero p sh = keeps_given []
 keeps_at_most (suc n) p sh = keeps_optional (one_more n p) [] (shrinks_make (λ read a. listed a) (p ▹ at_most n p) (shrinks_seq p (at_most n p) sh (keeps_at_most n p sh)))
 
-finds_at_most : {T A : Type 0} (n : ℕ) (g : Descent T A) → Finds (take_at_most n g)
+pub finds_at_most : {T A : Type 0} (n : ℕ) (g : Descent T A) → Finds (take_at_most n g)
 finds_at_most zero g ts = tt
 finds_at_most (suc n) g ts = finds_optional (take_turn listed (g ▸ take_at_most n g)) [] ts
 
