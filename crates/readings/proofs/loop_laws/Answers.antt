@@ -1,0 +1,11 @@
+use Rattle.readings.specs.Loops.{parses_falls, loop_begins, loop_goes, loop_ends}
+use Rattle.readings.specs.Descent.{take_many}
+use Rattle.readings.proofs.loop_laws.Goals as goal
+
+pub returns : goal.returns
+returns types c = record {
+  falls = parses_falls;
+  begins = λ g all. loop_begins (take_many g all);
+  goes_on = loop_goes;
+  ends = loop_ends;
+}
