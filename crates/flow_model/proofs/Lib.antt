@@ -1,0 +1,2 @@
+pub mod SameType
+pub mod SubLaws
