@@ -7,8 +7,13 @@
 //! std alone.
 #![tactic(auto)]
 
+mod facts;
+mod locals;
+mod model;
 mod subtyping;
 mod types;
 
+pub use locals::{Facts, LocalDecl, LocalId};
+pub use model::Flow;
 pub use subtyping::{Rows, is_proper_subtype, is_subtype, subtyping_is_a_preorder};
 pub use types::{DartType, TypeList, TypeNode};
