@@ -4,3 +4,4 @@ pub mod LastType
 pub mod ListTests
 pub mod Places
 pub mod Scopes
+pub mod Promotions

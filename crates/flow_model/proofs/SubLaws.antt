@@ -27,7 +27,7 @@ transitive (nullable_below a b) q = nullable_below (transitive a q) (transitive 
 transitive (below_nullable a) q = through_nullable (λ v x. transitive a x) a q
 
 -- both parts of a conjunction that holds
-both_true : (a b : Bool) → (a && b) ≡ true → (a ≡ true) × (b ≡ true)
+pub both_true : (a b : Bool) → (a && b) ≡ true → (a ≡ true) × (b ≡ true)
 both_true true b h = (refl, h)
 both_true false b h = cc
 
@@ -73,7 +73,7 @@ sub-nullable rows (nullable v) u h =
     and_true (sub rows v (nullable u)) true (sub-nullable rows v u both.0) refl
 
 -- a type passes at itself
-sub-refl : (rows : Rows) (t : Ty) → sub rows t t ≡ true
+pub sub-refl : (rows : Rows) (t : Ty) → sub rows t t ≡ true
 sub-refl rows invalid = refl
 sub-refl rows never = refl
 sub-refl rows null = refl

@@ -72,6 +72,10 @@ start_of vars = fold declare_of (record { reachable = true; locals = [] }) vars
 abbrev pub AreDistinct : List LocalDecl → Type 0
 AreDistinct vars = AllPairs (λ a b. a.var.0 ≢ b.var.0) vars
 
+-- whether a declaration is of this local
+abbrev pub declares : LocalId → LocalDecl → Bool
+declares var local = nat_eq local.var.0 var.0
+
 -- whether a local is in a list
 abbrev pub is_listed : List LocalId → LocalId → Bool
 is_listed vars var = list_any (λ listed. nat_eq listed.0 var.0) vars

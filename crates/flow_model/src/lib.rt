@@ -8,11 +8,16 @@
 #![tactic(auto)]
 
 mod facts;
+mod laws;
 mod locals;
 mod model;
 mod subtyping;
 mod types;
 
+pub use laws::{
+    assign_changes_one_local, declare_adds_one_local, end_undoes_declare, start_knows_its_locals,
+    written_value_has_each_promoted_type,
+};
 pub use locals::{Facts, LocalDecl, LocalId};
 pub use model::Flow;
 pub use subtyping::{Rows, is_proper_subtype, is_subtype, subtyping_is_a_preorder};

@@ -2,7 +2,7 @@
 
 ghost use Rattle.std.specs.Prelude.{◌≡◌, ◌∷◌, [], false, IfOk, IfErr, OnOk, OnErr, IsSome, IsNone};
 ghost use Rattle.std.specs.Option.{option_copied, option_map, option_map_or};
-ghost use Rattle.flow_model.specs.Flow.{at_local, current_of, facts_of, declare_of, start_of, end_of, AreDistinct};
+ghost use Rattle.flow_model.specs.Flow.{at_local, current_of, facts_of, declare_of, start_of, end_of, AreDistinct, IsInOrder};
 ghost use Rattle.flow_model.specs.Assign.{assign_facts};
 ghost use Rattle.flow_model.specs.Place.{StandsAt, WouldStandAt};
 
@@ -77,6 +77,13 @@ impl Flow {
         for i in (0..vars.len()).rev() {
             self.remove(vars[i]);
         }
+    }
+
+    /// A law of every model: its locals stand in the order of their numbers.
+    pub fn locals_are_in_order(&self)
+        ensures { IsInOrder self.now.locals }
+    {
+        let _ = &self.locals;
     }
 
     // Takes one local out of scope.
