@@ -160,6 +160,6 @@ end_of-declare_of m local order absent =
     let front : filter kept (smaller local.var.0 m.locals) ≡ smaller local.var.0 m.locals = filter-filter (λ l. nat_lt l.var.0 local.var.0) kept (λ l. nat_lt l.var.0 local.var.0) (λ l. lesser_stays local.var l) m.locals in
     let back : filter kept (greater local.var.0 m.locals) ≡ greater local.var.0 m.locals = filter-filter (λ l. nat_lt local.var.0 l.var.0) kept (λ l. nat_lt local.var.0 l.var.0) (λ l. greater_stays local.var l) m.locals in
     let parted : filter kept (smaller local.var.0 m.locals ++ fresh_facts local ∷ greater local.var.0 m.locals) ≡ smaller local.var.0 m.locals ++ greater local.var.0 m.locals =
-        rw (filter-append kept (smaller local.var.0 m.locals) (fresh_facts local ∷ greater local.var.0 m.locals), own, front, back) refl in
+    rw (filter-append kept (smaller local.var.0 m.locals) (fresh_facts local ∷ greater local.var.0 m.locals), own, front, back) refl in
     let whole = parts_rejoined local.var.0 m.locals order (λ j d to equal. grind (arith, nat_tests, apart j d (omega arith) to)) in
     ap (with_locals m.reachable) (parted ∙ whole)

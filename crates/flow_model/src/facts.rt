@@ -13,7 +13,7 @@ use std::alloc::{AllocError, Global};
 
 impl Facts {
     /// The facts of a local that has just come into scope.
-    pub fn fresh(alloc: Global, local: &LocalDecl) -> Result<Facts, AllocError>
+    pub(crate) fn fresh(alloc: Global, local: &LocalDecl) -> Result<Facts, AllocError>
         ensures { IfOk result (λ facts. facts ≡ fresh_facts local.now) }
     {
         Ok(Facts {
@@ -28,7 +28,7 @@ impl Facts {
     }
 
     /// A second value of the same facts.
-    pub fn copy(&self, alloc: Global) -> Result<Facts, AllocError>
+    pub(crate) fn copy(&self, alloc: Global) -> Result<Facts, AllocError>
         ensures { IfOk result (λ copied. copied ≡ self.now) }
     {
         Ok(Facts {
@@ -43,7 +43,7 @@ impl Facts {
     }
 
     /// The current type: the last that the local was promoted to, else the declared one.
-    pub fn current(&self) -> &DartType
+    pub(crate) fn current(&self) -> &DartType
         ensures { result.now ≡ current_of self.now }
     {
         last_or(&self.ty, self.chain.as_slice())
@@ -51,7 +51,7 @@ impl Facts {
 
     /// The local is written with a value of the type `written`. After an `Err` the facts are as
     /// before.
-    pub fn assign(
+    pub(crate) fn assign(
         &mut self,
         alloc: Global,
         rows: &Rows,

@@ -12,6 +12,8 @@ mod laws;
 mod locals;
 mod model;
 mod subtyping;
+#[cfg(test)]
+mod tests;
 mod types;
 
 pub use laws::{

@@ -1,6 +1,6 @@
 //! Flow models and the calls that change them.
 
-ghost use Rattle.std.specs.Prelude.{◌≡◌, ◌∷◌, [], false, IfOk, IfErr, OnOk, OnErr, IsSome, IsNone};
+ghost use Rattle.std.specs.Prelude.{◌≡◌, ◌∷◌, [], false, IfOk, IfErr, OnOk, OnErr, IsSome, IsNone, is_some};
 ghost use Rattle.std.specs.Option.{option_copied, option_map, option_map_or};
 ghost use Rattle.flow_model.specs.Flow.{at_local, current_of, facts_of, declare_of, start_of, end_of, AreDistinct, IsInOrder};
 ghost use Rattle.flow_model.specs.Assign.{assign_facts};
@@ -103,6 +103,13 @@ impl Flow {
             Some(facts) => Some(facts.current()),
             None => None,
         }
+    }
+
+    /// Whether a local is in scope.
+    pub fn is_in_scope(&self, var: LocalId) -> bool
+        ensures { result ≡ is_some (facts_of self.now var) }
+    {
+        self.facts(var).is_some()
     }
 
     /// Whether the point can be reached.
