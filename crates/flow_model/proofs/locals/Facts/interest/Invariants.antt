@@ -1,0 +1,10 @@
+use Rattle.std.proofs.Common.{◌≡◌, take, map, ◌∷◌, ◌++◌}
+use Rattle.flow_model.specs.Ty.{non_null_of}
+use Rattle.flow_model.proofs.locals.Facts.interest.Given as goal
+
+abbrev pub invariant-loop-tested : goal.invariant-loop-tested
+invariant-loop-tested l = l.types ≡ l.self.ty ∷ take l.tested-index l.tested-items
+
+abbrev pub invariant-loop-nullable : goal.invariant-loop-nullable
+invariant-loop-nullable l =
+    l.types ≡ (l.self.ty ∷ l.self.tested) ++ (non_null_of l.self.ty ∷ map non_null_of (take l.nullable-index l.nullable-items))

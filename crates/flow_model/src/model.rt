@@ -1,0 +1,186 @@
+//! Flow models and the calls that change them.
+
+ghost use Rattle.std.specs.Prelude.{◌≡◌, ◌∷◌, [], false, IfOk, IfErr, OnOk, OnErr, IsSome, IsNone, is_some};
+ghost use Rattle.std.specs.Option.{option_copied, option_map, option_map_or};
+ghost use Rattle.flow_model.specs.Flow.{at_local, current_of, facts_of, declare_of, start_of, end_of, AreDistinct, IsInOrder};
+ghost use Rattle.flow_model.specs.Assign.{assign_facts};
+ghost use Rattle.flow_model.specs.Place.{StandsAt, WouldStandAt};
+
+use crate::locals::{Facts, LocalDecl, LocalId};
+use crate::subtyping::Rows;
+use crate::types::DartType;
+use std::alloc::{AllocError, Global};
+use std::marker::Model;
+
+/// What is known of the locals at a point of a body.
+///
+/// The locals in scope stand in the order of their numbers, so one is found by a binary search.
+#[derive(Drop)]
+pub struct Flow {
+    reachable: bool,
+    locals: Vec<Facts>,
+}
+
+impl Model for Flow {
+    ghost use Rattle.flow_model.specs.Flow.{FlowModel, flow_code};
+
+    ghost Value = { FlowModel };
+
+    ghost coded = { flow_code };
+
+    ghost use Rattle.flow_model.specs.Flow.{IsInOrder};
+
+    ghost view = { λ a. record { reachable = a.reachable; locals = a.locals.items } };
+
+    ghost invariant = { λ a. IsInOrder a.locals.items };
+}
+
+impl Flow {
+    /// The model at the start of a body: it is reached, and these locals are in scope. They may
+    /// come in any order.
+    pub fn start(alloc: Global, vars: &[LocalDecl]) -> Result<Flow, AllocError>
+        requires { AreDistinct vars.now }
+        ensures { IfOk result (λ flow. flow ≡ start_of vars.now) }
+    {
+        let mut flow = Flow {
+            reachable: true,
+            locals: Vec::new(alloc),
+        };
+        for var in vars {
+            flow.declare(alloc, var)?;
+        }
+        Ok(flow)
+    }
+
+    /// Puts a local in scope, at the cost of a search and of the locals of greater numbers. After an
+    /// `Err` the model is as before.
+    pub fn declare(&mut self, alloc: Global, var: &LocalDecl) -> Result<(), AllocError>
+        requires { IsNone (facts_of self.old var.now.var) }
+        ensures ok { OnOk result (self.new ≡ declare_of self.old var.now) }
+        ensures err { OnErr result (self.new ≡ self.old) }
+    {
+        let facts = Facts::fresh(alloc, var)?;
+        match self.search(var.var) {
+            Ok(_) => unreachable!(),
+            Err(place) => {
+                self.locals.insert(place, facts)?;
+                Ok(())
+            }
+        }
+    }
+
+    /// Takes these locals out of scope; one that isn't in scope is passed over. It takes no memory,
+    /// and costs a search for each and the locals of greater numbers that stay.
+    pub fn end(&mut self, vars: &[LocalId])
+        ensures { self.new ≡ end_of self.old vars.now }
+    {
+        for i in (0..vars.len()).rev() {
+            self.remove(vars[i]);
+        }
+    }
+
+    /// A law of every model: its locals stand in the order of their numbers.
+    pub fn locals_are_in_order(&self)
+        ensures { IsInOrder self.now.locals }
+    {
+        let _ = &self.locals;
+    }
+
+    // Takes one local out of scope.
+    fn remove(&mut self, var: LocalId)
+        ensures { self.new ≡ end_of self.old (var ∷ []) }
+    {
+        if let Ok(place) = self.search(var) {
+            self.locals.remove(place);
+        }
+    }
+
+    /// The current type of a local: None exactly where it isn't in scope.
+    pub fn current(&self, var: LocalId) -> Option<&DartType>
+        ensures { option_copied result ≡ option_map current_of (facts_of self.now var) }
+    {
+        match self.facts(var) {
+            Some(facts) => Some(facts.current()),
+            None => None,
+        }
+    }
+
+    /// Whether a local is in scope.
+    pub fn is_in_scope(&self, var: LocalId) -> bool
+        ensures { result ≡ is_some (facts_of self.now var) }
+    {
+        self.facts(var).is_some()
+    }
+
+    /// Whether the point can be reached.
+    pub fn reachable(&self) -> bool
+        ensures { result ≡ self.now.reachable }
+    {
+        self.reachable
+    }
+
+    /// Whether a local has a value for certain; false for one that isn't in scope.
+    pub fn is_assigned(&self, var: LocalId) -> bool
+        ensures { result ≡ option_map_or (λ l. l.assigned) (facts_of self.now var) false }
+    {
+        match self.facts(var) {
+            Some(facts) => facts.assigned,
+            None => false,
+        }
+    }
+
+    /// A local in scope is written with a value of the type `written`. After an `Err` the model is
+    /// as before.
+    pub fn assign(
+        &mut self,
+        alloc: Global,
+        rows: &Rows,
+        var: LocalId,
+        written: &DartType,
+    ) -> Result<(), AllocError>
+        requires { IsSome (facts_of self.old var) }
+        ensures ok { OnOk result (self.new ≡ at_local self.old var (assign_facts rows.now written.now)) }
+        ensures err { OnErr result (self.new ≡ self.old) }
+    {
+        match self.search(var) {
+            Ok(place) => {
+                self.locals[place].assign(alloc, rows, written)?;
+                Ok(())
+            }
+            Err(_) => unreachable!(),
+        }
+    }
+
+    /// A second value of the same model.
+    pub fn copy(&self, alloc: Global) -> Result<Flow, AllocError>
+        ensures { IfOk result (λ copied. copied ≡ self.now) }
+    {
+        let mut locals = Vec::new(alloc);
+        for facts in &self.locals {
+            locals.push(facts.copy(alloc)?)?;
+        }
+        Ok(Flow {
+            reachable: self.reachable,
+            locals,
+        })
+    }
+
+    // What is known of a local.
+    fn facts(&self, var: LocalId) -> Option<&Facts>
+        ensures { option_copied result ≡ facts_of self.now var }
+    {
+        match self.search(var) {
+            Ok(place) => Some(&self.locals[place]),
+            Err(_) => None,
+        }
+    }
+
+    // Where the local stands, or else where it would.
+    fn search(&self, var: LocalId) -> Result<usize, usize>
+        ensures found { IfOk result (StandsAt self.now.locals var) }
+        ensures absent { IfErr result (WouldStandAt self.now.locals var) }
+    {
+        self.locals
+            .binary_search_by_key(&var.0, |facts| facts.var.0)
+    }
+}
