@@ -1,0 +1,121 @@
+-- The table: what each form gives, from the model before it. A row names the rule that it states.
+use Rattle.std.specs.Prelude.{ℕ, ◌^◌, Bool, true, false, not, ◌&&◌, ◌||◌, List, [], ◌∷◌, ◌++◌, nat_lt, is_some, if◌then◌else◌, Option, Some, None}
+use Rattle.std.specs.Option.{option_map_or}
+use Rattle.std.specs.FinMap.{get}
+use Rattle.dart_tree.specs.declared.places.Place.{Place}
+use Rattle.dart_tree.specs.declared.places.Span.{Span}
+use Rattle.dart_tree.specs.declared.nodes.Name.{Name}
+use Rattle.dart_tree.specs.declared.nodes.IntegerLiteral.{IntegerLiteral}
+use Rattle.dart_tree.specs.declared.nodes.Radix.{Radix}
+use Rattle.dart_tree.specs.declared.nodes.Radix.TheVariants.{Decimal, Hexadecimal}
+use Rattle.flow_model.specs.Ty.{Ty, invalid, int, bare_of, same_type, admits_null}
+use Rattle.flow_model.specs.Sub.{sub}
+use Rattle.flow_model.specs.Flow.{FlowModel, facts_of, at_local, current_of, declare_of}
+use Rattle.flow_model.specs.Assign.{assign_facts}
+use Rattle.flow_model.specs.declared.locals.LocalId.{LocalId}
+use Rattle.flow_model.specs.declared.locals.Facts.{Facts}
+use Rattle.flow_model.specs.declared.subtyping.Rows.{Rows}
+use Rattle.judgement.specs.declared.Fault.{Fault}
+use Rattle.judgement.specs.declared.DiagnosticCode.{DiagnosticCode}
+use Rattle.judgement.specs.declared.DiagnosticCode.TheVariants.{DuplicateDefinition, IntegerLiteralOutOfRange, InvalidAssignment, ReferencedBeforeDeclaration, UnassignedRead, UndefinedName}
+use Rattle.judgement.specs.Names.{Names}
+
+-- what an expression gives: its static type, what is known after it, and its diagnostics
+pub record Value : Type 0 where
+  pub ty : Ty
+  pub after : FlowModel
+  pub faults : List Fault
+
+-- what a statement gives: what is known after it, and its diagnostics
+pub record Outcome : Type 0 where
+  pub after : FlowModel
+  pub faults : List Fault
+
+abbrev pub fault_at : Place → DiagnosticCode → List Fault
+fault_at at code = record { span = at.span; code = code } ∷ []
+
+abbrev pub of_type : Ty → FlowModel → Value
+of_type ty m = record { ty = ty; after = m; faults = [] }
+
+-- what has a diagnostic has the type Invalid
+abbrev pub faulty : Place → DiagnosticCode → FlowModel → Value
+faulty at code m = record { ty = invalid; after = m; faults = fault_at at code }
+
+abbrev pub just : FlowModel → Outcome
+just m = record { after = m; faults = [] }
+
+-- nothing but a diagnostic
+abbrev pub complains : Place → DiagnosticCode → FlowModel → Outcome
+complains at code m = record { after = m; faults = fault_at at code }
+
+-- goes on from what an expression gives
+abbrev pub value_then : Value → (FlowModel → Outcome) → Outcome
+value_then value next = record { after = (next value.after).after; faults = value.faults ++ (next value.after).faults }
+
+-- goes on from what a statement gives
+abbrev pub and_then : Outcome → (FlowModel → Outcome) → Outcome
+and_then outcome next = record { after = (next outcome.after).after; faults = outcome.faults ++ (next outcome.after).faults }
+
+-- a decimal literal is at most 2^63 - 1; a hexadecimal one has 64 bits, read as two's complement
+abbrev pub is_below : Radix → ℕ → Bool
+is_below Decimal magnitude = nat_lt magnitude (2 ^ 63)
+is_below Hexadecimal magnitude = true
+
+abbrev pub is_in_range : IntegerLiteral → Bool
+is_in_range literal = option_map_or (is_below literal.radix) literal.magnitude false
+
+-- An integer literal is an int, if its value is in range.
+abbrev pub integer_row : Place → IntegerLiteral → FlowModel → Value
+integer_row at literal m = if is_in_range literal then of_type int m else faulty at IntegerLiteralOutOfRange m
+
+-- a read of a local of which this is known: it is assigned, and has its current type
+abbrev pub read_row : Place → Option Facts → FlowModel → Value
+read_row at None m = faulty at ReferencedBeforeDeclaration m
+read_row at (Some local) m = if local.assigned then of_type (current_of local) m else faulty at UnassignedRead m
+
+-- A name is read as the local that it means, which must be declared before and assigned.
+abbrev pub name_row : Names → Place → ℕ → FlowModel → Value
+name_row names at word m = option_map_or (λ var. read_row at (facts_of m var) m) (get names word) (faulty at UndefinedName m)
+
+abbrev pub is_invalid : Ty → Bool
+is_invalid t = same_type (bare_of t) invalid
+
+-- s may stand where t is wanted: it is a subtype, or one of them is Invalid, of which no more is said
+abbrev pub fits : Rows → Ty → Ty → Bool
+fits rows s t = is_invalid s || (is_invalid t || sub rows s t)
+
+-- a local is written with a value of the type that stands at the place; a misfit is written all the same
+abbrev pub written_row : Rows → Place → Ty → LocalId → Facts → FlowModel → Outcome
+written_row rows at ty var local m =
+    record { after = at_local m var (assign_facts rows ty); faults = (if fits rows ty local.ty then [] else fault_at at InvalidAssignment) }
+
+-- a write of a local of which this is known
+abbrev pub write_row : Rows → Place → Place → Ty → LocalId → Option Facts → FlowModel → Outcome
+write_row rows target at ty var None m = complains target ReferencedBeforeDeclaration m
+write_row rows target at ty var (Some local) m = written_row rows at ty var local m
+
+-- An assignment writes the local that the name means, which must be declared before.
+abbrev pub assign_row : Rows → Names → Name → Place → Ty → FlowModel → Outcome
+assign_row rows names target at ty m =
+    option_map_or (λ var. write_row rows target.at at ty var (facts_of m var) m) (get names target.word) (complains target.at UndefinedName m)
+
+-- A variable that admits null and has no initializer starts as null; any other has no value before it is assigned.
+abbrev pub declared_row : Ty → LocalId → (initialized : Bool) → FlowModel → FlowModel
+declared_row ty var initialized m =
+    let null = admits_null ty && not initialized in
+    declare_of m (record { var = var; ty = ty; assigned = null; unassigned = not null })
+
+-- A declaration without initializer: the local comes into scope, unless the block has declared its name before.
+abbrev pub declare_row : Names → Name → Ty → FlowModel → Outcome
+declare_row names variable ty m =
+    option_map_or
+    (λ var. if is_some (facts_of m var) then complains variable.at DuplicateDefinition m else just (declared_row ty var false m))
+    (get names variable.word) (just m)
+
+-- what follows the initializer, which has this type: the local comes into scope with its value, unless the block has declared its name before
+abbrev pub initialize_row : Rows → Names → Name → Ty → Place → Ty → FlowModel → Outcome
+initialize_row rows names variable ty at value m =
+    option_map_or
+    (λ var. if is_some (facts_of m var) then complains variable.at DuplicateDefinition m
+    else record { after = at_local (declared_row ty var true m) var (assign_facts rows value); faults = (if fits rows value ty then [] else fault_at at InvalidAssignment) })
+    (get names variable.word) (just m)

@@ -1,0 +1,37 @@
+//! The judgement: what each form of a tree gives, from what is known before it.
+//!
+//! For an expression these are its static type and its diagnostics, for a statement what is known
+//! after it and its diagnostics: one row of a table for each form (`specs/Rows.antt`), and the
+//! recursion over trees that cites them (`specs/Judgement.antt`). The rules are those of the Dart
+//! specification and its null safety, restated in docs/LANGUAGE.md. The crate has these definitions
+//! and the plain types of what they say; it stands on the trees and the flow models, and the checker
+//! proves its code against it.
+#![tactic(auto)]
+
+use dart_tree::Span;
+
+/// What a diagnostic says, in the order of the codes' names.
+#[derive(Clone, Copy, Debug, PartialEq, Eq, PartialOrd, Ord)]
+pub enum DiagnosticCode {
+    /// A name is declared again in one block.
+    DuplicateDefinition,
+    /// A decimal literal past 2^63 - 1, or a hexadecimal one past 2^64 - 1.
+    IntegerLiteralOutOfRange,
+    /// A value hasn't the type of the variable that it is written to.
+    InvalidAssignment,
+    /// A variable is named before its declaration.
+    ReferencedBeforeDeclaration,
+    /// The text is no unit of the grammar.
+    SyntaxError,
+    /// A variable is read that may have no value yet.
+    UnassignedRead,
+    /// A name means nothing.
+    UndefinedName,
+}
+
+/// Something wrong in a text, and where: in UTF-16 code units, from 0.
+#[derive(Clone, Copy, Debug, PartialEq, Eq)]
+pub struct Fault {
+    pub span: Span,
+    pub code: DiagnosticCode,
+}
