@@ -1,0 +1,7 @@
+-- Rules of the text of one library.
+pub mod Characters
+pub mod Pieces
+pub mod Tokens
+pub mod Literals
+pub mod Grammar
+pub mod Descents

@@ -1,0 +1,7 @@
+//! The check of one library.
+#![tactic(auto)]
+
+mod literal;
+mod parse;
+mod scan;
+mod token;

@@ -1,0 +1,103 @@
+//! The scanner: the tokens of a text, piece by piece, in one pass.
+
+ghost use Rattle.std.specs.Prelude.{◌≡◌, ◌+◌, ◌*◌, ◌^◌, ◌<◌, ◌≤◌, [], ◌∷◌, ◌++◌, length, IfOk, OnOk, if◌then◌else◌};
+ghost use Rattle.check_library.specs.Characters.{units_of_byte, units_in};
+ghost use Rattle.check_library.specs.Tokens.{is_gap, token_of, with_word, tokens_of, words_of};
+
+mod comment;
+mod kind;
+mod mark;
+mod piece;
+mod words;
+
+use crate::scan::kind::kind_of;
+use crate::scan::piece::{Class, piece_at};
+pub use crate::scan::words::Words;
+use crate::token::Token;
+use std::alloc::{AllocError, Global};
+
+/// The tokens of a text, and its words.
+#[derive(Drop)]
+pub struct Scanned<'t> {
+    pub tokens: Vec<Token>,
+    pub words: Words<'t>,
+}
+
+/// How many UTF-16 code units begin with the byte.
+fn units_of_byte(byte: u8) -> u32
+    ensures { result ≡ units_of_byte byte }
+{
+    if byte < 128 {
+        return 1;
+    }
+    if byte < 192 {
+        return 0;
+    }
+    if byte < 240 {
+        return 1;
+    }
+    2
+}
+
+/// The UTF-16 length of the bytes.
+fn units(bytes: &[u8]) -> u32
+    requires { length bytes.now ≤ 16777216 }
+    ensures count { result ≡ units_in bytes.now }
+    ensures within { result ≤ 2 * length bytes.now }
+{
+    let mut count = 0;
+    for byte in bytes {
+        count += units_of_byte(*byte);
+    }
+    count
+}
+
+impl<'t> Scanned<'t> {
+    /// One piece more, which begins at the offset; a gap gives no token.
+    fn add(&mut self, class: Class, bytes: &'t [u8], start: u32, end: u32) -> Result<(), AllocError>
+        requires end { end ≡ start + units_in bytes.now }
+        requires few { length self.old.words < 2 ^ 32 }
+        ensures tokens { OnOk result (self.new.tokens.items ≡ (if is_gap class then self.old.tokens.items
+            else self.old.tokens.items ++ token_of self.old.words (record { class = class; start = start; bytes = bytes.now }) ∷ [])) }
+        ensures words { OnOk result (self.new.words ≡ (if is_gap class then self.old.words else with_word self.old.words bytes.now)) }
+        ensures few { OnOk result (length self.new.words ≤ length self.old.words + 1) }
+    {
+        if class == Class::Gap {
+            return Ok(());
+        }
+        let word = self.words.place(bytes)? as u32;
+        let kind = kind_of(class, bytes);
+        self.tokens.push(Token {
+            kind,
+            start,
+            end,
+            word,
+        })?;
+        Ok(())
+    }
+}
+
+/// The tokens of a text of at most 16,777,216 bytes.
+pub fn scan(alloc: Global, text: &[u8]) -> Result<Scanned<'_>, AllocError>
+    requires { length text.now ≤ 16777216 }
+    ensures tokens { IfOk result (λ scanned. scanned.tokens.items ≡ tokens_of text.now) }
+    ensures words { IfOk result (λ scanned. scanned.words ≡ words_of text.now) }
+{
+    let mut scanned = Scanned {
+        tokens: Vec::new(alloc),
+        words: Words::new(alloc),
+    };
+    let mut rest = text;
+    let mut start = 0;
+    let mut first = true;
+    while !rest.is_empty() {
+        let piece = piece_at(first, rest);
+        let (bytes, after) = rest.split_at(piece.size);
+        let end = start + units(bytes);
+        scanned.add(piece.class, bytes, start, end)?;
+        rest = after;
+        start = end;
+        first = false;
+    }
+    Ok(scanned)
+}
