@@ -15,3 +15,6 @@ pub use code::Code;
 pub use reply::{ErrorKind, ErrorRow, ErrorRows, Location, ReplyBody, Severity, write_reply};
 pub use request::{Asked, MAX_LINE, Request, RequestRefusal, read_request};
 pub use source_text::{MAX_TEXT, SourceText};
+
+#[cfg(test)]
+mod tests;
