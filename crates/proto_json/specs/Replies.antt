@@ -1,5 +1,5 @@
 -- Which bytes a reply is.
-use Rattle.std.specs.Prelude.{ℕ, List, [], ◌∷◌, ◌++◌, codes, map}
+use Rattle.std.specs.Prelude.{◌≡◌, ℕ, List, [], ◌∷◌, ◌++◌, codes, map, Contains}
 use Rattle.serde_json.specs.Data.{Data, Items, number, unsigned, string, array, object, no_members, member}
 use Rattle.serde_json.specs.View.{items_of}
 use Rattle.serde_json.specs.Written.{compact_text}
@@ -65,3 +65,9 @@ line_feed = 10
 -- the text of the object with no space, and a line feed
 abbrev pub reply_line : List ℕ → ReplyBody → List ℕ
 reply_line id body = compact_text (reply_data id body) ++ line_feed ∷ []
+
+-- the bytes are one line: a line feed ends them, and no other stands before it
+pub record IsOneLine (bytes : List ℕ) : Type 0 where
+  pub text : List ℕ
+  pub ended : bytes ≡ text ++ line_feed ∷ []
+  pub unbroken : ¬ (Contains text line_feed)

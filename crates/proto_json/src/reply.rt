@@ -3,7 +3,7 @@
 ghost use Rattle.std.specs.Prelude.{◌≡◌, IfOk};
 ghost use Rattle.serde_json.specs.View.{view, items_view};
 ghost use Rattle.proto_json.specs.declared.reply.ReplyBody.TheVariants.{Error};
-ghost use Rattle.proto_json.specs.Replies.{severity_name, kind_name, location_data, row_data, rows_data, reply_data, reply_line};
+ghost use Rattle.proto_json.specs.Replies.{severity_name, kind_name, location_data, row_data, rows_data, reply_data, reply_line, IsOneLine};
 
 use crate::code::Code;
 use plain_text::PlainText;
@@ -176,7 +176,10 @@ fn reply_value(alloc: Global, id: &str, body: &ReplyBody) -> Result<Value, Alloc
 
 /// The line of a reply, in compact JSON with sorted keys, its line feed included.
 pub fn write_reply(alloc: Global, id: &str, body: &ReplyBody) -> Result<Vec<u8>, AllocError>
-    ensures { IfOk result (λ bytes. bytes.items ≡ reply_line id.now body.now) }
+    ensures exact { IfOk result (λ bytes. bytes.items ≡ reply_line id.now body.now) }
+
+    // Whatever texts the reply holds, they don't break its line.
+    ensures one_line { IfOk result (λ bytes. IsOneLine bytes.items) }
 {
     let value = reply_value(alloc, id, body)?;
     let mut line = value.to_vec(alloc)?;

@@ -163,13 +163,8 @@ fn parse(alloc: Global, line: &[u8]) -> Result<Option<Value>, AllocError>
 {
     match Value::from_slice(alloc, line) {
         Ok(value) => Ok(Some(value)),
-        Err(error) => {
-            if error.is_memory() {
-                Err(AllocError)
-            } else {
-                Ok(None)
-            }
-        }
+        Err(error) if error.is_memory() => Err(AllocError),
+        Err(_) => Ok(None),
     }
 }
 

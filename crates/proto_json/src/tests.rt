@@ -165,23 +165,32 @@ fn unassigned_read(alloc: Global) -> Result<ErrorRow, Fail> {
 fn a_reply_is_one_line(rt: HostRuntime) -> Result<(), Fail> {
     let alloc = rt.alloc();
     let plain = write_reply(alloc, "é\"\\/\n\u{1}\u{7f}😀", &ReplyBody::Plain)?;
-    assert_eq!(rt; plain.as_slice(), "{\"id\":\"é\\\"\\\\/\\n\\u0001\u{7f}😀\"}\n".as_bytes());
+    assert_eq!(rt;
+        plain.as_slice(),
+        "{\"id\":\"é\\\"\\\\/\\n\\u0001\u{7f}😀\"}\n".as_bytes()
+    );
 
     let none = ReplyBody::Errors(ErrorRows::from_vec(Vec::new(alloc)));
     let none = write_reply(alloc, "1", &none)?;
-    assert_eq!(rt; none.as_slice(), b"{\"id\":\"1\",\"result\":{\"errors\":[]}}\n".as_slice());
+    assert_eq!(rt;
+        none.as_slice(),
+        b"{\"id\":\"1\",\"result\":{\"errors\":[]}}\n".as_slice()
+    );
 
     let rows = vec![in alloc; unassigned_read(alloc)?]?;
     let one = write_reply(alloc, "2", &ReplyBody::Errors(ErrorRows::from_vec(rows)))?;
-    let want = "{\"id\":\"2\",\"result\":{\"errors\":[{\"code\":\"unassigned_read\",\"location\":{\"file\":\"/a.dart\",\"length\":1,\"offset\":25,\"startColumn\":26,\"startLine\":1},\"message\":\"Unassigned read.\",\"severity\":\"ERROR\",\"type\":\"COMPILE_TIME_ERROR\"}]}}\n";
+    let want =
+        "{\"id\":\"2\",\"result\":{\"errors\":[{\"code\":\"unassigned_read\",\"location\":{\"file\":\"/a.dart\",\"length\":1,\"offset\":25,\"startColumn\":26,\"startLine\":1},\"message\":\"Unassigned read.\",\"severity\":\"ERROR\",\"type\":\"COMPILE_TIME_ERROR\"}]}}\n";
     assert_eq!(rt; one.as_slice(), want.as_bytes());
 
     let refused = write_reply(alloc, "", &ReplyBody::Error(Code::InvalidRequest))?;
-    let want = "{\"error\":{\"code\":\"INVALID_REQUEST\",\"message\":\"The line is not a request.\"},\"id\":\"\"}\n";
+    let want =
+        "{\"error\":{\"code\":\"INVALID_REQUEST\",\"message\":\"The line is not a request.\"},\"id\":\"\"}\n";
     assert_eq!(rt; refused.as_slice(), want.as_bytes());
 
     let refused = write_reply(alloc, "3", &ReplyBody::Error(Code::GetErrorsInvalidFile))?;
-    let want = "{\"error\":{\"code\":\"GET_ERRORS_INVALID_FILE\",\"message\":\"The file is not analyzed.\"},\"id\":\"3\"}\n";
+    let want =
+        "{\"error\":{\"code\":\"GET_ERRORS_INVALID_FILE\",\"message\":\"The file is not analyzed.\"},\"id\":\"3\"}\n";
     assert_eq!(rt; refused.as_slice(), want.as_bytes());
     Ok(())
 }
