@@ -52,7 +52,8 @@ only_member no_members = None
 only_member (member key d no_members) = Some (key, d)
 only_member (member key d (member _ _ _)) = None
 
--- the text that an overlay of the type `add` gives; its length needs no refusal of its own, since it is shorter than its line
+-- the text that an overlay of the type `add` gives; one that is too long needs no refusal of its
+-- own, since its line is longer still
 abbrev pub added_text : Data → Option (List ℕ)
 added_text d =
     option_and_then (λ kind. if bytes_eq kind (codes "add") then option_and_then if_short (text_at (codes "content") d) else None)

@@ -16,8 +16,8 @@ fn told(alloc: Global, line: &[u8]) -> Result<String, Fail> {
             match request {
                 Request::Update { path, content } => {
                     let path = path.as_str();
-                    let content = content.copy()?;
-                    let content = content.as_str();
+                    let copied = content.copy()?;
+                    let content = copied.as_str();
                     format!(in alloc; "{id}: {path} is {content}")?
                 }
                 Request::GetErrors { file } => {
