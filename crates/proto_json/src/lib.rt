@@ -1,0 +1,20 @@
+//! Requests and replies of the analysis server protocol, as lines of JSON.
+//!
+//! A line of bytes is read as the request that it is, or refused by a code; a reply is written as
+//! one line. `answer` in `specs/Requests.antt` states which request a line is, and `reply_line` in
+//! `specs/Replies.antt` which bytes a reply is. Both stand on the readings and texts of JSON that
+//! `serde_json` defines; texts are those of `plain_text`. The crate knows no Dart and no files.
+#![tactic(auto)]
+
+mod code;
+mod reply;
+mod request;
+mod source_text;
+
+pub use code::Code;
+pub use reply::{ErrorKind, ErrorRow, ErrorRows, Location, ReplyBody, Severity, write_reply};
+pub use request::{Asked, MAX_LINE, Request, RequestRefusal, read_request};
+pub use source_text::{MAX_TEXT, SourceText};
+
+#[cfg(test)]
+mod tests;
