@@ -203,3 +203,21 @@ unit_parses words = parses_make unit_of (function_parses words)
 -- the unit that the parser finds, if it leaves no token, is the first that the grammar has
 pub whole_unit : (words : List (List ℕ)) (tokens : List Token) → whole (unit_rule words tokens) ≡ complete (take_unit words tokens)
 whole_unit words tokens = agrees_whole nothing (unit_rule words) (take_unit words) (unit_parses words).agrees tokens
+
+complete-all : (u : Tree) (rest : List Token) → length rest ≡ 0 → complete (Some (u, rest)) ≡ Some u
+complete-all u [] none = refl
+complete-all u (t ∷ ts) none = absurd (omega (arith, none))
+
+complete-part : (u : Tree) (rest : List Token) → 0 < length rest → complete (Some (u, rest)) ≡ None
+complete-part u [] some = absurd (omega (arith, some))
+complete-part u (t ∷ ts) some = refl
+
+-- what the parser finds, and what the grammar has
+pub unit_whole : (words : List (List ℕ)) (tokens rest : List Token) (u : Tree) → take_unit words tokens ≡ Some (u, rest) → length rest ≡ 0 → Some u ≡ whole (unit_rule words tokens)
+unit_whole words tokens rest u found none = sym (whole_unit words tokens ∙ ap complete found ∙ complete-all u rest none)
+
+pub unit_partial : (words : List (List ℕ)) (tokens rest : List Token) (u : Tree) → take_unit words tokens ≡ Some (u, rest) → 0 < length rest → None ≡ whole (unit_rule words tokens)
+unit_partial words tokens rest u found some = sym (whole_unit words tokens ∙ ap complete found ∙ complete-part u rest some)
+
+pub unit_none : (words : List (List ℕ)) (tokens : List Token) → take_unit words tokens ≡ None → None ≡ whole (unit_rule words tokens)
+unit_none words tokens none = sym (whole_unit words tokens ∙ ap complete none)

@@ -5,3 +5,4 @@ mod literal;
 mod parse;
 mod scan;
 mod token;
+mod tree;

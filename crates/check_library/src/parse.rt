@@ -327,7 +327,7 @@ fn function<'k>(
 }
 
 #[tactic(auto, unfolding(crate::specs::Descents::take_unit))]
-fn unit<'k>(
+pub fn unit<'k>(
     alloc: Global,
     words: &Words<'_>,
     tokens: &'k [Token],

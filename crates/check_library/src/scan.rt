@@ -60,7 +60,8 @@ impl<'t> Scanned<'t> {
         ensures tokens { OnOk result (self.new.tokens.items ≡ (if is_gap class then self.old.tokens.items
             else self.old.tokens.items ++ token_of self.old.words (record { class = class; start = start; bytes = bytes.now }) ∷ [])) }
         ensures words { OnOk result (self.new.words ≡ (if is_gap class then self.old.words else with_word self.old.words bytes.now)) }
-        ensures few { OnOk result (length self.new.words ≤ length self.old.words + 1) }
+        ensures few_words { OnOk result (length self.new.words ≤ length self.old.words + 1) }
+        ensures few_tokens { OnOk result (length self.new.tokens.items ≤ length self.old.tokens.items + 1) }
     {
         if class == Class::Gap {
             return Ok(());
@@ -82,6 +83,7 @@ pub fn scan(alloc: Global, text: &[u8]) -> Result<Scanned<'_>, AllocError>
     requires { length text.now ≤ 16777216 }
     ensures tokens { IfOk result (λ scanned. scanned.tokens.items ≡ tokens_of text.now) }
     ensures words { IfOk result (λ scanned. scanned.words ≡ words_of text.now) }
+    ensures few { IfOk result (λ scanned. length scanned.tokens.items ≤ length text.now) }
 {
     let mut scanned = Scanned {
         tokens: Vec::new(alloc),

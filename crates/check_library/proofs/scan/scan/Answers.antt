@@ -14,7 +14,8 @@ loop-rest-preserved c =
     } in
     record {
       within = omega (arith, c.loop-rest.invariant.within, c.split_at.ensures.front_len, c.split_at.ensures.back_len, c.units.ensures.within, c.piece_at-piece.ensures.within);
-      few = omega (arith, c.loop-rest.invariant.few, c.in_ok-add.ensures.few, c.split_at.ensures.back_len, c.piece_at-piece.ensures.some, c.piece_at-piece.ensures.within);
+      few_words = omega (arith, c.loop-rest.invariant.few_words, c.in_ok-add.ensures.few_words, c.split_at.ensures.back_len, c.piece_at-piece.ensures.some, c.piece_at-piece.ensures.within);
+      few_tokens = omega (arith, c.loop-rest.invariant.few_tokens, c.in_ok-add.ensures.few_tokens, c.split_at.ensures.back_len, c.piece_at-piece.ensures.some, c.piece_at-piece.ensures.within);
       tokens = tokens-turn _ _ _ _ _ _ _ _ _ _ _ _ turn c.in_ok-add.ensures.tokens c.in_ok-add.ensures.words c.loop-rest.invariant.tokens;
       words = words-turn _ _ _ _ _ _ _ _ _ _ turn c.in_ok-add.ensures.words c.loop-rest.invariant.words;
     }
