@@ -1,6 +1,6 @@
 //! Each call that allocates, with ample memory.
 
-use crate::{PlainBytes, PlainText};
+use crate::{PlainBytes, PlainText, utf16_len};
 use std::test::Fail;
 
 #[test]
@@ -15,4 +15,11 @@ fn texts_and_bytes_are_kept(rt: HostRuntime) -> Result<(), Fail> {
     let from = PlainBytes::from_vec(vec![in alloc; 0, 7]?);
     assert_eq!(rt; from.into_vec().as_slice(), [0, 7].as_slice());
     Ok(())
+}
+
+#[test]
+fn units_are_counted(rt: HostRuntime) {
+    assert_eq!(rt; utf16_len("".as_bytes()), 0);
+    assert_eq!(rt; utf16_len("añ€\n".as_bytes()), 4);
+    assert_eq!(rt; utf16_len("a😀b".as_bytes()), 4);
 }
