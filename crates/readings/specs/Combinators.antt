@@ -1,11 +1,11 @@
 -- When a descent agrees with a rule, combinator by combinator.
-use Rattle.std.specs.Prelude.{◌≡◌, ℕ, zero, suc, ◌+◌, ◌<◌, ◌≤◌, ◌++◌, Bool, true, false, ◌||◌, List, [], ◌∷◌, Option, Some, None, length, map, if◌then◌else◌, refl, ◌⊎◌}
+use Rattle.std.specs.Prelude.{◌≡◌, ℕ, suc, ◌<◌, ◌++◌, Bool, true, false, ◌||◌, List, [], ◌∷◌, Option, Some, None, length, map, if◌then◌else◌, refl}
 use Rattle.std.specs.List.{flat_map}
 use Rattle.std.proofs.Common.{sym, ◌∙◌, ap, subst, inl, inr, arith}
 use Rattle.readings.specs.Members.{In, in_left, in_right, in_either, in_map, from_map, in_flat, from_flat}
-use Rattle.readings.specs.Readings.{Reading, Rule, token, given, behind, ◌▹◌, ◌∣◌, made, make, turn, maybe, listed, at_most, many}
-use Rattle.readings.specs.Descent.{Descent, bind, or_else, take_token, take_given, ◌▸◌, ◌⊘◌, take_make, take_turn, take_maybe, take_at_most, take_many}
-use Rattle.readings.specs.Agreement.{Heads, Apart, Within, either, nothing, Beats, Matches, Agrees, Starts, Shrinks, Keeps, Never, Idles, IsFound, Finds}
+use Rattle.readings.specs.Readings.{Reading, Rule, token, given, behind, ◌▹◌, ◌∣◌, made, make, turn}
+use Rattle.readings.specs.Descent.{Descent, bind, or_else, take_token, take_given, ◌▸◌, ◌⊘◌, take_make}
+use Rattle.readings.specs.Agreement.{Heads, Apart, Within, either, nothing, Beats, Matches, Agrees, Starts, Shrinks, Keeps, Never, Idles}
 use Rattle.readings.specs.Longest.{length_same}
 
 -- Tests of the first token.
