@@ -104,9 +104,11 @@ starts_maybe_seq f u p q b c = starts_optional_seq f u (turn (λ a. Some a) p) N
 
 -- What is repeated.
 
+-- one element and at most n further ones
 abbrev one_more : {T A : Type 0} → ℕ → Rule T A → Rule T (List A)
 one_more n p = turn listed (p ▹ at_most n p)
 
+-- of four tests that are two the two are enough
 collapse : (a b : Bool) → ((a || (a || b)) || b) ≡ true → (a || b) ≡ true
 collapse true b e = refl
 collapse false true e = refl
