@@ -1,7 +1,7 @@
 -- The order of readings, on a small grammar whose tokens are numbers.
-use Rattle.std.proofs.Common.{◌≡◌, ℕ, Bool, List, [], ◌∷◌, Option, Some, None, ◌==◌, length, refl}
-use Rattle.readings.specs.Readings.{Rule, token, given, ◌▹◌, ◌∣◌, make, turn, maybe, many, longest, whole}
-use Rattle.readings.specs.Descent.{Descent, take_token, ◌▸◌, ◌⊘◌, take_maybe, take_many}
+use Rattle.std.proofs.Common.{◌≡◌, ℕ, [], ◌∷◌, Some, None, ◌==◌, ◌-◌, true, nat_lt, length, refl}
+use Rattle.readings.specs.Readings.{Rule, token, ◌▹◌, ◌∣◌, make, turn, maybe, many, chain, longest, whole}
+use Rattle.readings.specs.Descent.{take_token, ◌▸◌, take_maybe, take_many}
 
 abbrev one : Rule ℕ ℕ
 one = token (λ t. t == 1)
@@ -50,6 +50,13 @@ whole_second = refl
 
 whole_none : whole (many one (1 ∷ 2 ∷ [])) ≡ None
 whole_none = refl
+
+-- a difference of ones, as a number: the left operand is what stands before, and more is read before less
+abbrev difference : Rule ℕ ℕ
+difference = chain (λ ts. length ts) (λ left. true) (λ read left right. left - right) (token (λ t. nat_lt 2 t)) (turn (λ x. x.1) (one ▹ token (λ t. nat_lt 2 t)))
+
+chain_order : difference (9 ∷ 1 ∷ 4 ∷ 1 ∷ 3 ∷ []) ≡ (2, []) ∷ (5, 1 ∷ 3 ∷ []) ∷ (9, 1 ∷ 4 ∷ 1 ∷ 3 ∷ []) ∷ []
+chain_order = refl
 
 -- a descent takes as many as there are, and does not go back
 take_many_order : take_many (take_token (λ t. t == 1)) (1 ∷ 1 ∷ 2 ∷ []) ≡ Some (1 ∷ 1 ∷ [], 2 ∷ [])

@@ -1,5 +1,5 @@
 -- Where a descent finds the longest reading of a rule.
-use Rattle.std.specs.Prelude.{◌≡◌, ℕ, ◌<◌, ◌≤◌, Bool, true, false, ◌||◌, List, [], ◌∷◌, Option, Some, None, length, ◌⊎◌}
+use Rattle.std.specs.Prelude.{◌≡◌, ◌<◌, ◌≤◌, Bool, true, false, ◌||◌, List, [], ◌∷◌, Option, Some, None, length, ◌⊎◌}
 use Rattle.readings.specs.Members.{In}
 use Rattle.readings.specs.Readings.{Reading, Rule}
 use Rattle.readings.specs.Descent.{Descent}

@@ -1,11 +1,11 @@
 -- When a descent agrees with a rule, combinator by combinator.
-use Rattle.std.specs.Prelude.{◌≡◌, ℕ, zero, suc, ◌+◌, ◌<◌, ◌≤◌, ◌++◌, Bool, true, false, ◌||◌, List, [], ◌∷◌, Option, Some, None, length, map, if◌then◌else◌, refl, ◌⊎◌}
+use Rattle.std.specs.Prelude.{◌≡◌, ℕ, suc, ◌<◌, ◌++◌, Bool, true, false, ◌||◌, List, [], ◌∷◌, Option, Some, None, length, map, if◌then◌else◌, refl}
 use Rattle.std.specs.List.{flat_map}
 use Rattle.std.proofs.Common.{sym, ◌∙◌, ap, subst, inl, inr, arith}
 use Rattle.readings.specs.Members.{In, in_left, in_right, in_either, in_map, from_map, in_flat, from_flat}
-use Rattle.readings.specs.Readings.{Reading, Rule, token, given, behind, ◌▹◌, ◌∣◌, made, make, turn, maybe, listed, at_most, many}
-use Rattle.readings.specs.Descent.{Descent, bind, or_else, take_token, take_given, ◌▸◌, ◌⊘◌, take_make, take_turn, take_maybe, take_at_most, take_many}
-use Rattle.readings.specs.Agreement.{Heads, Apart, Within, either, nothing, Beats, Matches, Agrees, Starts, Shrinks, Keeps, Never, Idles, IsFound, Finds}
+use Rattle.readings.specs.Readings.{Reading, Rule, token, given, behind, ◌▹◌, ◌∣◌, made, make, turn}
+use Rattle.readings.specs.Descent.{Descent, bind, or_else, take_token, take_given, ◌▸◌, ◌⊘◌, take_make}
+use Rattle.readings.specs.Agreement.{Heads, Apart, Within, either, nothing, Beats, Matches, Agrees, Starts, Shrinks, Keeps, Never, Idles}
 use Rattle.readings.specs.Longest.{length_same}
 
 -- Tests of the first token.
@@ -17,6 +17,7 @@ or_right : (a b : Bool) → b ≡ true → (a || b) ≡ true
 or_right true b e = refl
 or_right false b e = e
 
+-- a token that passes one test passes one of two
 pub heads_left : {T : Type 0} (s u : T → Bool) (ts : List T) → Heads s ts → Heads (either s u) ts
 heads_left s u [] h = elim h [ ]
 heads_left s u (t ∷ ts) h = or_left (s t) (u t) h
@@ -25,10 +26,12 @@ pub heads_right : {T : Type 0} (s u : T → Bool) (ts : List T) → Heads u ts �
 heads_right s u [] h = elim h [ ]
 heads_right s u (t ∷ ts) h = or_right (s t) (u t) h
 
+-- a token that passes a test passes a weaker one
 pub heads_within : {T : Type 0} (s u : T → Bool) → Within s u → (ts : List T) → Heads s ts → Heads u ts
 heads_within s u w [] h = h
 heads_within s u w (t ∷ ts) h = w t h
 
+-- no token passes two tests that are apart
 pub heads_apart : {T : Type 0} (s f : T → Bool) → Apart s f → (ts : List T) → Heads s ts → Heads f ts → ⊥
 heads_apart s f a [] h i = elim h [ ]
 heads_apart s f a (t ∷ ts) h i = a t h i
@@ -53,6 +56,7 @@ pub beats_right : {T A : Type 0} (s u : T → Bool) (b y : Reading T A) → Beat
 beats_right s u b y (inl e) = inl e
 beats_right s u b y (inr h) = inr (h.0, heads_right s u y.1 h.1)
 
+-- of one reading every reading is that one
 pub in_one : {A : Type 0} (x y : A) → In y (x ∷ []) → y ≡ x
 in_one x y (inl e) = e
 in_one x y (inr k) = elim k [ ]
@@ -63,6 +67,7 @@ matches_within : {T A : Type 0} (s u : T → Bool) → Within s u → (all : Lis
 matches_within s u w all None m = m
 matches_within s u w all (Some b) m = (m.0, λ y i. elim (m.1 y i) [ inl e ↦ inl e | inr h ↦ inr (h.0, heads_within s u w y.1 h.1) ])
 
+-- where the others stop before a token of a test, they do before one of a weaker test
 pub agrees_within : {T A : Type 0} (s u : T → Bool) (p : Rule T A) (g : Descent T A) → Within s u → Agrees s p g → Agrees u p g
 agrees_within s u p g w a ts = matches_within s u w (p ts) (g ts) (a ts)
 
@@ -75,6 +80,7 @@ found_in : {T A : Type 0} (s : T → Bool) (all : List (Reading T A)) (o : Optio
 found_in s all None m x e = absurd (cc)
 found_in {T = T} {A = A} s all (Some b) m x e = let d : b ≡ x = cc in subst (λ (v : Reading T A). In v all) d m.0
 
+-- what is found is one of the rule's readings
 pub agrees_found : {T A : Type 0} (s : T → Bool) (p : Rule T A) (g : Descent T A) → Agrees s p g → (ts : List T) (x : Reading T A) → g ts ≡ Some x → In x (p ts)
 agrees_found s p g a ts x e = found_in s (p ts) (g ts) (a ts) x e
 
@@ -120,6 +126,7 @@ agrees_given a ts = (inl refl, λ y i. inl (in_one (a, ts) y i))
 pub keeps_given : {T A : Type 0} (a : A) → Keeps {T = T} (given a)
 keeps_given a ts y i = omega (arith, length_same y (a, ts) (in_one (a, ts) y i))
 
+-- what has a token adds none
 pub keeps_shrinks : {T A : Type 0} (p : Rule T A) → Shrinks p → Keeps p
 keeps_shrinks p a ts y i = omega (arith, a ts y i)
 
@@ -150,6 +157,7 @@ shrinks_make f p a ts y i = let r = from_map (made f ts) y (p ts) i in omega (ar
 pub keeps_make : {T A B : Type 0} (f : List T → A → B) (p : Rule T A) → Keeps p → Keeps (make f p)
 keeps_make f p a ts y i = let r = from_map (made f ts) y (p ts) i in omega (arith, length_same y (made f ts r.0) r.2, a ts r.0 r.1)
 
+-- a value made of a reading of no token
 pub idles_make : {T A B : Type 0} (s : T → Bool) (f : A → B) (a : A) (p : Rule T A) → Idles s a p → Idles s (f a) (turn f p)
 idles_make s f a p id ts y h i =
     let r = from_map (made (λ read x. f x) ts) y (p ts) i in r.2 ∙ ap (made (λ read x. f x) ts) (id ts r.0 h r.1)
@@ -240,9 +248,11 @@ or_at s u all rest never (Some b) m c n = or_some s u all rest b never m.0 m.1
 pub agrees_or : {T A : Type 0} (s u : T → Bool) (p q : Rule T A) (g h : Descent T A) → Agrees s p g → Agrees u q h → Never p q → Agrees (either s u) (p ∣ q) (g ⊘ h)
 agrees_or s u p q g h a c n ts = or_at s u (p ts) (q ts) (n ts) (g ts) (a ts) (h ts) (c ts)
 
+-- rules that begin with tokens of tests that are apart never both read
 pub never_apart : {T A B : Type 0} (f u : T → Bool) (p : Rule T A) (q : Rule T B) → Starts f p → Starts u q → Apart f u → Never p q
 never_apart f u p q a c far ts y z i j = heads_apart f u far ts (a ts y i) (c ts z j)
 
+-- a rule that never reads where either of two does
 pub never_or : {T A B : Type 0} (p : Rule T A) (q r : Rule T B) → Never p q → Never p r → Never p (q ∣ r)
 never_or p q r a c ts y z i j = elim (in_either z (q ts) (r ts) j) [ inl k ↦ a ts y z i k | inr k ↦ c ts y z i k ]
 

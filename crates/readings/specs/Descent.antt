@@ -1,6 +1,6 @@
 -- Going down by the tokens: of each rule one reading, or none, with no way back.
 use Rattle.std.specs.Prelude.{ℕ, zero, suc, Bool, List, [], ◌∷◌, Option, Some, None, length, if◌then◌else◌}
-use Rattle.readings.specs.Readings.{Reading, behind, made, listed, whole_or}
+use Rattle.readings.specs.Readings.{Reading, behind, tokens_read, made, listed, whole_or}
 
 -- a descent: the one reading that begins a list of tokens, with the tokens that it leaves, or none
 abbrev pub Descent : Type 0 → Type 0 → Type 0
@@ -55,6 +55,17 @@ take_at_most (suc n) g = take_turn listed (g ▸ take_at_most n g) ⊘ take_give
 -- as many in a row as there are
 abbrev pub take_many : {T A : Type 0} → Descent T A → Descent T (List A)
 take_many g ts = take_at_most (length ts) g ts
+
+-- right sides behind what stands on the left, as many as there are and have room
+abbrev pub take_onto : {T A B : Type 0} → List T → ℕ → (A → Bool) → (List T → A → B → A) → Descent T B → A → Descent T A
+take_onto start zero room join h left ts = take_given left ts
+take_onto start (suc n) room join h left ts =
+    if room left then or_else (bind (h ts) (λ y. take_onto start n room join h (join (tokens_read start y.1) left y.0) y.1)) (take_given left ts)
+    else take_given left ts
+
+-- a first operand, and as many right sides behind it as there are
+abbrev pub take_chain : {T A B : Type 0} → (List T → ℕ) → (A → Bool) → (List T → A → B → A) → Descent T A → Descent T B → Descent T A
+take_chain most room join g h ts = bind (g ts) (λ x. take_onto ts (most x.1) room join h x.0 x.1)
 
 -- the value of the reading, if it leaves no token
 abbrev pub complete : {T A : Type 0} → Option (Reading T A) → Option A

@@ -7,3 +7,4 @@ pub mod Combinators
 pub mod Repetition
 pub mod Parses
 pub mod Loops
+pub mod Chains

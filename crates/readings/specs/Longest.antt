@@ -1,11 +1,11 @@
 -- The longest of readings of which one beats the others.
 use Rattle.std.specs.Prelude.{◌≡◌, ℕ, suc, ◌<◌, ◌≤◌, Bool, true, false, List, [], ◌∷◌, Option, Some, None, length, nat_lt, if◌then◌else◌, refl, ◌⊎◌}
-use Rattle.std.proofs.Common.{sym, ◌∙◌, ap, subst, inl, inr, arith}
+use Rattle.std.proofs.Common.{sym, ◌∙◌, ap, inl, inr, arith}
 use Rattle.std.proofs.lemmas.Bool.Decides.{nat_tests}
 use Rattle.readings.specs.Members.{In}
 use Rattle.readings.specs.Readings.{Reading, Rule, better, longest, whole_or, whole}
 use Rattle.readings.specs.Descent.{Descent, complete}
-use Rattle.readings.specs.Agreement.{Heads, Beats, Matches, Agrees}
+use Rattle.readings.specs.Agreement.{Beats, Matches, Agrees}
 
 -- equal readings leave equally many tokens
 pub length_same : {T A : Type 0} (x y : Reading T A) → x ≡ y → length x.1 ≡ length y.1

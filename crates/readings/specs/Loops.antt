@@ -2,7 +2,7 @@
 use Rattle.std.specs.Prelude.{Bool, ◌≡◌, ℕ, zero, suc, ◌<◌, ◌≤◌, ◌++◌, List, [], ◌∷◌, Option, Some, None, length, refl}
 use Rattle.std.proofs.Common.{sym, ◌∙◌, ap, arith, append-nil, append_assoc}
 use Rattle.readings.specs.Readings.{Reading, Rule, behind, made, listed}
-use Rattle.readings.specs.Descent.{Descent, bind, or_else, ◌▸◌, take_at_most, take_many}
+use Rattle.readings.specs.Descent.{Descent, bind, or_else, take_at_most, take_many}
 use Rattle.readings.specs.Agreement.{IsFound}
 use Rattle.readings.specs.Combinators.{agrees_found}
 use Rattle.readings.specs.Repetition.{finds_at_most}

@@ -1,5 +1,5 @@
 -- One fact for a production: its descent finds its longest reading.
-use Rattle.std.specs.Prelude.{Bool, List, [], Option, Some, None}
+use Rattle.std.specs.Prelude.{Bool, List, [], None}
 use Rattle.readings.specs.Readings.{Rule, token, ◌▹◌, ◌∣◌, make, turn, maybe, many}
 use Rattle.readings.specs.Descent.{Descent, take_token, ◌▸◌, ◌⊘◌, take_make, take_turn, take_maybe, take_many}
 use Rattle.readings.specs.Agreement.{Apart, Within, either, nothing, Agrees, Starts, Shrinks, Never}

@@ -66,6 +66,16 @@ at_most (suc n) p = turn listed (p ▹ at_most n p) ∣ given []
 abbrev pub many : {T A : Type 0} → Rule T A → Rule T (List A)
 many p ts = at_most (length ts) p ts
 
+-- at most n right sides behind what stands on the left, while there is room for them, more before fewer: each makes one of both, from where the left began
+abbrev pub onto : {T A B : Type 0} → List T → ℕ → (A → Bool) → (List T → A → B → A) → Rule T B → A → Rule T A
+onto start zero room join q left ts = given left ts
+onto start (suc n) room join q left ts =
+    (if room left then flat_map (λ y. onto start n room join q (join (tokens_read start y.1) left y.0) y.1) (q ts) else []) ++ given left ts
+
+-- a left-nested repeat: a first operand, and right sides behind it, at most as many as are allowed where the first ends
+abbrev pub chain : {T A B : Type 0} → (List T → ℕ) → (A → Bool) → (List T → A → B → A) → Rule T A → Rule T B → Rule T A
+chain most room join p q ts = flat_map (λ x. onto ts (most x.1) room join q x.0 x.1) (p ts)
+
 -- a reading before others of which the best is known: it is better unless that one leaves fewer tokens
 abbrev pub better : {T A : Type 0} → Reading T A → Option (Reading T A) → Option (Reading T A)
 better x None = Some x

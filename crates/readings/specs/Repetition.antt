@@ -1,13 +1,12 @@
 -- When a descent agrees with a rule that leaves out or repeats.
-use Rattle.std.specs.Prelude.{◌≡◌, ℕ, zero, suc, ◌+◌, ◌<◌, ◌≤◌, ◌++◌, Bool, true, false, ◌||◌, List, [], ◌∷◌, Option, Some, None, length, map, refl, ◌⊎◌}
+use Rattle.std.specs.Prelude.{◌≡◌, ℕ, zero, suc, ◌++◌, Bool, true, false, ◌||◌, List, [], ◌∷◌, Option, Some, None, length, refl}
 use Rattle.std.specs.List.{flat_map}
 use Rattle.std.proofs.Common.{sym, ◌∙◌, ap, inl, inr, arith}
 use Rattle.readings.specs.Members.{In, in_left, in_right, in_either, in_map, from_map, in_flat, from_flat}
-use Rattle.readings.specs.Readings.{Reading, Rule, given, behind, ◌▹◌, ◌∣◌, made, make, turn, maybe, listed, at_most, many}
-use Rattle.readings.specs.Descent.{Descent, bind, or_else, take_given, ◌▸◌, ◌⊘◌, take_make, take_turn, take_maybe, take_at_most, take_many}
-use Rattle.readings.specs.Agreement.{Heads, Apart, Within, either, nothing, Beats, Matches, Agrees, Starts, Shrinks, Keeps, Never, Idles, IsFound, Finds}
-use Rattle.readings.specs.Longest.{length_same}
-use Rattle.readings.specs.Combinators.{heads_left, heads_right, heads_apart, heads_same, later_same, beats_left, beats_right, in_one, same_first, followed_by, in_sequence, agrees_within, agrees_make, starts_make, starts_seq, shrinks_make, shrinks_seq, keeps_given, keeps_or, keeps_shrinks, agrees_given}
+use Rattle.readings.specs.Readings.{Reading, Rule, given, behind, ◌▹◌, ◌∣◌, turn, maybe, listed, at_most, many}
+use Rattle.readings.specs.Descent.{Descent, bind, or_else, take_given, ◌▸◌, ◌⊘◌, take_turn, take_maybe, take_at_most, take_many}
+use Rattle.readings.specs.Agreement.{Heads, Apart, either, Beats, Matches, Agrees, Starts, Shrinks, Keeps, Idles, IsFound, Finds}
+use Rattle.readings.specs.Combinators.{heads_left, heads_right, heads_apart, heads_same, later_same, beats_left, beats_right, in_one, same_first, followed_by, in_sequence, agrees_within, agrees_make, starts_make, starts_seq, shrinks_make, shrinks_seq, keeps_given, keeps_or, keeps_shrinks}
 
 -- A rule, or else a value that reads no token.
 
@@ -105,9 +104,11 @@ starts_maybe_seq f u p q b c = starts_optional_seq f u (turn (λ a. Some a) p) N
 
 -- What is repeated.
 
+-- one element and at most n further ones
 abbrev one_more : {T A : Type 0} → ℕ → Rule T A → Rule T (List A)
 one_more n p = turn listed (p ▹ at_most n p)
 
+-- of four tests that are two the two are enough
 collapse : (a b : Bool) → ((a || (a || b)) || b) ≡ true → (a || b) ≡ true
 collapse true b e = refl
 collapse false true e = refl

@@ -6,9 +6,9 @@
 //! crate stands on std alone and knows nothing of Dart: tokens and trees are any types.
 #![tactic(auto)]
 
-ghost use Rattle.std.specs.Prelude.{◌≡◌, ◌+◌, ◌++◌, Bool, List, [], ◌∷◌, Some, None};
-ghost use Rattle.readings.specs.Readings.{Reading, Rule, token, ◌▹◌, ◌∣◌, tokens_read, make, maybe, many, longest, whole};
-ghost use Rattle.readings.specs.Descent.{Descent, take_token, ◌▸◌, ◌⊘◌, take_make, take_maybe, take_many, complete};
+ghost use Rattle.std.specs.Prelude.{◌≡◌, ℕ, ◌++◌, Bool, List, [], ◌∷◌, Some, None};
+ghost use Rattle.readings.specs.Readings.{Reading, Rule, token, ◌▹◌, ◌∣◌, tokens_read, make, maybe, many, chain, longest, whole};
+ghost use Rattle.readings.specs.Descent.{Descent, take_token, ◌▸◌, ◌⊘◌, take_make, take_maybe, take_many, take_chain, complete};
 ghost use Rattle.readings.specs.Agreement.{Apart, Within, either, nothing, Agrees, Never};
 ghost use Rattle.readings.specs.Parses.{Parses};
 ghost use Rattle.readings.specs.Loops.{Falls, preceded};
@@ -44,6 +44,7 @@ pub fn combinator_laws<T, A, B>()
     ensures many_before { (s f u v : T → Bool) (p : Rule T A) (q : Rule T B) (g : Descent T A) (h : Descent T B) → Parses s f p g → Parses u v q h → Apart s f → Apart (either s f) v → Parses u (either f v) (many p ▹ q) (take_many g ▸ h) }
     ensures maybe_last { (s f u v : T → Bool) (p : Rule T A) (q : Rule T B) (g : Descent T A) (h : Descent T B) → Parses s f p g → Parses u v q h → Apart s v → Parses (either s (either u v)) f (p ▹ maybe q) (g ▸ take_maybe h) }
     ensures many_last { (s f u v : T → Bool) (p : Rule T A) (q : Rule T B) (g : Descent T A) (h : Descent T B) → Parses s f p g → Parses u v q h → Apart u v → Apart s v → Parses (either s (either u v)) f (p ▹ many q) (g ▸ take_many h) }
+    ensures left_nested { (most : List T → ℕ) (room : A → Bool) (join : List T → A → B → A) (s f u v : T → Bool) (p : Rule T A) (q : Rule T B) (g : Descent T A) (h : Descent T B) → Parses s f p g → Parses u v q h → Apart u v → Apart s v → Parses (either s (either u v)) f (chain most room join p q) (take_chain most room join g h) }
     ensures weaker { (s f u v : T → Bool) (p : Rule T A) (g : Descent T A) → Within s u → Within f v → Parses s f p g → Parses u v p g }
 {}
 
