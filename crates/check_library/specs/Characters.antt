@@ -1,5 +1,5 @@
--- Classes of bytes of a text in UTF-8, and how many UTF-16 code units bytes stand for.
-use Rattle.std.specs.Prelude.{ℕ, ◌+◌, Bool, ◌&&◌, ◌||◌, ◌==◌, not, List, sum_by, nat_le, nat_lt, if◌then◌else◌}
+-- Classes of bytes of a text in UTF-8.
+use Rattle.std.specs.Prelude.{ℕ, Bool, ◌&&◌, ◌||◌, ◌==◌, not, nat_le}
 
 -- `0` to `9`
 abbrev pub is_digit : ℕ → Bool
@@ -27,11 +27,3 @@ is_within_line byte = not (byte == 10 || byte == 13)
 -- a byte of a character beyond ASCII
 abbrev pub is_beyond_ascii : ℕ → Bool
 is_beyond_ascii byte = nat_le 128 byte
-
--- The code units of the character that begins with this byte: none for a byte that continues a character, two for a character of four bytes.
-abbrev pub units_of_byte : ℕ → ℕ
-units_of_byte byte = if nat_lt byte 128 then 1 else (if nat_lt byte 192 then 0 else (if nat_lt byte 240 then 1 else 2))
-
--- the UTF-16 length of a text
-abbrev pub units_in : List ℕ → ℕ
-units_in bytes = sum_by units_of_byte bytes

@@ -6,7 +6,7 @@ use Rattle.check_library.specs.declared.scan.piece.Class.TheVariants.{Gap, Word,
 use Rattle.check_library.specs.declared.token.Kind.{Kind}
 use Rattle.check_library.specs.declared.token.Kind.TheVariants as kind
 use Rattle.check_library.specs.declared.token.Token.{Token}
-use Rattle.check_library.specs.Characters.{units_in}
+use Rattle.plain_text.specs.Units.{units_in}
 use Rattle.check_library.specs.Pieces.{Spelled, pieces}
 
 -- words that are no identifiers: the reserved ones, and those that this language has for itself

@@ -1,7 +1,7 @@
 //! The scanner: the tokens of a text, piece by piece, in one pass.
 
 ghost use Rattle.std.specs.Prelude.{◌≡◌, ◌+◌, ◌*◌, ◌^◌, ◌<◌, ◌≤◌, [], ◌∷◌, ◌++◌, length, IfOk, OnOk, if◌then◌else◌};
-ghost use Rattle.check_library.specs.Characters.{units_of_byte, units_in};
+ghost use Rattle.plain_text.specs.Units.{units_in};
 ghost use Rattle.check_library.specs.Tokens.{is_gap, token_of, with_word, tokens_of, words_of};
 
 mod comment;
@@ -14,6 +14,7 @@ use crate::scan::kind::kind_of;
 use crate::scan::piece::{Class, piece_at};
 pub use crate::scan::words::Words;
 use crate::token::Token;
+use plain_text::utf16_len;
 use std::alloc::{AllocError, Global};
 
 /// The tokens of a text, and its words.
@@ -21,35 +22,6 @@ use std::alloc::{AllocError, Global};
 pub struct Scanned<'t> {
     pub tokens: Vec<Token>,
     pub words: Words<'t>,
-}
-
-/// How many UTF-16 code units begin with the byte.
-fn units_of_byte(byte: u8) -> u32
-    ensures { result ≡ units_of_byte byte }
-{
-    if byte < 128 {
-        return 1;
-    }
-    if byte < 192 {
-        return 0;
-    }
-    if byte < 240 {
-        return 1;
-    }
-    2
-}
-
-/// The UTF-16 length of the bytes.
-fn units(bytes: &[u8]) -> u32
-    requires { length bytes.now ≤ 16777216 }
-    ensures count { result ≡ units_in bytes.now }
-    ensures within { result ≤ 2 * length bytes.now }
-{
-    let mut count = 0;
-    for byte in bytes {
-        count += units_of_byte(*byte);
-    }
-    count
 }
 
 impl<'t> Scanned<'t> {
@@ -95,7 +67,7 @@ pub fn scan(alloc: Global, text: &[u8]) -> Result<Scanned<'_>, AllocError>
     while !rest.is_empty() {
         let piece = piece_at(first, rest);
         let (bytes, after) = rest.split_at(piece.size);
-        let end = start + units(bytes);
+        let end = start + utf16_len(bytes) as u32;
         scanned.add(piece.class, bytes, start, end)?;
         rest = after;
         start = end;
