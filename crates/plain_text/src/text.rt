@@ -28,11 +28,18 @@ impl PlainText {
         Ok(PlainText { text })
     }
 
-    /// The text that the string holds.
+    /// The text that the string holds, which takes no memory.
     pub fn from_string(text: String) -> PlainText
         ensures { result ≡ string_bytes text }
     {
         PlainText { text }
+    }
+
+    /// The text as a string, which takes no memory.
+    pub fn into_string(self) -> String
+        ensures { string_bytes result ≡ self }
+    {
+        self.text
     }
 
     /// The text itself.
