@@ -1,0 +1,4 @@
+pub mod BytesLemmas
+pub mod LinesLemmas
+pub mod ReadLemmas
+pub mod PathLemmas
