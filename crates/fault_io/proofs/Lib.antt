@@ -2,3 +2,4 @@ pub mod BytesLemmas
 pub mod LinesLemmas
 pub mod ReadLemmas
 pub mod PathLemmas
+pub mod StoredLemmas

@@ -30,13 +30,17 @@ first_entry rest =
     let until = position_or_len (λ byte. byte == slash) rest in
     record { name = take until rest; kind = if nat_lt until (length rest) then Folder else File }
 
--- the direct entry of a folder that is this file, or below which this file lies
-abbrev pub entry_toward : List ℕ → (List ℕ × List ℕ) → Option Entry
-entry_toward folder file = option_map first_entry (after_front (front_of folder) file.0)
+-- the direct entry of a folder that is the file at this path, or below which it lies
+abbrev pub entry_toward : List ℕ → List ℕ → Option Entry
+entry_toward folder path = option_map first_entry (after_front (front_of folder) path)
+
+-- the direct entries of a folder, each as often as a file leads to it
+abbrev pub entries_toward : List ℕ → Stored → List Entry
+entries_toward folder files = filter_map (λ file. entry_toward folder file.0) files
 
 -- the direct entries of a folder, in any order, each once
 pub record AreEntries (files : Stored) (folder : List ℕ) (entries : List Entry) : Type 0 where
-  pub exactly : (entry : Entry) → Contains entries entry ↔ Contains (filter_map (entry_toward folder) files) entry
+  pub exactly : (entry : Entry) → Contains entries entry ↔ Contains (entries_toward folder files) entry
   pub once : AllPairs (λ entry other. entry ≢ other) entries
 
 -- the answer to `list`: the direct entries of a folder, and nothing for all else
