@@ -7,10 +7,10 @@
 //! a text to any sink. The crate stands on std and on plain texts, and knows no Dart and no JSON.
 #![tactic(auto)]
 
-// mod host_files;
+mod host_files;
 mod line;
 mod memory;
-// mod memory_files;
+mod memory_files;
 mod paths;
 mod plan;
 mod standard;
@@ -18,10 +18,10 @@ mod stored;
 mod traits;
 mod write_all;
 
-// pub use host_files::HostFiles;
+pub use host_files::HostFiles;
 pub use line::{Line, LineEnd, PIECE, ReadRefusal, read_line};
 pub use memory::{MemorySink, MemorySource, SteadySink, SteadySource};
-// pub use memory_files::{MemoryFiles, SteadyFiles};
+pub use memory_files::{MemoryFiles, SteadyFiles};
 pub use paths::{is_path, is_under};
 pub use standard::{StdSink, StdSource};
 pub use stored::are_files;

@@ -1,4 +1,5 @@
-// Sources and sinks in memory.
+//! Sources and sinks in memory.
+
 ghost use Rattle.std.specs.Prelude.{◌≡◌, ℕ, ◌+◌, ◌-◌, ◌<◌, ◌≤◌, ◌^◌, ◌↔◌, List, [], ◌++◌, length, take, drop, min, IsTrue, Contains, Some, Ok, Err, IfOk, OnOk, OnErr, IsErr};
 ghost use Rattle.fault_io.specs.Faults.{one_more, last_count};
 
@@ -17,7 +18,8 @@ fn copy_front(from: &[u8], to: &mut [u8], piece: usize) -> usize
     n
 }
 
-/// A source in memory, which never fails.
+/// A source in memory that never fails and gives all that fits. Contracts see it as the bytes that
+/// are left.
 #[derive(Drop)]
 pub struct SteadySource {
     bytes: Vec<u8>,
@@ -35,6 +37,7 @@ impl Model for SteadySource {
 }
 
 impl SteadySource {
+    /// A source of these bytes.
     pub fn new(bytes: Vec<u8>) -> SteadySource
         ensures { result ≡ bytes.items }
     {
@@ -61,7 +64,8 @@ impl Source for SteadySource {
     }
 }
 
-/// A sink in memory, which never fails.
+/// A sink in memory that never fails and takes all. Contracts see it as the bytes that were
+/// written.
 #[derive(Drop)]
 pub struct SteadySink {
     bytes: Vec<u8>,
@@ -76,6 +80,7 @@ impl Model for SteadySink {
 }
 
 impl SteadySink {
+    /// A sink to which nothing was written.
     pub fn new(alloc: Global) -> SteadySink
         ensures { result ≡ [] }
     {
@@ -105,7 +110,7 @@ impl Sink for SteadySink {
     }
 }
 
-/// A source in memory that gives pieces, and fails at stated calls.
+/// A source in memory that gives at most `piece` bytes a call, and fails at stated calls.
 #[derive(Drop)]
 pub struct MemorySource {
     bytes: Vec<u8>,
@@ -126,6 +131,7 @@ impl Model for MemorySource {
 }
 
 impl MemorySource {
+    /// A source of these bytes, of which the calls with these numbers, from 0, fail.
     pub fn new(bytes: Vec<u8>, piece: usize, fails: Vec<u64>) -> MemorySource
         requires { 1 ≤ piece }
         ensures { result ≡ record { bytes = bytes.items; piece = piece; plan = record { fails = fails.items; calls = 0; faults = 0 } } }
@@ -178,7 +184,7 @@ impl Source for MemorySource {
     }
 }
 
-/// A sink in memory that takes pieces, and fails at stated calls.
+/// A sink in memory that takes at most `piece` bytes a call, and fails at stated calls.
 #[derive(Drop)]
 pub struct MemorySink {
     bytes: Vec<u8>,
@@ -198,6 +204,7 @@ impl Model for MemorySink {
 }
 
 impl MemorySink {
+    /// A sink to which nothing was written, of which the calls with these numbers, from 0, fail.
     pub fn new(alloc: Global, piece: usize, fails: Vec<u64>) -> MemorySink
         requires { 1 ≤ piece }
         ensures { result ≡ record { bytes = []; piece = piece; plan = record { fails = fails.items; calls = 0; faults = 0 } } }

@@ -1,12 +1,12 @@
-// Standard input and output.
-ghost use Rattle.fault_io.specs.Faults.{one_more};
+//! Readers and writers of std, as standard input and output.
 
 use crate::plan::raise;
 use crate::traits::{Failed, Sink, Source, WriteRefusal};
 use std::alloc::Global;
 use std::io::{Read, Write};
 
-/// A reader of the system, as standard input.
+/// A reader of std as a source, with a count of its faults: every error is one. It tells no
+/// content.
 #[derive(Drop)]
 pub struct StdSource<R: Read> {
     reader: R,
@@ -14,6 +14,7 @@ pub struct StdSource<R: Read> {
 }
 
 impl<R: Read> StdSource<R> {
+    /// This reader, with no fault yet.
     pub fn new(reader: R) -> StdSource<R> {
         StdSource { reader, faults: 0 }
     }
@@ -33,7 +34,8 @@ impl<R: Read> Source for StdSource<R> {
     }
 }
 
-/// A writer of the system, as standard output.
+/// A writer of std as a sink, with a count of its faults: every error is one, and a write that
+/// takes nothing of bytes that there are. It tells no content.
 #[derive(Drop)]
 pub struct StdSink<W: Write> {
     writer: W,
@@ -41,6 +43,7 @@ pub struct StdSink<W: Write> {
 }
 
 impl<W: Write> StdSink<W> {
+    /// This writer, with no fault yet.
     pub fn new(writer: W) -> StdSink<W> {
         StdSink { writer, faults: 0 }
     }
