@@ -1,3 +1,4 @@
+pub mod Gathered
 pub mod BytesLemmas
 pub mod LinesLemmas
 pub mod ReadLemmas

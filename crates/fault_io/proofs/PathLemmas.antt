@@ -1,5 +1,5 @@
 -- Lemmas on paths: how the calls of std on texts say the words of `specs/Paths.antt`.
-use Rattle.std.proofs.Common.{◌≡◌, ◌≢◌, ℕ, ◌+◌, Bool, true, false, List, [], ◌∷◌, ◌++◌, length, drop, Option, None, Some, MatchOption, option_map, option_and_then, bytes_eq, eqb, inl, inr, refl, sym, ◌∙◌, ap}
+use Rattle.std.proofs.Common.{◌≡◌, ◌≢◌, ℕ, ◌+◌, false, List, [], ◌∷◌, ◌++◌, length, drop, Option, None, Some, MatchOption, option_map, option_and_then, bytes_eq, eqb, inl, inr, refl, sym, ◌∙◌, ap}
 use denote.Ref.{Bor}
 use Rattle.std.specs.Str.Pattern.{FindsTextPrefix}
 use Rattle.std.proofs.lemmas.Bool.{cases_Bool}

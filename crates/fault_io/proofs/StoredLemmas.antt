@@ -1,5 +1,5 @@
 -- Lemmas on the entries of a folder.
-use Rattle.std.proofs.Common.{◌≡◌, ◌≢◌, ◌↔◌, ◌⊎◌, ℕ, zero, suc, ◌<◌, List, [], ◌∷◌, ◌++◌, Contains, AllPairs, Option, None, Some, inl, inr, refl, sym, ◌∙◌, ap, arith}
+use Rattle.std.proofs.Common.{◌≡◌, ◌≢◌, ◌↔◌, ◌⊎◌, ℕ, zero, suc, List, [], ◌∷◌, ◌++◌, Contains, AllPairs, Option, None, Some, inl, inr, ◌∙◌, ap, arith}
 use Rattle.std.specs.List.{cons_option}
 use Rattle.std.proofs.lemmas.List.Elements.{Contains-append_left, Contains-append_right, Contains-append_cases, Contains-push, filter_map-append}
 use Rattle.fault_io.specs.declared.traits.Entry.{Entry}
@@ -16,7 +16,8 @@ pub adds-Some : (found : Option Entry) (added entry : Entry) (now before : Type 
 adds-Some found added entry now before f h = (there, back)
   where
     there : now → before ⊎ (found ≡ Some entry)
-    there n = elim (h.0 n) [ | inl b ↦ inl b | inr e ↦ inr (f ∙ ap (λ z. Some z) e) ]
+    there n = elim (h.0 n) [ inl b ↦ inl b | inr e ↦ inr (f ∙ ap (λ z. Some z) e) ]
+
     back : before ⊎ (found ≡ Some entry) → now
     back (inl b) = h.1 (inl b)
     back (inr e) = h.1 (inr (cc))
@@ -31,12 +32,14 @@ AreEntries-more files file folder es more old holds distinct =
   where
     found : entries_toward folder (files ++ file ∷ []) ≡ entries_toward folder files ++ cons_option (entry_toward folder file.0) []
     found = filter_map-append (λ f. entry_toward folder f.0) files (file ∷ [])
+
     there : (entry : Entry) → Contains more entry → Contains (entries_toward folder (files ++ file ∷ [])) entry
     there entry h =
         elim ((holds entry).0 h) [
           | inl before ↦ rw found (Contains-append_left (entries_toward folder files) (cons_option (entry_toward folder file.0) []) entry ((old.exactly entry).0 before))
           | inr leads ↦ rw (found, leads) (Contains-append_right (entries_toward folder files) (entry ∷ []) entry (Contains-push [] entry))
         ]
+
     back : (entry : Entry) → Contains (entries_toward folder (files ++ file ∷ [])) entry → Contains more entry
     back entry h =
         let parts = rw found at h in

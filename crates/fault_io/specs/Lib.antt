@@ -4,7 +4,6 @@ pub mod Lines
 pub mod Reading
 pub mod View
 pub mod NextLine
-pub mod Gathered
 pub mod Plan
 pub mod Paths
 pub mod Stored

@@ -1,5 +1,5 @@
 -- Paths of a file store: absolute and normalized.
-use Rattle.std.specs.Prelude.{ℕ, Bool, true, false, not, ◌&&◌, ◌||◌, ◌==◌, List, [], ◌∷◌, ◌++◌, length, bytes_eq, if◌then◌else◌, Option, None, Some, is_some}
+use Rattle.std.specs.Prelude.{ℕ, Bool, false, not, ◌&&◌, ◌||◌, ◌==◌, List, [], ◌∷◌, ◌++◌, length, bytes_eq, if◌then◌else◌, Option, None, Some, is_some}
 use Rattle.std.specs.List.{list_all, list_any, slice_split}
 
 -- the byte between two segments

@@ -1,9 +1,8 @@
 -- The files that a store tells, and what it answers of them.
-use Rattle.std.specs.Prelude.{◌≡◌, ◌≢◌, ℕ, Bool, true, false, not, ◌&&◌, ◌||◌, ◌==◌, ◌↔◌, List, [], ◌∷◌, ◌++◌, length, take, nat_lt, Contains, AllPairs, find, filter_map, bytes_eq, if◌then◌else◌, Option, None, Some, MatchOption, option_map}
+use Rattle.std.specs.Prelude.{◌≡◌, ◌≢◌, ℕ, Bool, true, false, not, ◌&&◌, ◌||◌, ◌==◌, ◌↔◌, List, [], ◌∷◌, length, take, nat_lt, Contains, AllPairs, find, filter_map, bytes_eq, if◌then◌else◌, Option, MatchOption, option_map}
 use Rattle.std.specs.List.{list_all, list_any, position_or_len}
 use Rattle.fault_io.specs.Paths.{slash, root, is_path, after_front, front_of, is_under}
 use Rattle.fault_io.specs.declared.traits.Entry.{Entry}
-use Rattle.fault_io.specs.declared.traits.EntryKind.{EntryKind}
 use Rattle.fault_io.specs.declared.traits.EntryKind.TheVariants.{Folder, File}
 
 -- files, each as its path and its bytes

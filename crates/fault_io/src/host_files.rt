@@ -119,11 +119,7 @@ fn kind_of(file_type: FileType) -> EntryKind {
 }
 
 /// The bytes of a file, and nothing of what is no file.
-fn bytes_of<R: std::rt::Files>(
-    host: &R,
-    alloc: Global,
-    path: &str,
-) -> io::Result<Option<Vec<u8>>> {
+fn bytes_of<R: std::rt::Files>(host: &R, alloc: Global, path: &str) -> io::Result<Option<Vec<u8>>> {
     if !fs::metadata(host, path)?.is_file() {
         return Ok(None);
     }

@@ -114,11 +114,7 @@ impl MemoryFiles {
     }
 
     /// One call of `read`, as `Files` has it: it is `Failed` exactly where its number is listed.
-    pub fn read_bytes(
-        &mut self,
-        alloc: Global,
-        path: &str,
-    ) -> Result<Option<Vec<u8>>, FilesRefusal>
+    pub fn read_bytes(&mut self, alloc: Global, path: &str) -> Result<Option<Vec<u8>>, FilesRefusal>
         ensures fails { (result ≡ Err FilesRefusal.Failed) ↔ Contains self.old.plan.fails self.old.plan.calls }
         ensures read { IfOk result (λ found. option_map (λ v. v.items) found ≡ bytes_at self.old.files path.now) }
         ensures files { self.new.files ≡ self.old.files }

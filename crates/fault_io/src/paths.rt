@@ -19,7 +19,9 @@ pub fn is_path(path: &str) -> bool
 fn are_segments(pieces: &[u8]) -> bool
     ensures { result ≡ list_all is_segment (slice_split (λ byte. byte == slash) pieces.now) }
 {
-    pieces.split(|byte| *byte == b'/').all(|piece| is_segment(piece))
+    pieces
+        .split(|byte| *byte == b'/')
+        .all(|piece| is_segment(piece))
 }
 
 /// Whether a piece between slashes is a segment.

@@ -1,6 +1,5 @@
-use Rattle.std.proofs.Common.{rules, ◌≡◌, false, Some, None, bytes_eq, refl}
+use Rattle.std.proofs.Common.{rules, ◌≡◌, false, bytes_eq, refl}
 use Rattle.fault_io.specs.Paths.{root}
-use Rattle.fault_io.specs.Paths as paths
 use Rattle.fault_io.proofs.PathLemmas as lemmas
 use Rattle.fault_io.proofs.paths.after_folder.Goals as goal
 

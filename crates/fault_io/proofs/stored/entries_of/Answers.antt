@@ -1,4 +1,4 @@
-use Rattle.std.proofs.Common.{◌≡◌, ◌+◌, ◌++◌, take, [], ◌∷◌, ap, sym, ◌∙◌}
+use Rattle.std.proofs.Common.{take}
 use Rattle.std.proofs.lemmas.List.{take_more}
 use Rattle.fault_io.proofs.StoredLemmas.{AreEntries-more}
 use Rattle.fault_io.proofs.stored.entries_of.Goals as goal
