@@ -8,3 +8,5 @@ pub mod Plan
 pub mod Paths
 pub mod Stored
 pub mod PathLaws
+pub mod BytesLaws
+pub mod LineLaws
