@@ -1,0 +1,12 @@
+pub mod Faults
+pub mod Bytes
+pub mod Lines
+pub mod Reading
+pub mod View
+pub mod NextLine
+pub mod Plan
+pub mod Paths
+pub mod Stored
+pub mod PathLaws
+pub mod BytesLaws
+pub mod LineLaws

@@ -1,0 +1,64 @@
+//! Readers and writers of std, as standard input and output.
+
+use crate::plan::raise;
+use crate::traits::{Failed, Sink, Source, WriteRefusal};
+use std::alloc::Global;
+use std::io::{Read, Write};
+
+/// A reader of std as a source, with a count of its faults: every error is one. It tells no
+/// content.
+#[derive(Drop)]
+pub struct StdSource<R: Read> {
+    reader: R,
+    faults: u64,
+}
+
+impl<R: Read> StdSource<R> {
+    /// This reader, with no fault yet.
+    pub fn new(reader: R) -> StdSource<R> {
+        StdSource { reader, faults: 0 }
+    }
+}
+
+impl<R: Read> Source for StdSource<R> {
+    ghost faults = { λ s. s.faults };
+
+    fn read(&mut self, buf: &mut [u8]) -> Result<usize, Failed> {
+        match self.reader.read(buf) {
+            Ok(n) => Ok(n),
+            Err(_) => {
+                self.faults = raise(self.faults);
+                Err(Failed)
+            }
+        }
+    }
+}
+
+/// A writer of std as a sink, with a count of its faults: every error is one, and a write that
+/// takes nothing of bytes that there are. It tells no content.
+#[derive(Drop)]
+pub struct StdSink<W: Write> {
+    writer: W,
+    faults: u64,
+}
+
+impl<W: Write> StdSink<W> {
+    /// This writer, with no fault yet.
+    pub fn new(writer: W) -> StdSink<W> {
+        StdSink { writer, faults: 0 }
+    }
+}
+
+impl<W: Write> Sink for StdSink<W> {
+    ghost faults = { λ s. s.faults };
+
+    fn write(&mut self, _alloc: Global, bytes: &[u8]) -> Result<usize, WriteRefusal> {
+        match self.writer.write(bytes) {
+            Ok(n) if n > 0 || bytes.is_empty() => Ok(n),
+            _ => {
+                self.faults = raise(self.faults);
+                Err(WriteRefusal::Failed)
+            }
+        }
+    }
+}

@@ -1,0 +1,4 @@
+pub mod TextLemmas
+pub mod TurnLemmas
+pub mod Progress
+pub mod ServeLemmas

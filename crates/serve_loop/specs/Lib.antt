@@ -1,0 +1,7 @@
+pub mod Event
+pub mod Replies
+pub mod Marks
+pub mod Turn
+pub mod Parts
+pub mod Served
+pub mod Echo

@@ -1,0 +1,18 @@
+//! How serving ends.
+
+/// How serving ended.
+#[derive(Clone, Copy, Debug, PartialEq, Eq)]
+pub enum ServeEnd {
+    /// The source is at its end, and each line is answered.
+    Done,
+    /// As many bytes as the limit for the input were taken, and each line among them is answered.
+    InputSpent,
+    /// The source failed; each line that was taken whole is answered.
+    ReadFault,
+    /// The sink failed; the last reply may be written in part.
+    WriteFault,
+    /// Want of memory between two replies.
+    Memory,
+    /// Want of memory in the sink; the last reply may be written in part.
+    SinkMemory,
+}
