@@ -1,5 +1,5 @@
 -- What a test finds in a list, and what is kept or changed of the list by it, from the places at which it holds.
-use Rattle.std.proofs.Common.{◌≡◌, ℕ, zero, suc, ◌+◌, ◌<◌, ◌≤◌, Bool, true, false, ◌&&◌, List, [], ◌∷◌, ◌++◌, length, get_or, set, take, drop, map, if◌then◌else◌, Option, Some, None, refl, ap, ◌∙◌, arith, drop-cons}
+use Rattle.std.proofs.Common.{◌≡◌, ℕ, zero, suc, ◌<◌, ◌≤◌, Bool, true, false, ◌&&◌, List, [], ◌∷◌, ◌++◌, length, get_or, set, take, drop, map, if◌then◌else◌, Option, Some, None, refl, ap, ◌∙◌, arith, drop-cons}
 use Rattle.std.specs.Prelude.{filter, find}
 use Rattle.std.specs.List.{remove, AllWithin}
 use Rattle.std.specs.Option.{option_map}

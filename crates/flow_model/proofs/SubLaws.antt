@@ -1,8 +1,8 @@
 -- The relation of subtyping is transitive, and the test decides it.
-use Rattle.std.proofs.Common.{◌≡◌, Bool, true, false, refl, sym, subst}
+use Rattle.std.proofs.Common.{◌≡◌, Bool, true, false, refl}
 use Rattle.std.specs.Prelude.{◌&&◌}
 use Rattle.flow_model.specs.declared.subtyping.Rows.{Rows}
-use Rattle.flow_model.specs.Ty.{Ty, invalid, never, null, int, bool, nullable, same_type, bare_of, admits_null}
+use Rattle.flow_model.specs.Ty.{Ty, invalid, never, null, int, bool, nullable, bare_of, admits_null}
 use Rattle.flow_model.specs.Sub.{Sub, same, never_below_all, null_below_nullable, nullable_below, below_nullable, sub}
 use Rattle.flow_model.proofs.SameType.{equal_from_same_type}
 

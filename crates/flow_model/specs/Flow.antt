@@ -1,5 +1,5 @@
 -- Flow models: what is known of the locals at a point of a body, and what scopes do to it.
-use Rattle.std.specs.Prelude.{◌≡◌, ◌≢◌, ◌<◌, ℕ, Bool, true, false, nat_eq, nat_lt, List, [], ◌∷◌, ◌++◌, Option, if◌then◌else◌, filter, map, find, fold, not, refl, AllPairs, length, slice_index_or, ◌≤◌}
+use Rattle.std.specs.Prelude.{◌≢◌, ◌<◌, Bool, true, false, nat_eq, nat_lt, List, [], ◌∷◌, ◌++◌, Option, if◌then◌else◌, filter, map, find, fold, not, refl, AllPairs}
 use Rattle.std.specs.List.{list_any}
 use Rattle.std.specs.Coded.{Coded, code_by, coded×, coded_bool, coded_list}
 use Rattle.flow_model.specs.Ty.{Ty}

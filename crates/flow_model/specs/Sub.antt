@@ -1,14 +1,19 @@
 -- Subtyping: the rules as a relation, and a test that decides it.
-use Rattle.std.specs.Prelude.{Bool, true, false, ◌&&◌, not}
+use Rattle.std.specs.Prelude.{Bool, true, ◌&&◌, not}
 use Rattle.flow_model.specs.Ty.{Ty, invalid, never, null, int, bool, nullable, bare_of, same_type, admits_null}
 use Rattle.flow_model.specs.declared.subtyping.Rows.{Rows}
 
--- s is a subtype of t: one constructor a rule. Of the invalid type no rule speaks but those that speak of all types
+-- s is a subtype of t: one constructor a rule. Of the invalid type only those rules speak that speak of all types
 pub data Sub (rows : Rows) : Ty → Ty → Type 0 where
+  -- a type is a subtype of itself
   same : {t : Ty} → Sub rows t t
+  -- Never is a subtype of each type
   never_below_all : {t : Ty} → Sub rows never t
+  -- Null is a subtype of `U?`
   null_below_nullable : {u : Ty} → Sub rows null (nullable u)
+  -- `U?` is a subtype of T where U and Null are
   nullable_below : {u t : Ty} → Sub rows u t → Sub rows null t → Sub rows (nullable u) t
+  -- S is a subtype of `U?` where it is one of U
   below_nullable : {s u : Ty} → Sub rows s u → Sub rows s (nullable u)
 
 -- whether s is a subtype of t

@@ -81,8 +81,8 @@ impl Facts {
             types.push(tested.copy(alloc)?)?;
         }
         types.push(self.ty.non_null(alloc)?)?;
-        for nullable in self.tested.as_slice() {
-            types.push(nullable.non_null(alloc)?)?;
+        for t in self.tested.as_slice() {
+            types.push(t.non_null(alloc)?)?;
         }
         Ok(types)
     }

@@ -1,5 +1,5 @@
-//! Laws of flow models, in the words of their definitions. Each is a contract alone: its function
-//! does nothing.
+//! Laws of flow models, in the words of their definitions. Each is the contract of a function that
+//! does no work.
 
 ghost use Rattle.std.specs.Prelude.{◌≡◌, ◌≢◌, true, false, All, Some, find, IsNone, IsSome, [], ◌∷◌};
 ghost use Rattle.std.specs.Option.{option_map, option_map_or};

@@ -29,7 +29,7 @@ pub struct Facts {
     pub var: LocalId,
     /// Its declared type.
     pub ty: DartType,
-    /// The types that it was promoted to, each a proper subtype of the one before.
+    /// The types that it was promoted to, the current one last.
     pub chain: TypeList,
     /// The types that it was tested for.
     pub tested: TypeList,

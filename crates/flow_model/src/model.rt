@@ -52,8 +52,8 @@ impl Flow {
         Ok(flow)
     }
 
-    /// Puts a local in scope, at the cost of a search and of the locals of greater numbers. After an
-    /// `Err` the model is as before.
+    /// Puts a local in scope. This costs a search and a move of the locals of greater numbers, of
+    /// which a declaration in the order of the text has none. After an `Err` the model is as before.
     pub fn declare(&mut self, alloc: Global, var: &LocalDecl) -> Result<(), AllocError>
         requires { IsNone (facts_of self.old var.now.var) }
         ensures ok { OnOk result (self.new ≡ declare_of self.old var.now) }
@@ -69,8 +69,9 @@ impl Flow {
         }
     }
 
-    /// Takes these locals out of scope; one that isn't in scope is passed over. It takes no memory,
-    /// and costs a search for each and the locals of greater numbers that stay.
+    /// Takes these locals out of scope; one that isn't in scope is passed over. It takes no memory.
+    /// Each costs a search and a move of the locals of greater numbers, the last of the list first,
+    /// so that nothing is moved where those declared last are ended in the order of the text.
     pub fn end(&mut self, vars: &[LocalId])
         ensures { self.new ≡ end_of self.old vars.now }
     {
@@ -125,6 +126,26 @@ impl Flow {
     {
         match self.facts(var) {
             Some(facts) => facts.assigned,
+            None => false,
+        }
+    }
+
+    /// Whether a local has no value for certain; false for one that isn't in scope.
+    pub fn is_unassigned(&self, var: LocalId) -> bool
+        ensures { result ≡ option_map_or (λ l. l.unassigned) (facts_of self.now var) false }
+    {
+        match self.facts(var) {
+            Some(facts) => facts.unassigned,
+            None => false,
+        }
+    }
+
+    /// Whether a function that writes a local may have been made; false for one that isn't in scope.
+    pub fn is_captured(&self, var: LocalId) -> bool
+        ensures { result ≡ option_map_or (λ l. l.captured) (facts_of self.now var) false }
+    {
+        match self.facts(var) {
+            Some(facts) => facts.captured,
             None => false,
         }
     }

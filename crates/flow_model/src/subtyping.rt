@@ -12,7 +12,9 @@ pub struct Rows {}
 
 impl Rows {
     /// The rows of no classes.
-    pub fn new() -> Rows {
+    pub fn new() -> Rows
+        ensures { result ≡ record {} }
+    {
         Rows {}
     }
 

@@ -1,5 +1,4 @@
-use Rattle.std.proofs.Common.{◌≡◌, ◌∙◌, ◌∷◌, [], true, Some, ap, sym, arith, add-one}
-use Rattle.std.specs.Prelude.{find}
+use Rattle.std.proofs.Common.{◌≡◌, ◌∙◌, true, ap, sym, add-one}
 use Rattle.std.specs.List.{list_all}
 use Rattle.flow_model.specs.Ty.{Ty}
 use Rattle.flow_model.specs.Sub.{sub}

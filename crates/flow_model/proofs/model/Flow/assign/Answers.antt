@@ -1,6 +1,6 @@
-use Rattle.std.proofs.Common.{◌≡◌, sym, ap, ◌∙◌, List, IsSome, subst, set}
+use Rattle.std.proofs.Common.{sym, ap, ◌∙◌, set}
 use Rattle.flow_model.specs.declared.locals.Facts.{Facts}
-use Rattle.flow_model.specs.Flow.{FlowModel, facts_of, at_local}
+use Rattle.flow_model.specs.Flow.{FlowModel}
 use Rattle.flow_model.specs.Assign.{assign_facts}
 use Rattle.flow_model.proofs.Places.{not_some, map_there}
 use Rattle.flow_model.proofs.Scopes.{with_locals}

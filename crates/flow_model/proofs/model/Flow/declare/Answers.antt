@@ -1,4 +1,4 @@
-use Rattle.std.proofs.Common.{◌≡◌, sym, ap, ◌∙◌, List, IsNone, subst}
+use Rattle.std.proofs.Common.{sym, ap, ◌∙◌, List, IsNone, subst}
 use Rattle.std.specs.List.{insert}
 use Rattle.flow_model.specs.declared.locals.Facts.{Facts}
 use Rattle.flow_model.specs.Flow.{FlowModel, fresh_facts, facts_of}

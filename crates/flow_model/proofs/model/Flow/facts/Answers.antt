@@ -1,6 +1,6 @@
-use Rattle.std.proofs.Common.{◌≡◌, ◌∙◌, sym, ap, subst, Some}
+use Rattle.std.proofs.Common.{◌∙◌, sym, ap, Some}
 use Rattle.flow_model.specs.declared.locals.Facts.{Facts}
-use Rattle.flow_model.specs.Flow.{IsInOrder, FlowModel}
+use Rattle.flow_model.specs.Flow.{FlowModel}
 use Rattle.flow_model.proofs.Places.{find_there, find_absent}
 use Rattle.flow_model.proofs.model.Flow.facts.Goals as goal
 

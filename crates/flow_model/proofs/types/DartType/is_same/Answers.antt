@@ -1,4 +1,4 @@
-use Rattle.std.proofs.Common.{◌≡◌, ◌∙◌, sym, true, ap}
+use Rattle.std.proofs.Common.{◌∙◌, sym, ap}
 use Rattle.flow_model.specs.Ty.{same_type}
 use Rattle.flow_model.proofs.SameType.{same_type-refl, equal_from_same_type}
 use Rattle.flow_model.proofs.types.DartType.is_same.Goals as goal
