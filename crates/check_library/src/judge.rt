@@ -10,7 +10,7 @@ ghost use Rattle.judgement.specs.Judgement.{faults_of};
 ghost use Rattle.check_library.specs.Judged.{no_rows};
 
 use crate::names::BlockNames;
-use dart_tree::{Place, Unit};
+use dart_tree::{Block, Function, Place, Unit};
 use flow_model::{DartType, Flow, Rows};
 use judgement::{DiagnosticCode, Fault};
 use statements::judge_block;
@@ -21,10 +21,25 @@ use std::alloc::{AllocError, Global};
 pub fn judge_unit(alloc: Global, unit: &Unit) -> Result<Vec<Fault>, AllocError>
     ensures { IfOk result (λ faults. faults.items ≡ faults_of no_rows unit.now) }
 {
+    let faults = judge_main(alloc, &unit.main)?;
+    Ok(faults)
+}
+
+// The diagnostics of the function of a unit.
+fn judge_main(alloc: Global, main: &Function) -> Result<Vec<Fault>, AllocError>
+    ensures { IfOk result (λ faults. faults.items ≡ faults_of no_rows main.now) }
+{
+    let faults = judge_body(alloc, &main.body)?;
+    Ok(faults)
+}
+
+// The diagnostics of its body, from nothing known.
+fn judge_body(alloc: Global, body: &Block) -> Result<Vec<Fault>, AllocError>
+    ensures { IfOk result (λ faults. faults.items ≡ faults_of no_rows body.now) }
+{
     let mut flow = Flow::start(alloc, &[])?;
     let mut faults = Vec::new(alloc);
-    let statements = &unit.main.body.statements;
-    judge_block(alloc, &Rows::new(), statements, &mut flow, &mut faults)?;
+    judge_block(alloc, &Rows::new(), &body.statements, &mut flow, &mut faults)?;
     Ok(faults)
 }
 
