@@ -1,2 +1,4 @@
 pub mod Ahead
 pub mod Meanings
+pub mod Reports
+pub mod SortedKeys

@@ -39,7 +39,13 @@ fn judge_body(alloc: Global, body: &Block) -> Result<Vec<Fault>, AllocError>
 {
     let mut flow = Flow::start(alloc, &[])?;
     let mut faults = Vec::new(alloc);
-    judge_block(alloc, &Rows::new(), &body.statements, &mut flow, &mut faults)?;
+    judge_block(
+        alloc,
+        &Rows::new(),
+        &body.statements,
+        &mut flow,
+        &mut faults,
+    )?;
     Ok(faults)
 }
 

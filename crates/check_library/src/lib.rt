@@ -8,6 +8,8 @@
 
 mod judge;
 mod names;
+mod order;
 
 pub use judge::judge_unit;
 pub use names::BlockNames;
+pub use order::{earlier_and_shorter_come_first, reports_are_in_order, sorted};
