@@ -4,3 +4,7 @@ pub mod ScanLemmas
 pub mod LiteralLemmas
 pub mod ParseLemmas
 pub mod Agreement
+pub mod Ahead
+pub mod Meanings
+pub mod Reports
+pub mod SortedKeys

@@ -5,3 +5,6 @@ pub mod Tokens
 pub mod Literals
 pub mod Grammar
 pub mod Descents
+pub mod Judged
+pub mod Order
+pub mod Diagnostics

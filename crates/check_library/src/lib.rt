@@ -1,8 +1,22 @@
-//! The check of one library.
+//! The check of a library: from the text of a file to its diagnostics.
+//!
+//! `check` gives exactly `diagnostics text` of `specs/Diagnostics.antt`: the tokens of the text
+//! (`specs/Pieces.antt`, `specs/Tokens.antt`), its tree by the grammar (`specs/Grammar.antt`), and
+//! what the judgement says of the tree, in order (`specs/Order.antt`). Scanner, parser and judge are
+//! private parts. The crate stands on the trees, the combinators of grammars, the flow models and
+//! the judgement.
 #![tactic(auto)]
 
+mod check;
+mod judge;
 mod literal;
+mod names;
+mod order;
 mod parse;
 mod scan;
 mod token;
 mod tree;
+
+pub use check::{Checked, Diagnostics, check};
+pub use order::{earlier_and_shorter_come_first, reports_are_in_order};
+

@@ -5,7 +5,9 @@
 pub struct NodeId(pub u32);
 
 /// A range of the text, from its first to past its last UTF-16 code unit, counted from 0.
-#[derive(Clone, Copy, Debug, PartialEq, Eq)]
+///
+/// Ranges are ordered by their start, and those of one start by their end.
+#[derive(Clone, Copy, Debug, PartialEq, Eq, PartialOrd, Ord)]
 pub struct Span {
     pub start: u32,
     pub end: u32,

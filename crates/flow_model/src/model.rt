@@ -106,6 +106,16 @@ impl Flow {
         }
     }
 
+    /// The declared type of a local: None exactly where it isn't in scope.
+    pub fn declared(&self, var: LocalId) -> Option<&DartType>
+        ensures { option_copied result ≡ option_map (λ l. l.ty) (facts_of self.now var) }
+    {
+        match self.facts(var) {
+            Some(facts) => Some(&facts.ty),
+            None => None,
+        }
+    }
+
     /// Whether a local is in scope.
     pub fn is_in_scope(&self, var: LocalId) -> bool
         ensures { result ≡ is_some (facts_of self.now var) }

@@ -52,5 +52,7 @@ run_block rows statements m = and_then (run_all rows (names_of statements) state
 
 -- the diagnostics of a unit: those of its function's body, from nothing known
 abbrev pub faults_of : Rows → Tree → List Fault
-faults_of rows (unit at (function at' (block at'' statements))) = (run_block rows statements (start_of [])).faults
+faults_of rows (unit at main) = faults_of rows main
+faults_of rows (function at body) = faults_of rows body
+faults_of rows (block at statements) = (run_block rows statements (start_of [])).faults
 faults_of rows _ = []

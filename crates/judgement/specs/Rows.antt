@@ -14,6 +14,7 @@ use Rattle.flow_model.specs.Flow.{FlowModel, facts_of, at_local, current_of, dec
 use Rattle.flow_model.specs.Assign.{assign_facts}
 use Rattle.flow_model.specs.declared.locals.LocalId.{LocalId}
 use Rattle.flow_model.specs.declared.locals.Facts.{Facts}
+use Rattle.flow_model.specs.declared.locals.LocalDecl.{LocalDecl}
 use Rattle.flow_model.specs.declared.subtyping.Rows.{Rows}
 use Rattle.judgement.specs.declared.Fault.{Fault}
 use Rattle.judgement.specs.declared.DiagnosticCode.{DiagnosticCode}
@@ -84,10 +85,13 @@ is_invalid t = same_type (bare_of t) invalid
 abbrev pub fits : Rows → Ty → Ty → Bool
 fits rows s t = is_invalid s || (is_invalid t || sub rows s t)
 
+-- a value of the type s, which stands at the place, is written where t is wanted
+abbrev pub fit_faults : Rows → Place → Ty → Ty → List Fault
+fit_faults rows at s t = if fits rows s t then [] else fault_at at InvalidAssignment
+
 -- a local is written with a value of the type that stands at the place; a misfit is written all the same
 abbrev pub written_row : Rows → Place → Ty → LocalId → Facts → FlowModel → Outcome
-written_row rows at ty var local m =
-    record { after = at_local m var (assign_facts rows ty); faults = (if fits rows ty local.ty then [] else fault_at at InvalidAssignment) }
+written_row rows at ty var local m = record { after = at_local m var (assign_facts rows ty); faults = fit_faults rows at ty local.ty }
 
 -- a write of a local of which this is known
 abbrev pub write_row : Rows → Place → Place → Ty → LocalId → Option Facts → FlowModel → Outcome
@@ -100,16 +104,16 @@ assign_row rows names target at ty m =
     option_map_or (λ var. write_row rows target.at at ty var (facts_of m var) m) (get names target.word) (complains target.at UndefinedName m)
 
 -- A variable that admits null and has no initializer starts as null; any other has no value before it is assigned.
-abbrev pub declared_row : Ty → LocalId → (initialized : Bool) → FlowModel → FlowModel
-declared_row ty var initialized m =
+abbrev pub declared_local : Ty → LocalId → (initialized : Bool) → LocalDecl
+declared_local ty var initialized =
     let null = admits_null ty && not initialized in
-    declare_of m (record { var = var; ty = ty; assigned = null; unassigned = not null })
+    record { var = var; ty = ty; assigned = null; unassigned = not null }
 
 -- A declaration without initializer: the local comes into scope, unless the block has declared its name before.
 abbrev pub declare_row : Names → Name → Ty → FlowModel → Outcome
 declare_row names variable ty m =
     option_map_or
-    (λ var. if is_some (facts_of m var) then complains variable.at DuplicateDefinition m else just (declared_row ty var false m))
+    (λ var. if is_some (facts_of m var) then complains variable.at DuplicateDefinition m else just (declare_of m (declared_local ty var false)))
     (get names variable.word) (just m)
 
 -- what follows the initializer, which has this type: the local comes into scope with its value, unless the block has declared its name before
@@ -117,5 +121,5 @@ abbrev pub initialize_row : Rows → Names → Name → Ty → Place → Ty → 
 initialize_row rows names variable ty at value m =
     option_map_or
     (λ var. if is_some (facts_of m var) then complains variable.at DuplicateDefinition m
-    else record { after = at_local (declared_row ty var true m) var (assign_facts rows value); faults = (if fits rows value ty then [] else fault_at at InvalidAssignment) })
+    else record { after = at_local (declare_of m (declared_local ty var true)) var (assign_facts rows value); faults = fit_faults rows at value ty })
     (get names variable.word) (just m)

@@ -30,7 +30,9 @@ pub enum DiagnosticCode {
 }
 
 /// Something wrong in a text, and where: in UTF-16 code units, from 0.
-#[derive(Clone, Copy, Debug, PartialEq, Eq)]
+///
+/// Diagnostics are ordered by where they stand, and those of one place by their codes' names.
+#[derive(Clone, Copy, Debug, PartialEq, Eq, PartialOrd, Ord)]
 pub struct Fault {
     pub span: Span,
     pub code: DiagnosticCode,

@@ -1,0 +1,6 @@
+use Rattle.check_library.proofs.judge.judge_body.Goals as goal
+
+pub returns : goal.returns
+returns c =
+    rw (← c.body.view_is)
+    (rw (c.new-faults.ensures.items, c.deref.ensures.value, c.in_ok-flow.ensures) at c.in_ok-judge_block.ensures.faults_are)
