@@ -7,8 +7,8 @@
 //! the judgement.
 #![tactic(auto)]
 
-mod check;
 mod judge;
+mod library;
 mod literal;
 mod names;
 mod order;
@@ -17,6 +17,5 @@ mod scan;
 mod token;
 mod tree;
 
-pub use check::{Checked, Diagnostics, check};
+pub use library::{Checked, Diagnostics, check};
 pub use order::{earlier_and_shorter_come_first, reports_are_in_order};
-
