@@ -1,0 +1,36 @@
+-- What a row says of a code.
+use Rattle.std.specs.Prelude.{ℕ, List, [], ◌∷◌, ◌++◌, map, codes, if◌then◌else◌, ◌==◌}
+use Rattle.std.specs.Str.{byte}
+use Rattle.std.specs.Char.{to_ascii_uppercase}
+use Rattle.judgement.specs.declared.DiagnosticCode.{DiagnosticCode}
+use Rattle.judgement.specs.declared.DiagnosticCode.TheVariants.{DuplicateDefinition, IntegerLiteralOutOfRange, InvalidAssignment, ReferencedBeforeDeclaration, SyntaxError, UnassignedRead, UndefinedName}
+use Rattle.proto_json.specs.declared.reply.ErrorKind.{ErrorKind}
+use Rattle.proto_json.specs.declared.reply.ErrorKind.TheVariants.{SyntacticError, CompileTimeError}
+
+-- the name of a code
+abbrev pub name_of : DiagnosticCode → List ℕ
+name_of DuplicateDefinition = codes "duplicate_definition"
+name_of IntegerLiteralOutOfRange = codes "integer_literal_out_of_range"
+name_of InvalidAssignment = codes "invalid_assignment"
+name_of ReferencedBeforeDeclaration = codes "referenced_before_declaration"
+name_of SyntaxError = codes "syntax_error"
+name_of UnassignedRead = codes "unassigned_read"
+name_of UndefinedName = codes "undefined_name"
+
+-- the words of a name: a space stands for each low line
+abbrev pub words_of : List ℕ → List ℕ
+words_of name = map (λ b. if b == byte "_" then byte " " else b) name
+
+-- the text with its first letter in upper case
+abbrev pub capitalized : List ℕ → List ℕ
+capitalized [] = []
+capitalized (first ∷ rest) = to_ascii_uppercase first ∷ rest
+
+-- the sentence of a code: the words of its name, the first letter in upper case, and a full stop
+abbrev pub message_of : DiagnosticCode → List ℕ
+message_of code = capitalized (words_of (name_of code)) ++ codes "."
+
+-- the kind of a code: a text outside the grammar is a syntactic error, every other a compile-time error
+abbrev pub kind_of : DiagnosticCode → ErrorKind
+kind_of SyntaxError = SyntacticError
+kind_of _ = CompileTimeError

@@ -1,0 +1,32 @@
+-- The rows of faults.
+use Rattle.std.specs.Prelude.{ℕ, ◌-◌, List, map}
+use Rattle.judgement.specs.declared.Fault.{Fault}
+use Rattle.proto_json.specs.declared.reply.ErrorRow.{ErrorRow}
+use Rattle.proto_json.specs.declared.reply.Severity.TheVariants.{Error}
+use Rattle.diagnostics.specs.declared.cursor.Position.{Position}
+use Rattle.diagnostics.specs.Codes.{name_of, message_of, kind_of}
+use Rattle.diagnostics.specs.Lines.{position_of}
+
+-- the row of a fault in a file, which starts at this position
+abbrev pub row_at : (file : List ℕ) → Position → Fault → ErrorRow
+row_at file position fault = record {
+  code = name_of fault.code;
+  location = record {
+    file = file;
+    offset = fault.span.start;
+    length = fault.span.end - fault.span.start;
+    start_line = position.line;
+    start_column = position.column
+  };
+  message = message_of fault.code;
+  severity = Error;
+  kind = kind_of fault.code
+}
+
+-- the row of a fault: it starts at the position of its first code unit
+abbrev pub row_of : (file text : List ℕ) → Fault → ErrorRow
+row_of file text fault = row_at file (position_of fault.span.start text) fault
+
+-- the rows of the faults of a file's text, one for each, in their order
+abbrev pub rows_of : (file text : List ℕ) → List Fault → List ErrorRow
+rows_of file text faults = map (row_of file text) faults

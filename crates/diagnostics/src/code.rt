@@ -1,0 +1,48 @@
+//! What a row says of a code.
+
+ghost use Rattle.std.specs.Prelude.{◌≡◌};
+ghost use Rattle.diagnostics.specs.Codes.{name_of, message_of, kind_of};
+
+use judgement::DiagnosticCode;
+use proto_json::ErrorKind;
+
+/// The name of a code, such as `unassigned_read`.
+pub fn code_name(code: DiagnosticCode) -> &'static str
+    ensures { result.now ≡ name_of code }
+{
+    match code {
+        DiagnosticCode::DuplicateDefinition => "duplicate_definition",
+        DiagnosticCode::IntegerLiteralOutOfRange => "integer_literal_out_of_range",
+        DiagnosticCode::InvalidAssignment => "invalid_assignment",
+        DiagnosticCode::ReferencedBeforeDeclaration => "referenced_before_declaration",
+        DiagnosticCode::SyntaxError => "syntax_error",
+        DiagnosticCode::UnassignedRead => "unassigned_read",
+        DiagnosticCode::UndefinedName => "undefined_name",
+    }
+}
+
+/// The sentence that a person reads, such as `Unassigned read.`: the name with a space for each
+/// low line, its first letter in upper case, and a full stop.
+pub fn message(code: DiagnosticCode) -> &'static str
+    ensures { result.now ≡ message_of code }
+{
+    match code {
+        DiagnosticCode::DuplicateDefinition => "Duplicate definition.",
+        DiagnosticCode::IntegerLiteralOutOfRange => "Integer literal out of range.",
+        DiagnosticCode::InvalidAssignment => "Invalid assignment.",
+        DiagnosticCode::ReferencedBeforeDeclaration => "Referenced before declaration.",
+        DiagnosticCode::SyntaxError => "Syntax error.",
+        DiagnosticCode::UnassignedRead => "Unassigned read.",
+        DiagnosticCode::UndefinedName => "Undefined name.",
+    }
+}
+
+/// The protocol's AnalysisErrorType of a code.
+pub fn error_kind(code: DiagnosticCode) -> ErrorKind
+    ensures { result ≡ kind_of code }
+{
+    match code {
+        DiagnosticCode::SyntaxError => ErrorKind::SyntacticError,
+        _ => ErrorKind::CompileTimeError,
+    }
+}

@@ -1,0 +1,62 @@
+//! The rows of faults.
+
+ghost use Rattle.std.specs.Prelude.{◌≡◌, ◌≤◌, length, IfOk};
+ghost use Rattle.proto_json.specs.SourceTexts.{max_text};
+ghost use Rattle.diagnostics.specs.Rendering.{row_at, rows_of};
+
+use crate::code::{code_name, error_kind, message};
+use crate::cursor::{Cursor, Position};
+use judgement::Fault;
+use plain_text::PlainText;
+use proto_json::{ErrorRow, ErrorRows, Location, Severity};
+use std::alloc::{AllocError, Global};
+
+// The row of a fault that starts at the position.
+fn render_at(
+    alloc: Global,
+    file: &str,
+    position: Position,
+    fault: Fault,
+) -> Result<ErrorRow, AllocError>
+    ensures { IfOk result (λ row. row ≡ row_at file.now position fault) }
+{
+    let code = PlainText::new(alloc, code_name(fault.code))?;
+    let file = PlainText::new(alloc, file)?;
+    let message = PlainText::new(alloc, message(fault.code))?;
+    Ok(ErrorRow {
+        code,
+        location: Location {
+            file,
+            offset: fault.span.start,
+            length: fault.span.end.saturating_sub(fault.span.start),
+            start_line: position.line,
+            start_column: position.column,
+        },
+        message,
+        severity: Severity::Error,
+        kind: error_kind(fault.code),
+    })
+}
+
+/// The rows of the faults of a file's text, in their order. Where the faults stand in the order of
+/// their offsets, the text is gone over once; for each that stands before the one that it follows
+/// the walk begins anew.
+pub fn render(
+    alloc: Global,
+    file: &str,
+    text: &str,
+    faults: &[Fault],
+) -> Result<ErrorRows, AllocError>
+    requires { length text.now ≤ max_text }
+    ensures { IfOk result (λ rows. rows ≡ rows_of file.now text.now faults.now) }
+{
+    let text = text.as_bytes();
+    let mut cursor = Cursor::START;
+    let mut rows = Vec::new(alloc);
+    for fault in faults {
+        cursor = cursor.moved_to(text, fault.span.start);
+        let row = render_at(alloc, file, cursor.position, *fault)?;
+        rows.push(row)?;
+    }
+    Ok(ErrorRows::from_vec(rows))
+}
