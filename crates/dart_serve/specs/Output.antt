@@ -1,0 +1,70 @@
+-- The whole output of the program.
+use Rattle.std.specs.Prelude.{◌≡◌, ℕ, ◌<◌, Bool, true, false, List, [], ◌∷◌, ◌++◌, codes, bytes_eq, length, take, Option}
+use Rattle.std.specs.Option.{ForSome}
+use Rattle.fault_io.specs.Bytes.{and_then}
+use Rattle.fault_io.specs.Stored.{Stored}
+use Rattle.serve_loop.specs.Served.{Served}
+use Rattle.serve_loop.specs.declared.end.ServeEnd.{ServeEnd}
+use Rattle.serve_loop.specs.declared.end.ServeEnd.TheVariants as End
+use Rattle.protocol_rules.specs.Turns.{at_start, reply_to, state_after}
+use Rattle.dart_serve.specs.declared.status.Status.{Status}
+use Rattle.dart_serve.specs.declared.status.Status.TheVariants.{Done, Errors, Refused, Threw, Memory, StepsSpent, ReadFault, WriteFault, FilesFault, InputSpent}
+
+-- the one command: the single word `serve`
+abbrev pub is_serve : List (List ℕ) → Bool
+is_serve [] = false
+is_serve (word ∷ []) = bytes_eq word (codes "serve")
+is_serve (word ∷ (more ∷ words)) = false
+
+-- what is written where the words are no command
+abbrev pub usage_line : List ℕ
+usage_line = codes "usage: dart_serve serve|check FILE|run FILE|make N [options]" ++ 10 ∷ []
+
+-- the status of an end of serving
+abbrev pub status_for : ServeEnd → Status
+status_for End.Done = Done
+status_for End.InputSpent = InputSpent
+status_for End.ReadFault = ReadFault
+status_for End.WriteFault = WriteFault
+status_for End.Memory = Memory
+status_for End.SinkMemory = Memory
+
+-- Under `serve`: the replies to the lines of the input, over the texts then current, as far as the end of serving says.
+pub record ServeOutput (told : Option Stored) (input : List ℕ) (old new left : Option (List ℕ)) (faults faults' : ℕ) (status : Status) : Type 0 where
+  pub end : ServeEnd
+  pub status_is : status ≡ status_for end
+  pub served : Served (λ _. false) (λ s. reply_to s told) (λ s. state_after s told) 16777216 1099511627776 at_start input old new left faults faults' end
+
+-- a front of the usage line that isn't all of it
+abbrev pub PartOfUsage : Option (List ℕ) → Option (List ℕ) → Type 0
+PartOfUsage old new = (n : ℕ) × (n < length usage_line) × (new ≡ and_then old (take n usage_line))
+
+-- what is written where the words are refused
+abbrev pub RefusedOutput : Status → Option (List ℕ) → Option (List ℕ) → Type 0
+RefusedOutput Refused old new = new ≡ and_then old usage_line
+RefusedOutput WriteFault old new = PartOfUsage old new
+RefusedOutput Memory old new = PartOfUsage old new
+RefusedOutput Done old new = ⊥
+RefusedOutput Errors old new = ⊥
+RefusedOutput Threw old new = ⊥
+RefusedOutput StepsSpent old new = ⊥
+RefusedOutput ReadFault old new = ⊥
+RefusedOutput FilesFault old new = ⊥
+RefusedOutput InputSpent old new = ⊥
+
+-- The statuses that the program may have: under `serve` those of its ends, for other words that of the refusal, or of a sink that didn't take the usage line.
+abbrev pub MayEnd : (serving : Bool) → Status → Type 0
+MayEnd true Done = Unit {0}
+MayEnd true Memory = Unit {0}
+MayEnd true ReadFault = Unit {0}
+MayEnd true WriteFault = Unit {0}
+MayEnd true InputSpent = Unit {0}
+MayEnd false Refused = Unit {0}
+MayEnd false Memory = Unit {0}
+MayEnd false WriteFault = Unit {0}
+MayEnd _ _ = ⊥
+
+-- What the program writes, and its status: one field for each command.
+pub record Output (words : List (List ℕ)) (told : Option Stored) (from : Option (List ℕ)) (old new left : Option (List ℕ)) (faults faults' : ℕ) (status : Status) : Type 0 where
+  pub serves : is_serve words ≡ true → ForSome from (λ input. ServeOutput told input old new left faults faults' status)
+  pub refuses : is_serve words ≡ false → RefusedOutput status old new

@@ -1,0 +1,183 @@
+//! A session: what a client has given, and the replies to its requests.
+
+ghost use Rattle.std.specs.Prelude.{◌≡◌, nat_eq, codes, [], Some, IfOk, option_map, option_copied};
+ghost use Rattle.std.specs.List.{ends_with};
+ghost use Rattle.serve_loop.specs.Event.{event_of, line as line_event};
+ghost use Rattle.proto_json.specs.Requests.{answer};
+ghost use Rattle.protocol_rules.specs.Turns.{at_start, invalid_turn, update_turn, analyzed, errors_body, errors_turn, asked_turn, request_turn, bytes_of};
+ghost use Rattle.dart_serve.specs.Said.{Gives, Answered};
+
+use check_library::check;
+use diagnostics::render;
+use fault_io::Files;
+use plain_text::PlainText;
+use proto_json::{
+    Asked, Code, ReplyBody, Request, RequestRefusal, SourceText, read_request, write_reply,
+};
+use protocol_rules::{Contents, Texts, is_skipped};
+use serve_loop::{Answerer, Heard};
+use std::alloc::{AllocError, Global};
+
+/// A reply, before it is written.
+#[derive(Drop)]
+pub struct Said {
+    id: PlainText,
+    body: ReplyBody,
+}
+
+/// What is said to a line that is no request.
+fn invalid(alloc: Global, contents: &Contents) -> Result<Said, AllocError>
+    ensures { IfOk result (λ said. Gives said contents.now (invalid_turn contents.now)) }
+{
+    let id = PlainText::new(alloc, "")?;
+    let body = ReplyBody::Error(Code::InvalidRequest);
+    Ok(Said { id, body })
+}
+
+/// The file has the text from now on.
+fn update(
+    contents: &mut Contents,
+    id: PlainText,
+    path: PlainText,
+    content: SourceText,
+) -> Result<Said, AllocError>
+    ensures { IfOk result (λ said. Gives said contents.new (update_turn contents.old id path content)) }
+{
+    contents.texts.put(path, content)?;
+    let body = ReplyBody::Plain;
+    Ok(Said { id, body })
+}
+
+/// The name ends in `.dart`.
+fn is_dart(file: &str) -> bool
+    ensures { result ≡ ends_with nat_eq file.now (codes ".dart") }
+{
+    file.ends_with(".dart")
+}
+
+/// The text of the file, if it is analyzed.
+fn analyzed<'c>(contents: &'c Contents, file: &str) -> Option<&'c SourceText>
+    ensures { option_copied result ≡ analyzed contents.now file.now }
+{
+    if is_dart(file) {
+        contents.texts.get(file)
+    } else {
+        None
+    }
+}
+
+/// The errors of the file as its text now stands.
+fn errors(alloc: Global, contents: &Contents, id: PlainText, file: &str) -> Result<Said, AllocError>
+    ensures { IfOk result (λ said. Gives said contents.now (errors_turn contents.now id file.now)) }
+{
+    let Some(text) = analyzed(contents, file) else {
+        let body = ReplyBody::Error(Code::GetErrorsInvalidFile);
+        return Ok(Said { id, body });
+    };
+    let checked = check(alloc, file, text.as_str())?;
+    let rows = render(alloc, file, text.as_str(), checked.diagnostics.as_slice())?;
+    let body = ReplyBody::Errors(rows);
+    Ok(Said { id, body })
+}
+
+/// What is said to a request.
+fn said_to_request(alloc: Global, contents: &mut Contents, asked: Asked) -> Result<Said, AllocError>
+    ensures { IfOk result (λ said. Gives said contents.new (asked_turn contents.old asked.id asked.request)) }
+{
+    let Asked { id, request } = asked;
+    match request {
+        Request::Update { path, content } => update(contents, id, path, content),
+        Request::GetErrors { file } => errors(alloc, contents, id, file.as_str()),
+    }
+}
+
+/// What is said to a line that isn't skipped.
+fn said_to_line(alloc: Global, contents: &mut Contents, line: &[u8]) -> Result<Said, AllocError>
+    ensures { IfOk result (λ said. Gives said contents.new (request_turn contents.old (answer line.now))) }
+{
+    match read_request(alloc, line) {
+        Ok(asked) => said_to_request(alloc, contents, asked),
+        Err(RequestRefusal::Refused { id, code }) => {
+            let body = ReplyBody::Error(code);
+            Ok(Said { id, body })
+        }
+        Err(RequestRefusal::Memory) => Err(AllocError),
+    }
+}
+
+/// The bytes of a reply.
+fn written(alloc: Global, said: &Said) -> Result<Option<Vec<u8>>, AllocError>
+    ensures { IfOk result (λ bytes. (contents : Contents) → option_map (λ v. v.items) bytes ≡ Some (bytes_of (record { id = said.now.id; body = said.now.body; after = contents }))) }
+{
+    let bytes = write_reply(alloc, said.id.as_str(), &said.body)?;
+    Ok(Some(bytes))
+}
+
+/// A session: the contents that its client has given.
+#[derive(Drop)]
+pub struct Session {
+    contents: Contents,
+}
+
+impl Session {
+    /// A session to which nothing was given yet.
+    pub fn new(alloc: Global) -> Session
+        ensures { result.contents ≡ at_start }
+    {
+        Session {
+            contents: Contents {
+                texts: Texts::new(alloc),
+            },
+        }
+    }
+
+    /// The reply to a line, and None where it is skipped.
+    fn reply_to_line(&mut self, alloc: Global, line: &[u8]) -> Result<Option<Vec<u8>>, AllocError>
+        ensures { IfOk result (λ bytes. Answered (option_map (λ v. v.items) bytes) self.old.contents self.new.contents (line_event line.now)) }
+    {
+        if is_skipped(line) {
+            return Ok(None);
+        }
+        let said = said_to_line(alloc, &mut self.contents, line)?;
+        let bytes = written(alloc, &said)?;
+        Ok(bytes)
+    }
+
+    /// The reply to an event, and None where it has none.
+    fn reply_to(&mut self, alloc: Global, heard: Heard<'_>) -> Result<Option<Vec<u8>>, AllocError>
+        ensures { IfOk result (λ bytes. Answered (option_map (λ v. v.items) bytes) self.old.contents self.new.contents (event_of heard.entry)) }
+    {
+        match heard {
+            Heard::Line(line) => self.reply_to_line(alloc, line),
+            Heard::TooLong => {
+                let said = invalid(alloc, &self.contents)?;
+                let bytes = written(alloc, &said)?;
+                Ok(bytes)
+            }
+        }
+    }
+}
+
+impl Answerer for Session {
+    type State = Contents;
+
+    ghost use Rattle.std.specs.Prelude.{false};
+    ghost use Rattle.protocol_rules.specs.Turns.{reply_to, state_after};
+
+    ghost state = { λ s. s.contents };
+
+    ghost reply = { reply_to };
+
+    ghost next = { state_after };
+
+    ghost uses = { λ _. false };
+
+    fn answer<F: Files>(
+        &mut self,
+        alloc: Global,
+        heard: Heard<'_>,
+        _files: &mut F,
+    ) -> Result<Option<Vec<u8>>, AllocError> {
+        self.reply_to(alloc, heard)
+    }
+}

@@ -1,0 +1,85 @@
+-- The reply to an event, and the state after it.
+use Rattle.std.specs.Prelude.{ℕ, List, [], ◌∷◌, Bool, codes, if◌then◌else◌, nat_eq, Option, None, Some, option_map, Result, Ok, Err}
+use Rattle.std.specs.List.{ends_with}
+use Rattle.std.specs.Option.{option_map_or}
+use Rattle.fault_io.specs.Stored.{Stored}
+use Rattle.serve_loop.specs.Event.{Event, line, too_long}
+use Rattle.proto_json.specs.Requests.{answer}
+use Rattle.proto_json.specs.Replies.{reply_line}
+use Rattle.proto_json.specs.declared.request.Asked.{Asked}
+use Rattle.proto_json.specs.declared.request.Request.{Request}
+use Rattle.proto_json.specs.declared.request.Request.TheVariants.{Update, GetErrors}
+use Rattle.proto_json.specs.declared.request.RequestRefusal.{RequestRefusal}
+use Rattle.proto_json.specs.declared.request.RequestRefusal.TheVariants.{Refused, Memory}
+use Rattle.proto_json.specs.declared.code.Code.{Code}
+use Rattle.proto_json.specs.declared.code.Code.TheVariants.{InvalidRequest, GetErrorsInvalidFile}
+use Rattle.proto_json.specs.declared.reply.ReplyBody.{ReplyBody}
+use Rattle.proto_json.specs.declared.reply.ReplyBody.TheVariants.{Plain, Errors, Error}
+use Rattle.check_library.specs.Diagnostics.{diagnostics}
+use Rattle.diagnostics.specs.Rendering.{rows_of}
+use Rattle.protocol_rules.specs.declared.contents.Contents.{Contents}
+use Rattle.protocol_rules.specs.Texts.{text_in, put_text}
+use Rattle.protocol_rules.specs.Skipped.{is_skipped}
+
+-- at the start no text is given
+abbrev pub at_start : Contents
+at_start = record { texts = [] }
+
+-- a reply, and the state after it
+pub record Turn : Type 0 where
+  pub id : List ℕ
+  pub body : ReplyBody
+  pub after : Contents
+
+-- a refusal leaves the state as it was
+abbrev pub refused_turn : Contents → List ℕ → Code → Turn
+refused_turn s id code = record { id = id; body = Error code; after = s }
+
+-- what is said to a line that is no request
+abbrev pub invalid_turn : Contents → Turn
+invalid_turn s = refused_turn s [] InvalidRequest
+
+-- An update gives the file its text; nothing was computed that would have to be dropped.
+abbrev pub update_turn : Contents → List ℕ → List ℕ → List ℕ → Turn
+update_turn s id path text = record { id = id; body = Plain; after = record s { texts = put_text path text s.texts } }
+
+-- the text of a file, if it is analyzed: its name ends in `.dart`, and it was given a text
+abbrev pub analyzed : Contents → List ℕ → Option (List ℕ)
+analyzed s file = if ends_with nat_eq file (codes ".dart") then text_in file s.texts else None
+
+-- the errors of a text: the diagnostics that the rules give, from nothing, for the text as it now stands
+abbrev pub errors_body : List ℕ → Option (List ℕ) → ReplyBody
+errors_body file None = Error GetErrorsInvalidFile
+errors_body file (Some text) = Errors (rows_of file text (diagnostics text))
+
+-- The errors of a file are asked for, which changes nothing.
+abbrev pub errors_turn : Contents → List ℕ → List ℕ → Turn
+errors_turn s id file = record { id = id; body = errors_body file (analyzed s file); after = s }
+
+-- one row for each request
+abbrev pub asked_turn : Contents → List ℕ → Request → Turn
+asked_turn s id (Update path content) = update_turn s id path content
+asked_turn s id (GetErrors file) = errors_turn s id file
+
+-- a request, or the refusal of a line; want of memory is no reading of a line
+abbrev pub request_turn : Contents → Result Asked RequestRefusal → Turn
+request_turn s (Ok asked) = asked_turn s asked.id asked.request
+request_turn s (Err (Refused id code)) = refused_turn s id code
+request_turn s (Err Memory) = invalid_turn s
+
+-- none for a line that is skipped
+abbrev pub turn : Contents → Event → Option Turn
+turn s too_long = Some (invalid_turn s)
+turn s (line bytes) = if is_skipped bytes then None else Some (request_turn s (answer bytes))
+
+-- the bytes of a reply
+abbrev pub bytes_of : Turn → List ℕ
+bytes_of t = reply_line t.id t.body
+
+-- the reply to an event; what a store of files tells, and whether it failed, has no part in it yet
+abbrev pub reply_to : Contents → Option Stored → Event → Bool → Option (List ℕ)
+reply_to s told event mark = option_map bytes_of (turn s event)
+
+-- the state after an event
+abbrev pub state_after : Contents → Option Stored → Event → Bool → Contents
+state_after s told event mark = option_map_or (λ t. t.after) (turn s event) s
