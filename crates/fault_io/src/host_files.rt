@@ -10,9 +10,11 @@ use plain_text::PlainText;
 use std::alloc::Global;
 use std::fs::{DirEntry, FileType};
 use std::io::ErrorKind;
+use std::marker::Model;
 use std::{fs, io};
 
-/// The file system, with a count of its faults. It tells no content.
+/// The file system, with a count of its faults. It tells no content, and contracts see it as that
+/// count.
 ///
 /// Nothing stands where a path doesn't exist or leads through a file, and at a text that is no
 /// path; every other error but want of memory is a fault. A link at the path that is asked for is
@@ -25,18 +27,28 @@ pub struct HostFiles<R: std::rt::Files + Clone + Drop> {
     faults: u64,
 }
 
+impl<R: std::rt::Files + Clone + Drop> Model for HostFiles<R> {
+    ghost use Rattle.std.specs.Prelude.{ℕ};
+
+    ghost Value = { ℕ };
+
+    ghost view = { λ s. s.faults };
+}
+
 impl<R: std::rt::Files + Clone + Drop> HostFiles<R> {
     /// The files that this runtime reaches, with no fault yet.
-    pub fn new(host: R) -> HostFiles<R> {
+    pub fn new(host: R) -> HostFiles<R>
+        ensures { result ≡ 0 }
+    {
         HostFiles { host, faults: 0 }
     }
 
     /// What an error of the file system is answered with: nothing where nothing stands, and else a
     /// refusal, which counts as a fault unless it is want of memory.
     fn answer_to<T>(&mut self, error: io::Error) -> Result<Option<T>, FilesRefusal>
-        ensures ok { OnOk result (self.new.faults ≡ self.old.faults) }
-        ensures failed { result ≡ Err FilesRefusal.Failed → Rose self.old.faults self.new.faults }
-        ensures memory { result ≡ Err FilesRefusal.Memory → self.new.faults ≡ self.old.faults }
+        ensures ok { OnOk result (self.new ≡ self.old) }
+        ensures failed { result ≡ Err FilesRefusal.Failed → Rose self.old self.new }
+        ensures memory { result ≡ Err FilesRefusal.Memory → self.new ≡ self.old }
     {
         match error.kind() {
             ErrorKind::NotFound | ErrorKind::NotADirectory => Ok(None),
@@ -50,7 +62,7 @@ impl<R: std::rt::Files + Clone + Drop> HostFiles<R> {
 }
 
 impl<R: std::rt::Files + Clone + Drop> Files for HostFiles<R> {
-    ghost faults = { λ s. s.faults };
+    ghost faults = { λ count. count };
 
     fn list(&mut self, alloc: Global, path: &str) -> Result<Option<Vec<Entry>>, FilesRefusal> {
         if !is_path(path) {

@@ -99,7 +99,7 @@ module _ (input : List ℕ) (lines : List (List ℕ)) (r r' : Reading) (s : Stan
   pub long_step : ReadsNext TooLong r r' (drop r.taken input) (drop (r'.taken - r.taken) (drop r.taken input)) → Step input lines r.max true r'
   long_step h =
       let long : r.max < length h.0 = omega (arith, h.1, m.max) in
-      step true h.0 (rw (lt-leb _ _ long) refl) h.2
+      step true h.0 (rw (lt-leb _ _ long) refl) h.3
 
 module _ (input : List ℕ) (lines : List (List ℕ)) (r r' : Reading) (s : Stands input lines r) (b : r'.budget ≡ r.budget) where
   pub end_stop : (r.at_end ≡ false → (unread r (drop r.taken input) ≡ []) × (ends r (drop r.taken input) ≡ true)) → StopsAt Done input lines r'
