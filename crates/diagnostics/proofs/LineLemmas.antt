@@ -10,11 +10,11 @@ use Rattle.diagnostics.specs.Cursors.{IsOn}
 use Rattle.diagnostics.specs.declared.cursor.Cursor.{Cursor}
 
 -- a byte begins at most two code units
-pub few_units : (byte : ℕ) → units_of_byte byte ≤ 2
+few_units : (byte : ℕ) → units_of_byte byte ≤ 2
 few_units byte = grind (arith, common_steps)
 
 -- a text has at most two code units for each byte
-pub units_within : (bytes : List ℕ) → units_in bytes ≤ 2 * length bytes
+units_within : (bytes : List ℕ) → units_in bytes ≤ 2 * length bytes
 units_within [] = omega arith
 units_within (byte ∷ bytes) = omega (arith, sum_by-cons units_of_byte byte bytes, few_units byte, units_within bytes)
 
@@ -23,7 +23,7 @@ pub offset_within : (text : List ℕ) (cursor : Cursor) → IsOn text cursor →
 offset_within text cursor on = omega (arith, on.offset, units_within (take cursor.bytes text), length-take-le cursor.bytes text on.within)
 
 -- the code units of a line are among those of the text
-pub line_within : (front : List ℕ) → (position_after front).column ≤ 1 + 2 * length front
+line_within : (front : List ℕ) → (position_after front).column ≤ 1 + 2 * length front
 line_within front = omega (arith, units_within (after_last is_line_feed front), length-drop (length front - suffix_len (λ byte. not (is_line_feed byte)) front) front)
 
 -- and so is a column
@@ -31,16 +31,16 @@ pub column_within : (text : List ℕ) (cursor : Cursor) → IsOn text cursor →
 column_within text cursor on =
     omega (arith, ap (λ p. p.column) on.position, line_within (take cursor.bytes text), length-take-le cursor.bytes text on.within)
 
--- a character that begins before the offset stands before it
-pub before_more : (offset byte : ℕ) (bytes : List ℕ) → units_of_byte byte ≤ offset → before offset (byte ∷ bytes) ≡ byte ∷ before (offset - units_of_byte byte) bytes
+-- a character that ends by the offset stands before it
+before_more : (offset byte : ℕ) (bytes : List ℕ) → units_of_byte byte ≤ offset → before offset (byte ∷ bytes) ≡ byte ∷ before (offset - units_of_byte byte) bytes
 before_more offset byte bytes fits = grind (arith, common_steps)
 
--- a character that reaches past the offset doesn't
-pub before_none : (offset byte : ℕ) (bytes : List ℕ) → offset < units_of_byte byte → before offset (byte ∷ bytes) ≡ []
+-- one that reaches past the offset doesn't
+before_none : (offset byte : ℕ) (bytes : List ℕ) → offset < units_of_byte byte → before offset (byte ∷ bytes) ≡ []
 before_none offset byte bytes reaches = grind (arith, common_steps)
 
 -- What stands before an offset is the front of the text that has at most so many code units, where the next character reaches past the offset or is missing.
-pub before_is : (n offset : ℕ) (text : List ℕ) → n ≤ length text → units_in (take n text) ≤ offset
+before_is : (n offset : ℕ) (text : List ℕ) → n ≤ length text → units_in (take n text) ≤ offset
     → (n < length text → offset < units_in (take n text) + units_of_byte (get_or text n 0)) → before offset text ≡ take n text
 before_is zero offset [] within room full = refl
 before_is zero offset (byte ∷ bytes) within room full = before_none offset byte bytes (omega (arith, full))

@@ -13,7 +13,7 @@ before offset (byte ∷ bytes) = if nat_le (units_of_byte byte) offset then byte
 abbrev pub is_line_feed : ℕ → Bool
 is_line_feed byte = byte == 10
 
--- The position behind a front of a text: its line is one more than the line feeds in the front, its column one more than the code units after the last of them.
+-- The position at the end of a front of a text: its line is one more than the line feeds in the front, its column one more than the code units after the last of them.
 abbrev pub position_after : List ℕ → Position
 position_after front = record { line = 1 + count_by is_line_feed front; column = 1 + units_in (after_last is_line_feed front) }
 

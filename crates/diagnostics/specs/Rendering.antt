@@ -16,11 +16,11 @@ row_at file position fault = record {
     offset = fault.span.start;
     length = fault.span.end - fault.span.start;
     start_line = position.line;
-    start_column = position.column
+    start_column = position.column;
   };
   message = message_of fault.code;
   severity = Error;
-  kind = kind_of fault.code
+  kind = kind_of fault.code;
 }
 
 -- the row of a fault: it starts at the position of its first code unit

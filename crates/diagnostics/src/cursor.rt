@@ -25,11 +25,12 @@ pub struct Cursor {
 }
 
 impl Position {
-    /// The position behind one more byte.
+    /// The position one byte further on.
     fn past(self, byte: u8) -> Position
         requires line { self.line + 1 < 2 ^ 32 }
         requires column { self.column + 2 < 2 ^ 32 }
-        ensures { (front : List ℕ) → self ≡ position_after front → result ≡ position_after (front ++ byte ∷ []) }
+        ensures { (front : List ℕ) → self ≡ position_after front
+            → result ≡ position_after (front ++ byte ∷ []) }
     {
         if byte == b'\n' {
             return Position {
@@ -52,8 +53,8 @@ impl Cursor {
         position: Position { line: 1, column: 1 },
     };
 
-    /// The cursor behind the next byte, if that stands before the offset; else the cursor stands at
-    /// the offset, or at the end of the text.
+    /// The cursor one byte further on; `None` where the next character reaches past the offset or is
+    /// missing, so that the cursor has the position of the offset.
     #[tactic(auto, using(crate::proofs::LineLemmas::offset_within, crate::proofs::LineLemmas::column_within, crate::proofs::LineLemmas::stands_at))]
     fn next_before(self, text: &[u8], offset: u32) -> Option<Cursor>
         requires short { length text.now ≤ max_text }
@@ -62,7 +63,7 @@ impl Cursor {
         ensures on { IfSome result (λ next. IsOn text.now next) }
         ensures bytes { IfSome result (λ next. next.bytes ≡ self.bytes + 1) }
         ensures within { IfSome result (λ next. next.offset ≤ offset) }
-        ensures there { IfNone result (self.position ≡ position_of offset text.now) }
+        ensures at_offset { IfNone result (self.position ≡ position_of offset text.now) }
     {
         let byte = *text.get(self.bytes)?;
         let units = units_of_byte(byte);
@@ -77,7 +78,7 @@ impl Cursor {
     }
 
     /// The cursor at an offset, in UTF-16 code units from 0, or at the end of a text that is shorter.
-    /// It gets there from where it stands, or from the start where it stands past the offset.
+    /// It walks there from where it stands, or from the start if it stands past the offset.
     pub fn moved_to(self, text: &[u8], offset: u32) -> Cursor
         requires short { length text.now ≤ max_text }
         requires on { IsOn text.now self }

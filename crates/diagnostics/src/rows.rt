@@ -38,9 +38,9 @@ fn render_at(
     })
 }
 
-/// The rows of the faults of a file's text, in their order. Where the faults stand in the order of
-/// their offsets, the text is gone over once; for each that stands before the one that it follows
-/// the walk begins anew.
+/// The rows of the faults of a file's text, in the order of the faults. Faults in rising order of
+/// their starts cost one walk over the text; each that stands before the one ahead of it costs
+/// another.
 pub fn render(
     alloc: Global,
     file: &str,

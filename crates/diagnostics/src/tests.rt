@@ -1,1 +1,140 @@
-//! Rows of small texts.
+//! The rows of small texts.
+
+ghost use Rattle.std.specs.Prelude.{◌≤◌, length};
+ghost use Rattle.proto_json.specs.SourceTexts.{max_text};
+
+use crate::{code_name, error_kind, message, render};
+use dart_tree::Span;
+use judgement::{DiagnosticCode, Fault};
+use proto_json::{ErrorKind, MAX_TEXT, Severity};
+use std::alloc::Global;
+use std::test::Fail;
+
+fn fault(start: u32, end: u32, code: DiagnosticCode) -> Fault {
+    let span = Span { start, end };
+    Fault { span, code }
+}
+
+// The lines and columns of the offsets, in their order.
+fn positions(alloc: Global, text: &str, offsets: &[u32]) -> Result<Vec<(u32, u32)>, Fail>
+    requires { length text.now ≤ max_text }
+{
+    let mut faults = Vec::new(alloc);
+    for offset in offsets {
+        faults.push(fault(*offset, *offset, DiagnosticCode::SyntaxError))?;
+    }
+    let rows = render(alloc, "/a.dart", text, &faults)?;
+    let mut positions = Vec::new(alloc);
+    for row in rows.as_slice() {
+        positions.push((row.location.start_line, row.location.start_column))?;
+    }
+    Ok(positions)
+}
+
+#[test]
+fn lines_end_at_line_feeds(rt: HostRuntime) -> Result<(), Fail> {
+    let offsets = [0, 1, 2, 3, 4, 9];
+    let cases: [(&str, [(u32, u32); 6]); 4] = [
+        ("", [(1, 1), (1, 1), (1, 1), (1, 1), (1, 1), (1, 1)]),
+        ("a\n\nb", [(1, 1), (1, 2), (2, 1), (3, 1), (3, 2), (3, 2)]),
+        ("\r\na\rb", [(1, 1), (1, 2), (2, 1), (2, 2), (2, 3), (2, 4)]),
+        ("é\n€\n", [(1, 1), (1, 2), (2, 1), (2, 2), (3, 1), (3, 1)]),
+    ];
+    for (text, want) in cases {
+        assert!(rt; text.len() <= MAX_TEXT);
+        let found = positions(rt.alloc(), text, &offsets)?;
+        assert_eq!(rt; found.as_slice(), want.as_slice(), "{text:?}");
+    }
+    Ok(())
+}
+
+#[test]
+fn columns_count_code_units(rt: HostRuntime) -> Result<(), Fail> {
+    let text = "/*😀*/void main(){bool b=1;}";
+    assert!(rt; text.len() <= MAX_TEXT);
+    let found = positions(rt.alloc(), text, &[25, 2, 4])?;
+    assert_eq!(rt; found.as_slice(), [(1, 26), (1, 3), (1, 5)].as_slice());
+    Ok(())
+}
+
+#[test]
+fn faults_may_stand_in_any_order(rt: HostRuntime) -> Result<(), Fail> {
+    let text = "a\nbc\nd";
+    assert!(rt; text.len() <= MAX_TEXT);
+    let found = positions(rt.alloc(), text, &[5, 0, 3, 3, 2])?;
+    let want = [(3, 1), (1, 1), (2, 2), (2, 2), (2, 1)];
+    assert_eq!(rt; found.as_slice(), want.as_slice());
+    Ok(())
+}
+
+#[test]
+fn a_row_tells_the_fault(rt: HostRuntime) -> Result<(), Fail> {
+    let alloc = rt.alloc();
+    let text = "void main(){int x; print(x);}";
+    assert!(rt; text.len() <= MAX_TEXT);
+    let faults = [fault(25, 26, DiagnosticCode::UnassignedRead)];
+    let rows = render(alloc, "/a.dart", text, &faults)?;
+    assert_eq!(rt; rows.as_slice().len(), 1);
+    for row in rows.as_slice() {
+        assert_eq!(rt; row.code.as_str(), "unassigned_read");
+        assert_eq!(rt; row.message.as_str(), "Unassigned read.");
+        assert_eq!(rt; row.severity, Severity::Error);
+        assert_eq!(rt; row.kind, ErrorKind::CompileTimeError);
+        assert_eq!(rt; row.location.file.as_str(), "/a.dart");
+        assert_eq!(rt; (row.location.offset, row.location.length), (25, 1));
+        assert_eq!(rt;
+            (row.location.start_line, row.location.start_column),
+            (1, 26)
+        );
+    }
+    Ok(())
+}
+
+#[test]
+fn each_code_has_its_words(rt: HostRuntime) {
+    let cases = [
+        (
+            DiagnosticCode::DuplicateDefinition,
+            "duplicate_definition",
+            "Duplicate definition.",
+        ),
+        (
+            DiagnosticCode::IntegerLiteralOutOfRange,
+            "integer_literal_out_of_range",
+            "Integer literal out of range.",
+        ),
+        (
+            DiagnosticCode::InvalidAssignment,
+            "invalid_assignment",
+            "Invalid assignment.",
+        ),
+        (
+            DiagnosticCode::ReferencedBeforeDeclaration,
+            "referenced_before_declaration",
+            "Referenced before declaration.",
+        ),
+        (DiagnosticCode::SyntaxError, "syntax_error", "Syntax error."),
+        (
+            DiagnosticCode::UnassignedRead,
+            "unassigned_read",
+            "Unassigned read.",
+        ),
+        (
+            DiagnosticCode::UndefinedName,
+            "undefined_name",
+            "Undefined name.",
+        ),
+    ];
+    for (code, name, sentence) in cases {
+        assert_eq!(rt; code_name(code), name);
+        assert_eq!(rt; message(code), sentence);
+    }
+    assert_eq!(rt;
+        error_kind(DiagnosticCode::SyntaxError),
+        ErrorKind::SyntacticError
+    );
+    assert_eq!(rt;
+        error_kind(DiagnosticCode::UndefinedName),
+        ErrorKind::CompileTimeError
+    );
+}

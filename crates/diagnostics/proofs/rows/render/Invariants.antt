@@ -7,5 +7,5 @@ use Rattle.diagnostics.proofs.rows.render.Given as goal
 abbrev pub invariant-loop-fault : goal.invariant-loop-fault
 invariant-loop-fault l = record {
   on : IsOn l.text l.cursor;
-  rows : l.rows.items ≡ map (row_of l.file l.text) (take l.fault-index l.faults)
+  rows : l.rows.items ≡ map (row_of l.file l.text) (take l.fault-index l.faults);
 }
