@@ -9,6 +9,8 @@
 mod judge;
 mod names;
 mod order;
+#[cfg(test)]
+mod tests;
 
 pub use judge::judge_unit;
 pub use names::BlockNames;
