@@ -13,5 +13,5 @@ mod order;
 mod tests;
 
 pub use judge::judge_unit;
-pub use names::BlockNames;
+pub use names::{BlockNames, declared_locals};
 pub use order::{earlier_and_shorter_come_first, reports_are_in_order, sorted};

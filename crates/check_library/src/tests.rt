@@ -1,6 +1,6 @@
 //! Units that are built by hand, and their diagnostics.
 
-use crate::{BlockNames, judge_unit, sorted};
+use crate::{BlockNames, declared_locals, judge_unit, sorted};
 use dart_tree::{
     Block, Expr, ExprNode, Function, IntegerLiteral, Name, NodeId, Place, Radix, Span, Stmt,
     StmtNode, Unit, WrittenType, WrittenTypeNode,
@@ -168,11 +168,15 @@ fn literals_have_a_range_and_names_a_meaning(rt: HostRuntime) -> Result<(), Fail
 fn a_name_means_its_first_declaration(rt: HostRuntime) -> Result<(), Fail> {
     let alloc = rt.alloc();
     let unit = reads_and_writes(alloc)?;
-    let names = BlockNames::of(alloc, &unit.main.body.statements)?;
+    let statements = &unit.main.body.statements;
+    let names = BlockNames::of(alloc, statements)?;
     assert_eq!(rt; names.meaning(X), Some(LocalId(10)));
     assert_eq!(rt; names.meaning(UNKNOWN), None);
-    let locals = [LocalId(10), LocalId(60), LocalId(90)];
-    assert_eq!(rt; names.locals(alloc)?.as_slice(), locals.as_slice());
+    let locals = [LocalId(10), LocalId(50), LocalId(60), LocalId(90)];
+    assert_eq!(rt;
+        declared_locals(alloc, statements)?.as_slice(),
+        locals.as_slice()
+    );
     Ok(())
 }
 
