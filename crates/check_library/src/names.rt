@@ -3,8 +3,7 @@
 ghost use Rattle.std.specs.Prelude.{◌≡◌, IfOk, OnOk};
 ghost use Rattle.std.specs.FinMap.{empty, get, insert};
 ghost use Rattle.dart_tree.specs.Tree.{Trees, more, trees_of};
-ghost use Rattle.judgement.specs.Names.{local_of, names_of};
-ghost use Rattle.judgement.specs.Judgement.{locals_of};
+ghost use Rattle.judgement.specs.Names.{local_of, locals_of, names_of};
 
 use dart_tree::{Name, Stmt, StmtNode};
 use flow_model::LocalId;
@@ -52,13 +51,6 @@ impl BlockNames {
         self.locals.get(&word).copied()
     }
 
-    /// The locals that the names mean, in the order of the words.
-    pub fn locals(&self, alloc: Global) -> Result<Vec<LocalId>, AllocError>
-        ensures { IfOk result (λ locals. locals.items ≡ locals_of self.now) }
-    {
-        self.locals.values().copied().collect(alloc)
-    }
-
     // What no names mean.
     fn new(alloc: Global) -> BlockNames
         ensures { result ≡ empty }
@@ -89,9 +81,22 @@ impl BlockNames {
     }
 }
 
-/// The local that a name declares: it has the number of that name.
+// The local that a name declares: it has the number of that name.
 fn declared_local(name: &Name) -> LocalId
     ensures { result ≡ local_of name.now }
 {
     LocalId(name.at.node.0)
+}
+
+/// The locals that these statements declare, in the order of the statements.
+pub fn declared_locals(alloc: Global, statements: &[Stmt]) -> Result<Vec<LocalId>, AllocError>
+    ensures { IfOk result (λ locals. locals.items ≡ locals_of (trees_of statements.now)) }
+{
+    let mut locals = Vec::new(alloc);
+    for statement in statements {
+        if let StmtNode::Declare { name, .. } = &statement.node {
+            locals.push(declared_local(name))?;
+        }
+    }
+    Ok(locals)
 }

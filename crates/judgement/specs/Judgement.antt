@@ -1,15 +1,13 @@
 -- The judgement of trees.
-use Rattle.std.specs.Prelude.{ℕ, List, [], ◌∷◌, map}
-use Rattle.std.specs.FinMap.{entries}
+use Rattle.std.specs.Prelude.{List, []}
 use Rattle.dart_tree.specs.Tree.{Tree, Trees, Part, no_more, more, absent, present, name, integer, int_type, declare, assign, eval, print, block, function, unit}
 use Rattle.dart_tree.specs.Places.{place_of}
 use Rattle.dart_tree.specs.declared.nodes.Name.{Name}
 use Rattle.flow_model.specs.Ty.{Ty, invalid, int}
 use Rattle.flow_model.specs.Flow.{FlowModel, start_of, end_of}
-use Rattle.flow_model.specs.declared.locals.LocalId.{LocalId}
 use Rattle.flow_model.specs.declared.subtyping.Rows.{Rows}
 use Rattle.judgement.specs.declared.Fault.{Fault}
-use Rattle.judgement.specs.Names.{Names, names_of}
+use Rattle.judgement.specs.Names.{Names, names_of, locals_of}
 use Rattle.judgement.specs.Rows.{Value, Outcome, of_type, just, value_then, and_then, integer_row, name_row, assign_row, declare_row, initialize_row}
 
 -- the type that a written type is
@@ -42,13 +40,9 @@ abbrev pub run_all : Rows → Names → Trees → FlowModel → Outcome
 run_all rows names no_more m = just m
 run_all rows names (more first rest) m = and_then (run rows names first m) (run_all rows names rest)
 
--- the locals that names mean
-abbrev pub locals_of : Names → List LocalId
-locals_of names = map (λ e. e.1) (entries names)
-
 -- A block: its names mean what it declares, and its locals end with it.
 abbrev pub run_block : Rows → Trees → FlowModel → Outcome
-run_block rows statements m = and_then (run_all rows (names_of statements) statements m) (λ after. just (end_of after (locals_of (names_of statements))))
+run_block rows statements m = and_then (run_all rows (names_of statements) statements m) (λ after. just (end_of after (locals_of statements)))
 
 -- the diagnostics of a unit: those of its function's body, from nothing known
 abbrev pub faults_of : Rows → Tree → List Fault

@@ -3,7 +3,6 @@ use Rattle.std.specs.Prelude.{ℕ, ◌^◌, Bool, true, false, not, ◌&&◌, �
 use Rattle.std.specs.Option.{option_map_or}
 use Rattle.std.specs.FinMap.{get}
 use Rattle.dart_tree.specs.declared.places.Place.{Place}
-use Rattle.dart_tree.specs.declared.places.Span.{Span}
 use Rattle.dart_tree.specs.declared.nodes.Name.{Name}
 use Rattle.dart_tree.specs.declared.nodes.IntegerLiteral.{IntegerLiteral}
 use Rattle.dart_tree.specs.declared.nodes.Radix.{Radix}

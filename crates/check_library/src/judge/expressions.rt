@@ -2,7 +2,7 @@
 
 ghost use Rattle.std.specs.Prelude.{◌≡◌, IfOk};
 ghost use Rattle.flow_model.specs.Ty.{int, invalid};
-ghost use Rattle.flow_model.specs.Flow.{facts_of};
+ghost use Rattle.flow_model.specs.Flow.{FlowModel, facts_of};
 ghost use Rattle.judgement.specs.Rows as row;
 ghost use Rattle.judgement.specs.Judgement.{evaluate};
 ghost use Rattle.check_library.specs.Judged.{Evaluates};
@@ -26,18 +26,20 @@ pub(super) fn judge_expression(
 {
     match &expression.node {
         ExprNode::Name { at, word } => read_name(alloc, names, *at, *word, flow, faults),
-        ExprNode::Integer { at, literal } => read_integer(*at, *literal, flow, faults),
+        ExprNode::Integer { at, literal } => {
+            let ty = read_integer(*at, *literal, faults)?;
+            Ok(ty)
+        }
     }
 }
 
-// An integer literal is an int, if its value is in range.
+// An integer literal is an int, if its value is in range, whatever is known.
 fn read_integer(
     at: Place,
     literal: IntegerLiteral,
-    _flow: &Flow,
     faults: &mut Vec<Fault>,
 ) -> Result<DartType, AllocError>
-    ensures { IfOk result (λ ty. Evaluates faults.old.items faults.new.items _flow.now ty (row.integer_row at literal _flow.now)) }
+    ensures { IfOk result (λ ty. (model : FlowModel) → Evaluates faults.old.items faults.new.items model ty (row.integer_row at literal model)) }
 {
     if is_in_range(literal) {
         return Ok(int());

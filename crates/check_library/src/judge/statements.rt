@@ -9,7 +9,7 @@ ghost use Rattle.check_library.specs.Judged.{Evaluates, Gives};
 use super::expressions::judge_expression;
 use super::writes::{assign, declare, initialize};
 use super::{Context, Typed};
-use crate::names::BlockNames;
+use crate::names::{BlockNames, declared_locals};
 use dart_tree::{Expr, Name, Stmt, StmtNode, WrittenType, WrittenTypeNode};
 use flow_model::{DartType, Flow, Rows, TypeNode};
 use judgement::Fault;
@@ -31,7 +31,7 @@ pub(super) fn judge_block(
         names: &names,
     };
     judge_statements(alloc, context, statements, flow, faults)?;
-    flow.end(&names.locals(alloc)?);
+    flow.end(&declared_locals(alloc, statements)?);
     Ok(())
 }
 
