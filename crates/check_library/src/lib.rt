@@ -19,3 +19,6 @@ mod tree;
 
 pub use library::{Checked, Diagnostics, check};
 pub use order::{earlier_and_shorter_come_first, reports_are_in_order};
+
+#[cfg(test)]
+mod tests;

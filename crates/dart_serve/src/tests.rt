@@ -1,1 +1,126 @@
 //! Whole runs of the program, over objects in memory.
+
+use crate::program::dart_main;
+use crate::status::Status;
+use fault_io::{MemorySink, MemorySource, SteadyFiles};
+use plain_text::PlainText;
+use std::alloc::Global;
+use std::test::Fail;
+
+const ADD_CLEAN: &str =
+    "{\"id\":\"1\",\"method\":\"analysis.updateContent\",\"params\":{\"files\":{\"/a.dart\":{\"type\":\"add\",\"content\":\"void main() {}\"}}}}\n";
+
+const ADD_UNASSIGNED: &str =
+    "{\"id\":\"1\",\"method\":\"analysis.updateContent\",\"params\":{\"files\":{\"/a.dart\":{\"type\":\"add\",\"content\":\"void main(){int x; print(x);}\"}}}}\n";
+
+const GET: &str =
+    "{\"id\":\"2\",\"method\":\"analysis.getErrors\",\"params\":{\"file\":\"/a.dart\"}}";
+
+const DONE: &str = "{\"id\":\"1\"}\n";
+
+const CLEAN: &str = "{\"id\":\"2\",\"result\":{\"errors\":[]}}\n";
+
+const UNASSIGNED: &str =
+    "{\"id\":\"2\",\"result\":{\"errors\":[{\"code\":\"unassigned_read\",\"location\":{\"file\":\"/a.dart\",\"length\":1,\"offset\":25,\"startColumn\":26,\"startLine\":1},\"message\":\"Unassigned read.\",\"severity\":\"ERROR\",\"type\":\"COMPILE_TIME_ERROR\"}]}}\n";
+
+const NOT_ANALYZED: &str =
+    "{\"error\":{\"code\":\"GET_ERRORS_INVALID_FILE\",\"message\":\"The file is not analyzed.\"},\"id\":\"2\"}\n";
+
+const NO_REQUEST: &str =
+    "{\"error\":{\"code\":\"INVALID_REQUEST\",\"message\":\"The line is not a request.\"},\"id\":\"\"}\n";
+
+const USAGE_LINE: &str = "usage: dart_serve serve|check FILE|run FILE|make N [options]\n";
+
+/// No call has this number.
+const NEVER: u64 = 99;
+
+/// What the program writes, and its status, for words and an input in parts; one read and one
+/// write fail.
+fn ran(
+    alloc: Global,
+    words: &[&str],
+    input: &[&str],
+    failing_read: u64,
+    failing_write: u64,
+) -> Result<(Status, Vec<u8>), Fail> {
+    let mut given = Vec::new(alloc);
+    for word in words {
+        given.push(PlainText::new(alloc, word)?)?;
+    }
+    let mut bytes = Vec::new(alloc);
+    for part in input {
+        bytes.extend_from_slice(part.as_bytes())?;
+    }
+    let mut source = MemorySource::new(bytes, 16, vec![in alloc; failing_read]?);
+    let mut sink = MemorySink::new(alloc, 8, vec![in alloc; failing_write]?);
+    let mut files = SteadyFiles::new(Vec::new(alloc));
+    let status = dart_main(alloc, &given, &mut source, &mut sink, &mut files);
+    Ok((status, sink.written().to_vec(alloc)?))
+}
+
+/// The output is these parts, one after another.
+fn is_written(alloc: Global, output: &[u8], parts: &[&str]) -> Result<bool, Fail> {
+    let mut expected = Vec::new(alloc);
+    for part in parts {
+        expected.extend_from_slice(part.as_bytes())?;
+    }
+    Ok(output == expected.as_slice())
+}
+
+#[test]
+fn sessions_are_served(rt: HostRuntime) -> Result<(), Fail> {
+    let alloc = rt.alloc();
+    let table: [(&[&str], &[&str]); 8] = [
+        (&[ADD_CLEAN, GET, "\n"], &[DONE, CLEAN]),
+        (&[ADD_CLEAN, GET], &[DONE, CLEAN]),
+        (&[ADD_UNASSIGNED, GET], &[DONE, UNASSIGNED]),
+        (
+            &[ADD_UNASSIGNED, "\n \t\r\n", ADD_CLEAN, GET],
+            &[DONE, DONE, CLEAN],
+        ),
+        (&[GET, "\n", ADD_CLEAN, GET], &[NOT_ANALYZED, DONE, CLEAN]),
+        (
+            &["[]\n", ADD_CLEAN, "{}\n", GET],
+            &[NO_REQUEST, DONE, NO_REQUEST, CLEAN],
+        ),
+        (&["\n\n"], &[]),
+        (&[], &[]),
+    ];
+    for (input, output) in table {
+        let (status, written) = ran(alloc, &["serve"], input, NEVER, NEVER)?;
+        assert_eq!(rt; status, Status::Done);
+        assert!(rt; is_written(alloc, &written, output)?);
+    }
+    Ok(())
+}
+
+#[test]
+fn faults_end_the_program(rt: HostRuntime) -> Result<(), Fail> {
+    let alloc = rt.alloc();
+    let (status, written) = ran(alloc, &["serve"], &[ADD_CLEAN, GET], NEVER, 2)?;
+    assert_eq!(rt; status, Status::WriteFault);
+    assert!(rt; is_written(alloc, &written, &[DONE])?);
+    let (status, written) = ran(alloc, &["serve"], &[ADD_CLEAN, GET], 0, NEVER)?;
+    assert_eq!(rt; status, Status::ReadFault);
+    assert!(rt; is_written(alloc, &written, &[])?);
+    let (status, written) = ran(alloc, &["serve"], &[ADD_CLEAN, GET], 10, NEVER)?;
+    assert_eq!(rt; status, Status::ReadFault);
+    assert!(rt; is_written(alloc, &written, &[DONE])?);
+    assert_eq!(rt; status.code(), 6);
+    Ok(())
+}
+
+#[test]
+fn other_words_are_refused(rt: HostRuntime) -> Result<(), Fail> {
+    let alloc = rt.alloc();
+    let table: [&[&str]; 5] = [&[], &["--help"], &["run"], &["serve", "serve"], &["Serve"]];
+    for words in table {
+        let (status, written) = ran(alloc, words, &[ADD_CLEAN], NEVER, NEVER)?;
+        assert_eq!(rt; status, Status::Refused);
+        assert!(rt; is_written(alloc, &written, &[USAGE_LINE])?);
+    }
+    let (status, written) = ran(alloc, &[], &[], NEVER, 1)?;
+    assert_eq!(rt; status, Status::WriteFault);
+    assert!(rt; is_written(alloc, &written, &["usage: d"])?);
+    Ok(())
+}
