@@ -1,6 +1,7 @@
 pub mod CommentLemmas
 pub mod WordsLemmas
 pub mod ScanLemmas
+pub mod LawLemmas
 pub mod LiteralLemmas
 pub mod ParseLemmas
 pub mod Agreement

@@ -8,6 +8,7 @@
 #![tactic(auto)]
 
 mod judge;
+mod laws;
 mod library;
 mod literal;
 mod names;
@@ -17,6 +18,7 @@ mod scan;
 mod token;
 mod tree;
 
+pub use laws::{a_lexeme_is_the_longest, pieces_cover_a_text};
 pub use library::{Checked, Diagnostics, check};
 pub use order::{earlier_and_shorter_come_first, reports_are_in_order};
 

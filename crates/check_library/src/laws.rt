@@ -1,0 +1,21 @@
+//! Laws of the tokens of a text, over their definitions alone.
+
+ghost use Rattle.std.specs.Prelude.{◌≡◌, ◌<◌, ◌≤◌, ℕ, [], length, All, IsTrue, slice_index_or};
+ghost use Rattle.std.specs.List.{flat_map};
+ghost use Rattle.check_library.specs.Pieces.{begins, marks, pieces, word_size, integer_size, double_size, mark_size, lexeme_at};
+
+/// The pieces of a text cover it, one after another without overlap, and none is empty.
+pub fn pieces_cover_a_text(_text: &[u8])
+    ensures cover { flat_map (λ piece. piece.1) (pieces _text.now) ≡ _text.now }
+    ensures some { All (λ piece. 0 < length piece.1) (pieces _text.now) }
+{}
+
+/// A lexeme is the longest at its place: no word, integer, double or mark that the text begins with
+/// is longer. Of the marks of punctuation that it begins with, the longest is taken.
+pub fn a_lexeme_is_the_longest(_text: &[u8])
+    ensures word { word_size _text.now ≤ (lexeme_at _text.now).size }
+    ensures integer { integer_size _text.now ≤ (lexeme_at _text.now).size }
+    ensures double { double_size _text.now ≤ (lexeme_at _text.now).size }
+    ensures mark { mark_size _text.now ≤ (lexeme_at _text.now).size }
+    ensures marks { (k : ℕ) → IsTrue (begins _text.now (slice_index_or marks k [])) → length (slice_index_or marks k []) ≤ mark_size _text.now }
+{}
