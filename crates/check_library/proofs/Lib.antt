@@ -5,7 +5,5 @@ pub mod LawLemmas
 pub mod LiteralLemmas
 pub mod ParseLemmas
 pub mod Agreement
-pub mod Ahead
-pub mod Meanings
 pub mod Reports
 pub mod SortedKeys

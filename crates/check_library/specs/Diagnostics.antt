@@ -6,7 +6,7 @@ use Rattle.judgement.specs.declared.Fault.{Fault}
 use Rattle.judgement.specs.declared.DiagnosticCode.TheVariants.{SyntaxError}
 use Rattle.judgement.specs.Judgement.{faults_of}
 use Rattle.check_library.specs.Grammar.{tree_of}
-use Rattle.check_library.specs.Judged.{no_rows}
+use Rattle.resolve.specs.Judged.{no_rows}
 use Rattle.check_library.specs.Order.{sorted_faults}
 
 -- a text that is no unit has one diagnostic, over its whole length

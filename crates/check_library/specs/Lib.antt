@@ -5,6 +5,5 @@ pub mod Tokens
 pub mod Literals
 pub mod Grammar
 pub mod Descents
-pub mod Judged
 pub mod Order
 pub mod Diagnostics

@@ -2,16 +2,13 @@
 //!
 //! `check` gives exactly `diagnostics text` of `specs/Diagnostics.antt`: the tokens of the text
 //! (`specs/Pieces.antt`, `specs/Tokens.antt`), its tree by the grammar (`specs/Grammar.antt`), and
-//! what the judgement says of the tree, in order (`specs/Order.antt`). Scanner, parser and judge are
-//! private parts. The crate stands on the trees, the combinators of grammars, the flow models and
-//! the judgement.
+//! what the judgement says of the tree, in order (`specs/Order.antt`). Scanner and parser are
+//! private parts. The crate stands on the trees, the combinators of grammars and the judge.
 #![tactic(auto)]
 
-mod judge;
 mod laws;
 mod library;
 mod literal;
-mod names;
 mod order;
 mod parse;
 mod scan;

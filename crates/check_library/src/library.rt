@@ -3,12 +3,12 @@
 ghost use Rattle.std.specs.Prelude.{◌≡◌, ◌≤◌, length, IfOk};
 ghost use Rattle.check_library.specs.Diagnostics.{no_unit, faults_in, diagnostics};
 
-use crate::judge::judge_unit;
 use crate::order::sorted;
 use crate::tree::tree;
 use dart_tree::Span;
 use judgement::{DiagnosticCode, Fault};
 use plain_text::{PlainText, utf16_len};
+use resolve::judge_unit;
 use std::alloc::{AllocError, Global};
 use std::marker::Model;
 

@@ -14,4 +14,3 @@ mod texts;
 pub use contents::Contents;
 pub use skipped::is_skipped;
 pub use texts::Texts;
-

@@ -1,7 +1,7 @@
 use Rattle.std.proofs.Common.{◌≡◌, drop}
 use Rattle.dart_tree.specs.Tree.{trees_of}
 use Rattle.judgement.specs.Names.{names_of}
-use Rattle.check_library.proofs.names.BlockNames.of.Given as goal
+use Rattle.resolve.proofs.names.BlockNames.of.Given as goal
 
 -- the names are those of the statements that were seen, the last ones
 abbrev pub invariant-loop-i : goal.invariant-loop-i

@@ -1,7 +1,7 @@
 use Rattle.std.proofs.Common.{◌≡◌, ◌++◌, drop}
 use Rattle.dart_tree.specs.Tree.{trees_of}
 use Rattle.judgement.specs.Names.{locals_of}
-use Rattle.check_library.proofs.names.declared_locals.Given as goal
+use Rattle.resolve.proofs.names.declared_locals.Given as goal
 
 -- the locals that were seen and those to come are all
 abbrev pub invariant-loop-statement : goal.invariant-loop-statement

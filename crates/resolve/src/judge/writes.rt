@@ -4,7 +4,7 @@ ghost use Rattle.std.specs.Prelude.{◌≡◌, ◌++◌, IsNone, OnOk};
 ghost use Rattle.flow_model.specs.Flow.{at_local, declare_of, facts_of};
 ghost use Rattle.flow_model.specs.Assign.{assign_facts};
 ghost use Rattle.judgement.specs.Rows as row;
-ghost use Rattle.check_library.specs.Judged.{Gives};
+ghost use Rattle.resolve.specs.Judged.{Gives};
 
 use super::{Context, Typed, report};
 use dart_tree::{Name, Place};

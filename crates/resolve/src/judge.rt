@@ -7,7 +7,7 @@ mod writes;
 ghost use Rattle.std.specs.Prelude.{◌≡◌, ◌++◌, IfOk, OnOk};
 ghost use Rattle.judgement.specs.Rows.{fault_at};
 ghost use Rattle.judgement.specs.Judgement.{faults_of};
-ghost use Rattle.check_library.specs.Judged.{no_rows};
+ghost use Rattle.resolve.specs.Judged.{no_rows};
 
 use crate::names::BlockNames;
 use dart_tree::{Block, Function, Place, Unit};

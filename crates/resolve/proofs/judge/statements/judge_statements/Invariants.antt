@@ -1,8 +1,8 @@
 use Rattle.std.proofs.Common.{drop}
 use Rattle.dart_tree.specs.Tree.{trees_of}
 use Rattle.judgement.specs.Judgement.{run_all}
-use Rattle.check_library.proofs.Ahead.{Ahead}
-use Rattle.check_library.proofs.judge.statements.judge_statements.Given as goal
+use Rattle.resolve.proofs.Ahead.{Ahead}
+use Rattle.resolve.proofs.judge.statements.judge_statements.Given as goal
 
 abbrev pub invariant-loop-statement : goal.invariant-loop-statement
 invariant-loop-statement l =

@@ -1,4 +1,4 @@
-use Rattle.check_library.proofs.judge.judge_body.Goals as goal
+use Rattle.resolve.proofs.judge.judge_body.Goals as goal
 
 pub returns : goal.returns
 returns c =

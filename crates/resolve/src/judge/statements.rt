@@ -4,7 +4,7 @@ ghost use Rattle.std.specs.Prelude.{◌≡◌, IfOk, OnOk};
 ghost use Rattle.dart_tree.specs.Tree.{part_of, trees_of};
 ghost use Rattle.dart_tree.specs.Places.{place_of};
 ghost use Rattle.judgement.specs.Judgement.{declare_local, evaluate, run, run_all, run_block, type_of};
-ghost use Rattle.check_library.specs.Judged.{Evaluates, Gives};
+ghost use Rattle.resolve.specs.Judged.{Evaluates, Gives};
 
 use super::expressions::judge_expression;
 use super::writes::{assign, declare, initialize};

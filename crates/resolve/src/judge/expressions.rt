@@ -5,7 +5,7 @@ ghost use Rattle.flow_model.specs.Ty.{int, invalid};
 ghost use Rattle.flow_model.specs.Flow.{FlowModel, facts_of};
 ghost use Rattle.judgement.specs.Rows as row;
 ghost use Rattle.judgement.specs.Judgement.{evaluate};
-ghost use Rattle.check_library.specs.Judged.{Evaluates};
+ghost use Rattle.resolve.specs.Judged.{Evaluates};
 
 use super::report;
 use crate::names::BlockNames;

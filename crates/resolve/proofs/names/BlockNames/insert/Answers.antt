@@ -1,7 +1,7 @@
 use Rattle.std.proofs.Common.{◌∙◌, ap}
 use Rattle.std.specs.FinMap.{insert}
-use Rattle.check_library.proofs.Meanings.{from_entries-insert}
-use Rattle.check_library.proofs.names.BlockNames.insert.Goals as goal
+use Rattle.resolve.proofs.Meanings.{from_entries-insert}
+use Rattle.resolve.proofs.names.BlockNames.insert.Goals as goal
 
 pub returns : goal.returns
 returns c =
