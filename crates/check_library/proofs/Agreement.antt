@@ -1,11 +1,11 @@
 -- The parser's way finds each rule's longest reading.
-use Rattle.std.proofs.Common.{◌≡◌, ◌≢◌, ℕ, ◌<◌, ◌||◌, ◌==◌, Bool, true, false, List, [], ◌∷◌, Option, Some, None, length, option_map, if◌then◌else◌, inl, inr, refl, sym, subst, ap, ◌∙◌, arith}
+use Rattle.std.proofs.Common.{◌≡◌, ◌≢◌, ℕ, ◌<◌, Bool, true, false, List, [], ◌∷◌, Some, None, length, if◌then◌else◌, inl, inr, refl, sym, subst, ap, ◌∙◌, arith}
 use Rattle.std.proofs.lemmas.Bool.Decides.{nat_tests}
 use Rattle.dart_tree.specs.declared.nodes.Name.{Name}
 use Rattle.dart_tree.specs.Tree.{Tree}
 use Rattle.readings.specs.Members.{In, in_either, from_map}
-use Rattle.readings.specs.Readings.{Reading, Rule, token, made, ◌▹◌, ◌∣◌, make, turn, maybe, many, whole}
-use Rattle.readings.specs.Descent.{Descent, complete, ◌⊘◌}
+use Rattle.readings.specs.Readings.{Reading, Rule, token, made, ◌▹◌, ◌∣◌, turn, whole}
+use Rattle.readings.specs.Descent.{complete, ◌⊘◌}
 use Rattle.readings.specs.Agreement.{Apart, Never, Heads, Starts, either, nothing}
 use Rattle.readings.specs.Combinators.{in_sequence, heads_apart, never_or, never_apart, starts_token, starts_seq}
 use Rattle.readings.specs.Longest.{agrees_whole}

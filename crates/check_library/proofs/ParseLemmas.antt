@@ -1,10 +1,7 @@
 -- Statements in a row.
-use Rattle.std.proofs.Common.{◌≡◌, ℕ, zero, suc, ◌+◌, ◌<◌, ◌≤◌, List, [], ◌∷◌, ◌++◌, Option, Some, None, length, refl, sym, ap, ◌∙◌, arith, append_assoc}
-use Rattle.dart_tree.specs.Tree.{Tree, Trees, name, integer, int_type, declare, assign, eval, print, block, function, unit, trees_of, no_more, more}
+use Rattle.std.proofs.Common.{◌≡◌, ◌+◌, ◌≤◌, List, [], ◌∷◌, ◌++◌, arith}
+use Rattle.dart_tree.specs.Tree.{Tree, name, integer, int_type, declare, assign, eval, print, block, function, unit, trees_of}
 use Rattle.dart_tree.specs.Numbers.{nodes_in, nodes_in_all}
-use Rattle.readings.specs.Readings.{Reading}
-use Rattle.readings.specs.Descent.{Descent, bind, or_else, take_at_most, take_many}
-use Rattle.check_library.specs.declared.token.Token.{Token}
 
 -- a tree is a node at least
 pub nodes_least : (t : Tree) → 1 ≤ nodes_in t

@@ -1,15 +1,14 @@
 -- One turn of the scanner.
-use Rattle.std.proofs.Common.{◌≡◌, ◌≢◌, ℕ, zero, suc, ◌+◌, ◌-◌, ◌<◌, ◌≤◌, ◌&&◌, ◌||◌, Bool, true, false, List, [], ◌∷◌, ◌++◌, length, take, drop, nat_lt, codes, if◌then◌else◌, refl, sym, ap, ◌∙◌, arith, length-drop, append_assoc, append-nil}
+use Rattle.std.proofs.Common.{◌≡◌, ℕ, zero, suc, ◌+◌, ◌≤◌, ◌&&◌, Bool, true, false, List, [], ◌∷◌, ◌++◌, length, take, drop, nat_lt, codes, if◌then◌else◌, refl, sym, ap, ◌∙◌, arith, length-drop, append_assoc, append-nil}
 use Rattle.std.proofs.lemmas.Bool.Decides.{nat_tests}
 use Rattle.std.specs.Option.{option_map_or}
 use Rattle.std.specs.Prelude.{Option, Some, None, option_map}
-use Rattle.check_library.specs.declared.scan.piece.Class.{Class}
 use Rattle.check_library.specs.declared.scan.piece.Class.TheVariants.{Gap, Word, Integer, Mark, Other}
 use Rattle.check_library.specs.declared.scan.piece.Piece.{Piece}
 use Rattle.check_library.specs.declared.token.Token.{Token}
-use Rattle.check_library.specs.Characters.{is_blank, is_within_line, is_beyond_ascii}
+use Rattle.check_library.specs.Characters.{is_blank, is_beyond_ascii}
 use Rattle.plain_text.specs.Units.{units_in}
-use Rattle.check_library.specs.Pieces.{Spelled, run, begins, longer, comment_size, comment_piece, lexeme_at, piece_at, pieces_within, word_size, integer_size, double_size, mark_size}
+use Rattle.check_library.specs.Pieces.{run, begins, longer, comment_piece, lexeme_at, piece_at, pieces_within, word_size, integer_size, double_size, mark_size}
 use Rattle.check_library.specs.Tokens.{Lexeme, is_gap, lexemes_from, with_word, words_behind, token_of, tokens_behind}
 
 longer-least : (a b : Piece) → 1 ≤ b.size → 1 ≤ (longer a b).size

@@ -1,12 +1,11 @@
 -- The grammar: a unit is one declaration `void main()` with its block, of statements without blocks in them.
-use Rattle.std.specs.Prelude.{ℕ, ◌-◌, ◌==◌, Bool, List, [], length, Option, option_map, slice_get}
+use Rattle.std.specs.Prelude.{ℕ, ◌-◌, ◌==◌, Bool, List, length, Option, option_map, slice_get}
 use Rattle.std.specs.Option.{option_map_or}
-use Rattle.dart_tree.specs.declared.places.Span.{Span}
 use Rattle.dart_tree.specs.declared.places.Place.{Place}
 use Rattle.dart_tree.specs.declared.nodes.Name.{Name}
 use Rattle.dart_tree.specs.Tree.{Tree, Part, name, integer, int_type, declare, assign, eval, print, block, function, unit, trees_of, part_of}
 use Rattle.dart_tree.specs.Numbers.{numbered}
-use Rattle.readings.specs.Readings.{Reading, Rule, token, ◌▹◌, ◌∣◌, make, turn, maybe, many, whole}
+use Rattle.readings.specs.Readings.{Rule, token, ◌▹◌, ◌∣◌, make, turn, maybe, many, whole}
 use Rattle.check_library.specs.declared.token.Token.{Token}
 use Rattle.check_library.specs.declared.token.Kind.{Kind}
 use Rattle.check_library.specs.declared.token.Kind.TheVariants.{Identifier, Integer, Void, Main, Int, Print, OpenParenthesis, CloseParenthesis, OpenBrace, CloseBrace, Equals, Semicolon, Other}

@@ -1,5 +1,5 @@
 -- The tokens of a text.
-use Rattle.std.specs.Prelude.{ℕ, ◌+◌, Bool, true, false, not, List, [], ◌∷◌, ◌++◌, codes, bytes_eq, if◌then◌else◌, unwrap_or, slice_get}
+use Rattle.std.specs.Prelude.{ℕ, ◌+◌, Bool, true, false, List, [], ◌∷◌, ◌++◌, codes, bytes_eq, if◌then◌else◌, unwrap_or, slice_get}
 use Rattle.std.specs.List.{list_any, position_or_len}
 use Rattle.check_library.specs.declared.scan.piece.Class.{Class}
 use Rattle.check_library.specs.declared.scan.piece.Class.TheVariants.{Gap, Word, Integer, Mark, Other}

@@ -1,5 +1,5 @@
 -- A reply that was made and written is the one of the turn.
-use Rattle.std.proofs.Common.{◌≡◌, ℕ, Bool, true, false, List, Option, Some, None, option_map, if◌then◌else◌, refl, sym, ap, ◌∙◌}
+use Rattle.std.proofs.Common.{◌≡◌, ℕ, false, List, Option, Some, option_map, refl, sym, ap, ◌∙◌}
 use Rattle.std.specs.Option.{option_map_or}
 use Rattle.serve_loop.specs.Event.{Event, line, too_long}
 use Rattle.proto_json.specs.Requests.{answer}

@@ -67,30 +67,26 @@ fn is_written(alloc: Global, output: &[u8], parts: &[&str]) -> Result<bool, Fail
     Ok(output == expected.as_slice())
 }
 
+/// An input that is served to its end gives this output.
+fn serves(alloc: Global, input: &[&str], output: &[&str]) -> Result<bool, Fail> {
+    let (status, written) = ran(alloc, &["serve"], input, NEVER, NEVER)?;
+    Ok(status == Status::Done && is_written(alloc, &written, output)?)
+}
+
 #[test]
 fn sessions_are_served(rt: HostRuntime) -> Result<(), Fail> {
-    let alloc = rt.alloc();
-    let table: [(&[&str], &[&str]); 8] = [
-        (&[ADD_CLEAN, GET, "\n"], &[DONE, CLEAN]),
-        (&[ADD_CLEAN, GET], &[DONE, CLEAN]),
-        (&[ADD_UNASSIGNED, GET], &[DONE, UNASSIGNED]),
-        (
-            &[ADD_UNASSIGNED, "\n \t\r\n", ADD_CLEAN, GET],
-            &[DONE, DONE, CLEAN],
-        ),
-        (&[GET, "\n", ADD_CLEAN, GET], &[NOT_ANALYZED, DONE, CLEAN]),
-        (
-            &["[]\n", ADD_CLEAN, "{}\n", GET],
-            &[NO_REQUEST, DONE, NO_REQUEST, CLEAN],
-        ),
-        (&["\n\n"], &[]),
-        (&[], &[]),
-    ];
-    for (input, output) in table {
-        let (status, written) = ran(alloc, &["serve"], input, NEVER, NEVER)?;
-        assert_eq!(rt; status, Status::Done);
-        assert!(rt; is_written(alloc, &written, output)?);
-    }
+    let a = rt.alloc();
+    assert!(rt; serves(a, &[ADD_CLEAN, GET, "\n"], &[DONE, CLEAN])?);
+    assert!(rt; serves(a, &[ADD_CLEAN, GET], &[DONE, CLEAN])?);
+    assert!(rt; serves(a, &[ADD_UNASSIGNED, GET], &[DONE, UNASSIGNED])?);
+    let changed = [ADD_UNASSIGNED, "\n \t\r\n", ADD_CLEAN, GET];
+    assert!(rt; serves(a, &changed, &[DONE, DONE, CLEAN])?);
+    let early = [GET, "\n", ADD_CLEAN, GET];
+    assert!(rt; serves(a, &early, &[NOT_ANALYZED, DONE, CLEAN])?);
+    let refused = ["[]\n", ADD_CLEAN, "{}\n", GET];
+    assert!(rt; serves(a, &refused, &[NO_REQUEST, DONE, NO_REQUEST, CLEAN])?);
+    assert!(rt; serves(a, &["\n\n"], &[])?);
+    assert!(rt; serves(a, &[], &[])?);
     Ok(())
 }
 

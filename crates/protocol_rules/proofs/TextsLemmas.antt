@@ -1,8 +1,8 @@
 -- A table of texts, seen as the list of its paths and texts.
-use Rattle.std.proofs.Common.{◌≡◌, ℕ, Bool, true, false, List, [], ◌∷◌, map, bytes_eq, Option, Some, None, if◌then◌else◌, refl, ap, ◌∙◌}
+use Rattle.std.proofs.Common.{◌≡◌, ℕ, Bool, true, false, List, [], ◌∷◌, map, bytes_eq, if◌then◌else◌, refl, ◌∙◌}
 use Rattle.std.specs.Map.{lookup}
 use Rattle.indexmap.specs.IndexMap.{insert_entry}
-use Rattle.protocol_rules.specs.Texts.{PathsAndTexts, text_in, put_text}
+use Rattle.protocol_rules.specs.Texts.{text_in, put_text}
 
 chosen : {K : Type 0} (shown : K × List ℕ → List ℕ × List ℕ) (b : Bool) (xs ys : List (K × List ℕ)) → map shown (if b then xs else ys) ≡ (if b then map shown xs else map shown ys)
 chosen shown true xs ys = refl

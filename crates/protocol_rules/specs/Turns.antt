@@ -1,5 +1,5 @@
 -- The reply to an event, and the state after it.
-use Rattle.std.specs.Prelude.{ℕ, List, [], ◌∷◌, Bool, codes, if◌then◌else◌, nat_eq, Option, None, Some, option_map, Result, Ok, Err}
+use Rattle.std.specs.Prelude.{ℕ, List, [], Bool, codes, if◌then◌else◌, nat_eq, Option, None, Some, option_map, Result, Ok, Err}
 use Rattle.std.specs.List.{ends_with}
 use Rattle.std.specs.Option.{option_map_or}
 use Rattle.fault_io.specs.Stored.{Stored}

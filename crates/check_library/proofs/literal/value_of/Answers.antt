@@ -1,4 +1,3 @@
-use Rattle.std.proofs.Common.{sym, ◌∙◌, arith}
 use Rattle.check_library.proofs.LiteralLemmas.{past_64_bits, all_digits}
 use Rattle.check_library.proofs.literal.value_of.Goals as goal
 

@@ -1,6 +1,6 @@
-use Rattle.std.proofs.Common.{arith, sym, ◌∙◌}
+use Rattle.std.proofs.Common.{arith}
 use Rattle.readings.specs.Loops.{loop_begins, loop_goes, loop_ends}
-use Rattle.check_library.proofs.ParseLemmas.{nodes_least, nodes_in_all-snoc}
+use Rattle.check_library.proofs.ParseLemmas.{nodes_in_all-snoc}
 use Rattle.check_library.proofs.Agreement.{statement_falls}
 use Rattle.check_library.proofs.parse.statements.Goals as goal
 

@@ -1,6 +1,5 @@
-use Rattle.std.proofs.Common.{◌≡◌, ◌+◌, ◌≤◌, [], length, arith, refl, sym, ap, ◌∙◌, subst, rules}
-use Rattle.check_library.specs.Tokens.{tokens_behind, words_behind, lexemes}
-use Rattle.check_library.proofs.ScanLemmas.{Turn, ahead, tokens-turn, words-turn, tokens-end, words-end}
+use Rattle.std.proofs.Common.{◌≡◌, ◌+◌, length, arith, ap, rules}
+use Rattle.check_library.proofs.ScanLemmas.{Turn, tokens-turn, words-turn, tokens-end, words-end}
 use Rattle.check_library.proofs.scan.scan.Goals as goal
 
 pub loop-rest-preserved : goal.loop-rest-preserved

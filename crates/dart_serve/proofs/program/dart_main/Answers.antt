@@ -1,4 +1,4 @@
-use Rattle.std.proofs.Common.{◌≡◌, true, false, ◌∙◌, sym, rules}
+use Rattle.std.proofs.Common.{◌≡◌, true, ◌∙◌, sym, rules}
 use Rattle.std.proofs.lemmas.Bool.{true≢false}
 use Rattle.dart_serve.proofs.program.dart_main.Goals as goal
 

@@ -1,4 +1,4 @@
-use Rattle.std.proofs.Common.{refl, sym, ap, ◌∙◌, map}
+use Rattle.std.proofs.Common.{refl, ap, ◌∙◌, map}
 use Rattle.std.specs.List.{position_or_len}
 use Rattle.check_library.specs.Tokens.{with_word}
 use Rattle.check_library.proofs.WordsLemmas.{map-with_word, place-map}
