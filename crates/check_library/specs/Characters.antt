@@ -13,6 +13,7 @@ is_hexadecimal_digit byte = is_digit byte || ((nat_le 65 byte && nat_le byte 70)
 abbrev pub is_identifier_start : ℕ → Bool
 is_identifier_start byte = (nat_le 65 byte && nat_le byte 90) || ((nat_le 97 byte && nat_le byte 122) || (byte == 95 || byte == 36))
 
+-- such a character or a digit
 abbrev pub is_identifier_part : ℕ → Bool
 is_identifier_part byte = is_identifier_start byte || is_digit byte
 

@@ -36,13 +36,15 @@ is kind t = rank_of t.kind == rank_of kind
 abbrev pub at_span : ℕ → ℕ → Place
 at_span start end = record { node = record { 0 = 0 }; span = record { start = start; end = end } }
 
+-- where a token stands
 abbrev pub place_of_token : Token → Place
 place_of_token t = at_span t.start t.end
 
--- where the first of these tokens begins, and where the last of them ends
+-- where the first of these tokens begins
 abbrev pub first_start : List Token → ℕ
 first_start read = option_map_or (λ t. t.start) (slice_get read 0) 0
 
+-- where the last of these tokens ends
 abbrev pub last_end : List Token → ℕ
 last_end read = option_map_or (λ t. t.end) (slice_get read (length read - 1)) 0
 
@@ -50,15 +52,19 @@ last_end read = option_map_or (λ t. t.end) (slice_get read (length read - 1)) 0
 abbrev pub place_over : List Token → Place
 place_over read = at_span (first_start read) (last_end read)
 
+-- the name that a token declares or assigns
 abbrev pub variable_of : Token → Name
 variable_of t = record { at = place_of_token t; word = t.word }
 
+-- a name that is read
 abbrev pub name_of : Token → Tree
 name_of t = name (place_of_token t) t.word
 
+-- an integer with its value
 abbrev pub integer_of : List (List ℕ) → Token → Tree
 integer_of words t = integer (place_of_token t) (literal_of (word_at words t.word))
 
+-- the type that a token is
 abbrev pub int_type_of : Token → Tree
 int_type_of t = int_type (place_of_token t)
 
@@ -78,6 +84,7 @@ type_rule = turn int_type_of (token (is Int))
 abbrev pub initial_of : Option (Token × Tree) → Part
 initial_of initial = part_of (option_map (λ i. i.1) initial)
 
+-- the tree of a declaration, from its parts
 abbrev pub declare_of : List Token → Tree × (Name × (Option (Token × Tree) × Token)) → Tree
 declare_of read (declared, (variable, (initial, semicolon))) = declare (place_over read) declared variable (initial_of initial)
 
@@ -85,6 +92,7 @@ declare_of read (declared, (variable, (initial, semicolon))) = declare (place_ov
 unfoldable pub declare_rule : List (List ℕ) → Rule Token Tree
 declare_rule words = make declare_of (type_rule ▹ variable_rule ▹ maybe (token (is Equals) ▹ expression_rule words) ▹ token (is Semicolon))
 
+-- the tree of an assignment, from its parts
 abbrev pub assign_of : List Token → Name × (Token × (Tree × Token)) → Tree
 assign_of read (target, (equals, (value, semicolon))) = assign (place_over read) target value
 
@@ -92,6 +100,7 @@ assign_of read (target, (equals, (value, semicolon))) = assign (place_over read)
 unfoldable pub assign_rule : List (List ℕ) → Rule Token Tree
 assign_rule words = make assign_of (variable_rule ▹ token (is Equals) ▹ expression_rule words ▹ token (is Semicolon))
 
+-- the tree of an expression statement, from its parts
 abbrev pub eval_of : List Token → Tree × Token → Tree
 eval_of read (value, semicolon) = eval (place_over read) value
 
@@ -99,6 +108,7 @@ eval_of read (value, semicolon) = eval (place_over read) value
 unfoldable pub eval_rule : List (List ℕ) → Rule Token Tree
 eval_rule words = make eval_of (expression_rule words ▹ token (is Semicolon))
 
+-- the tree of a print statement, from its parts
 abbrev pub print_of : List Token → Token × (Token × (Tree × (Token × Token))) → Tree
 print_of read (word, (opening, (value, (closing, semicolon)))) = print (place_over read) value
 
@@ -106,10 +116,11 @@ print_of read (word, (opening, (value, (closing, semicolon)))) = print (place_ov
 unfoldable pub print_rule : List (List ℕ) → Rule Token Tree
 print_rule words = make print_of (token (is Print) ▹ token (is OpenParenthesis) ▹ expression_rule words ▹ token (is CloseParenthesis) ▹ token (is Semicolon))
 
--- statement
+-- statement: declaration of a local | assignment | expression statement | print statement
 unfoldable pub statement_rule : List (List ℕ) → Rule Token Tree
 statement_rule words = declare_rule words ∣ assign_rule words ∣ eval_rule words ∣ print_rule words
 
+-- the tree of a block, from its parts
 abbrev pub block_of : List Token → Token × (List Tree × Token) → Tree
 block_of read (opening, (statements, closing)) = block (place_over read) (trees_of statements)
 
@@ -117,6 +128,7 @@ block_of read (opening, (statements, closing)) = block (place_over read) (trees_
 unfoldable pub block_rule : List (List ℕ) → Rule Token Tree
 block_rule words = make block_of (token (is OpenBrace) ▹ many (statement_rule words) ▹ token (is CloseBrace))
 
+-- the tree of a function, from its parts
 abbrev pub function_of : List Token → Token × (Token × (Token × (Token × Tree))) → Tree
 function_of read (result, (main, (opening, (closing, body)))) = function (place_over read) body
 
@@ -124,6 +136,7 @@ function_of read (result, (main, (opening, (closing, body)))) = function (place_
 unfoldable pub function_rule : List (List ℕ) → Rule Token Tree
 function_rule words = make function_of (token (is Void) ▹ token (is Main) ▹ token (is OpenParenthesis) ▹ token (is CloseParenthesis) ▹ block_rule words)
 
+-- the tree of a unit, from its one declaration
 abbrev pub unit_of : List Token → Tree → Tree
 unit_of read main = unit (place_over read) main
 

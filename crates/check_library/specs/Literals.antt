@@ -16,6 +16,7 @@ number_behind base before digits = fold (λ number digit. base * number + digit_
 abbrev pub within_64_bits : ℕ → Option ℕ
 within_64_bits number = if nat_lt number (2 ^ 64) then Some number else None
 
+-- the lexeme is a hexadecimal integer
 abbrev pub is_hexadecimal : List ℕ → Bool
 is_hexadecimal lexeme = begins lexeme (codes "0x") || begins lexeme (codes "0X")
 

@@ -9,6 +9,10 @@ use Rattle.check_library.specs.declared.token.Token.{Token}
 use Rattle.plain_text.specs.Units.{units_in}
 use Rattle.check_library.specs.Pieces.{Spelled, pieces}
 
+-- the most bytes of a text: with no more, each offset fits 32 bits
+abbrev pub text_limit : ℕ
+text_limit = 16777216
+
 -- words that are no identifiers: the reserved ones, and those that this language has for itself
 abbrev pub reserved : List (List ℕ)
 reserved =
@@ -17,6 +21,7 @@ reserved =
     ∷ codes "for" ∷ codes "if" ∷ codes "in" ∷ codes "is" ∷ codes "new" ∷ codes "null" ∷ codes "rethrow" ∷ codes "return" ∷ codes "super"
     ∷ codes "switch" ∷ codes "this" ∷ codes "throw" ∷ codes "true" ∷ codes "try" ∷ codes "var" ∷ codes "while" ∷ codes "with" ∷ []
 
+-- the word is one of these
 abbrev pub is_reserved : List ℕ → Bool
 is_reserved word = list_any (bytes_eq word) reserved
 
@@ -39,6 +44,7 @@ kind_of_mark mark =
     else (if bytes_eq mark (codes "=") then kind.Equals
     else (if bytes_eq mark (codes ";") then kind.Semicolon else kind.Other)))))
 
+-- the kind of a lexeme, from its class and its bytes
 abbrev pub kind_of : Class → List ℕ → Kind
 kind_of Word lexeme = kind_of_word lexeme
 kind_of Integer lexeme = kind.Integer
@@ -52,6 +58,7 @@ pub record Lexeme : Type 0 where
   pub start : ℕ
   pub bytes : List ℕ
 
+-- what stands between lexemes
 abbrev pub is_gap : Class → Bool
 is_gap Gap = true
 is_gap Word = false
@@ -66,6 +73,7 @@ lexemes_from start (piece ∷ more) =
     if is_gap piece.0 then lexemes_from (start + units_in piece.1) more
     else record { class = piece.0; start = start; bytes = piece.1 } ∷ lexemes_from (start + units_in piece.1) more
 
+-- the lexemes of a text
 abbrev pub lexemes : List ℕ → List Lexeme
 lexemes text = lexemes_from 0 (pieces text)
 

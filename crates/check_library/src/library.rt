@@ -2,6 +2,7 @@
 
 ghost use Rattle.std.specs.Prelude.{◌≡◌, ◌≤◌, length, IfOk};
 ghost use Rattle.check_library.specs.Diagnostics.{no_unit, faults_in, diagnostics};
+ghost use Rattle.check_library.specs.Tokens.{text_limit};
 
 use crate::order::sorted;
 use crate::tree::tree;
@@ -41,12 +42,13 @@ impl Diagnostics {
 pub struct Checked {
     /// The path of its file.
     pub path: PlainText,
+    /// What is wrong with its text.
     pub diagnostics: Diagnostics,
 }
 
 /// The one fault of a text that is no unit of the grammar.
 fn no_unit(alloc: Global, text: &[u8]) -> Result<Vec<Fault>, AllocError>
-    requires { length text.now ≤ 16777216 }
+    requires { length text.now ≤ text_limit }
     ensures { IfOk result (λ faults. faults.items ≡ no_unit text.now) }
 {
     let span = Span {
@@ -60,7 +62,7 @@ fn no_unit(alloc: Global, text: &[u8]) -> Result<Vec<Fault>, AllocError>
 
 /// What is wrong with a text, in any order.
 fn faults(alloc: Global, text: &[u8]) -> Result<Vec<Fault>, AllocError>
-    requires { length text.now ≤ 16777216 }
+    requires { length text.now ≤ text_limit }
     ensures { IfOk result (λ faults. faults.items ≡ faults_in text.now) }
 {
     match tree(alloc, text)? {
@@ -72,7 +74,7 @@ fn faults(alloc: Global, text: &[u8]) -> Result<Vec<Fault>, AllocError>
 /// Checks the library that the text of a file of at most 16,777,216 bytes is.
 #[tactic(auto, unfolding(crate::specs::Diagnostics::diagnostics))]
 pub fn check(alloc: Global, path: &str, text: &str) -> Result<Checked, AllocError>
-    requires { length text.now ≤ 16777216 }
+    requires { length text.now ≤ text_limit }
     ensures path { IfOk result (λ checked. checked.path ≡ path.now) }
     ensures diagnostics { IfOk result (λ checked. checked.diagnostics ≡ diagnostics text.now) }
 {

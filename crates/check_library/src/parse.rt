@@ -1,4 +1,5 @@
-//! The parser: it goes down by the tokens, with no way back.
+//! The parser: it goes down by the tokens, takes the first form that they begin with, and never
+//! gives a reading up for another.
 
 ghost use Rattle.std.specs.Prelude.{◌≡◌, ◌+◌, ◌<◌, ◌≤◌, length, IfOk};
 ghost use Rattle.dart_tree.specs.Tree.{trees_of};
@@ -36,6 +37,7 @@ impl<T: Drop> From<AllocFailed<T>> for Miss {
     }
 }
 
+/// A place whose node has no number yet, from a UTF-16 offset to past another.
 fn place(start: u32, end: u32) -> Place
     ensures { result ≡ at_span start end }
 {
@@ -45,6 +47,7 @@ fn place(start: u32, end: u32) -> Place
     }
 }
 
+/// Where a token stands.
 fn place_of_token(token: Token) -> Place
     ensures { result ≡ place_of_token token }
 {
@@ -98,6 +101,7 @@ fn variable(tokens: &[Token]) -> Result<(Name, &[Token]), Miss>
     Ok((name, rest))
 }
 
+/// An identifier that is read.
 fn name(tokens: &[Token]) -> Result<(Expr, &[Token]), Miss>
     ensures reading { Gives (λ x. (x.0, x.1.now)) result (take_turn name_of (take_token (is Kind.Identifier)) tokens.now) }
     ensures fewer { IfOk result (λ x. nodes_in x.0 + length x.1.now ≤ length tokens.now) }
@@ -110,6 +114,7 @@ fn name(tokens: &[Token]) -> Result<(Expr, &[Token]), Miss>
     Ok((Expr { node }, rest))
 }
 
+/// An integer literal, with its value.
 fn integer<'k>(words: &Words<'_>, tokens: &'k [Token]) -> Result<(Expr, &'k [Token]), Miss>
     ensures reading { Gives (λ x. (x.0, x.1.now)) result (take_turn (integer_of words.now) (take_token (is Kind.Integer)) tokens.now) }
     ensures fewer { IfOk result (λ x. nodes_in x.0 + length x.1.now ≤ length tokens.now) }
@@ -122,6 +127,7 @@ fn integer<'k>(words: &Words<'_>, tokens: &'k [Token]) -> Result<(Expr, &'k [Tok
     Ok((Expr { node }, rest))
 }
 
+/// An identifier or an integer.
 #[tactic(auto, unfolding(crate::specs::Descents::take_expression))]
 fn expression<'k>(words: &Words<'_>, tokens: &'k [Token]) -> Result<(Expr, &'k [Token]), Miss>
     ensures reading { Gives (λ x. (x.0, x.1.now)) result (take_expression words.now tokens.now) }
@@ -134,6 +140,7 @@ fn expression<'k>(words: &Words<'_>, tokens: &'k [Token]) -> Result<(Expr, &'k [
     }
 }
 
+/// A type.
 #[tactic(auto, unfolding(crate::specs::Descents::take_type))]
 fn written_type(tokens: &[Token]) -> Result<(WrittenType, &[Token]), Miss>
     ensures reading { Gives (λ x. (x.0, x.1.now)) result (take_type tokens.now) }
@@ -174,6 +181,7 @@ fn initializer<'k>(
     }
 }
 
+/// The declaration of a local.
 #[tactic(auto, unfolding(crate::specs::Descents::take_declare))]
 fn declare<'k>(words: &Words<'_>, tokens: &'k [Token]) -> Result<(Stmt, &'k [Token]), Miss>
     ensures reading { Gives (λ x. (x.0, x.1.now)) result (take_declare words.now tokens.now) }
@@ -192,6 +200,7 @@ fn declare<'k>(words: &Words<'_>, tokens: &'k [Token]) -> Result<(Stmt, &'k [Tok
     Ok((Stmt { node }, rest))
 }
 
+/// An assignment.
 #[tactic(auto, unfolding(crate::specs::Descents::take_assign))]
 fn assign<'k>(words: &Words<'_>, tokens: &'k [Token]) -> Result<(Stmt, &'k [Token]), Miss>
     ensures reading { Gives (λ x. (x.0, x.1.now)) result (take_assign words.now tokens.now) }
@@ -206,6 +215,7 @@ fn assign<'k>(words: &Words<'_>, tokens: &'k [Token]) -> Result<(Stmt, &'k [Toke
     Ok((Stmt { node }, rest))
 }
 
+/// An expression statement.
 #[tactic(auto, unfolding(crate::specs::Descents::take_eval))]
 fn eval<'k>(words: &Words<'_>, tokens: &'k [Token]) -> Result<(Stmt, &'k [Token]), Miss>
     ensures reading { Gives (λ x. (x.0, x.1.now)) result (take_eval words.now tokens.now) }
@@ -218,6 +228,7 @@ fn eval<'k>(words: &Words<'_>, tokens: &'k [Token]) -> Result<(Stmt, &'k [Token]
     Ok((Stmt { node }, rest))
 }
 
+/// A print statement.
 #[tactic(auto, unfolding(crate::specs::Descents::take_print))]
 fn print<'k>(words: &Words<'_>, tokens: &'k [Token]) -> Result<(Stmt, &'k [Token]), Miss>
     ensures reading { Gives (λ x. (x.0, x.1.now)) result (take_print words.now tokens.now) }
@@ -233,6 +244,7 @@ fn print<'k>(words: &Words<'_>, tokens: &'k [Token]) -> Result<(Stmt, &'k [Token
     Ok((Stmt { node }, rest))
 }
 
+/// An expression statement or a print statement.
 fn eval_or_print<'k>(words: &Words<'_>, tokens: &'k [Token]) -> Result<(Stmt, &'k [Token]), Miss>
     ensures reading { Gives (λ x. (x.0, x.1.now)) result ((take_eval words.now ⊘ take_print words.now) tokens.now) }
     ensures fewer { IfOk result (λ x. nodes_in x.0 + length x.1.now ≤ length tokens.now) }
@@ -256,6 +268,7 @@ fn other_statement<'k>(words: &Words<'_>, tokens: &'k [Token]) -> Result<(Stmt, 
     }
 }
 
+/// A statement: the first form that the tokens begin with.
 #[tactic(auto, unfolding(crate::specs::Descents::take_statement))]
 fn statement<'k>(words: &Words<'_>, tokens: &'k [Token]) -> Result<(Stmt, &'k [Token]), Miss>
     ensures reading { Gives (λ x. (x.0, x.1.now)) result (take_statement words.now tokens.now) }
@@ -292,6 +305,7 @@ fn statements<'k>(
     Ok((list, rest))
 }
 
+/// A block.
 #[tactic(auto, unfolding(crate::specs::Descents::take_block))]
 fn block<'k>(
     alloc: Global,
@@ -308,6 +322,7 @@ fn block<'k>(
     Ok((Block { at, statements }, rest))
 }
 
+/// The function `main`.
 #[tactic(auto, unfolding(crate::specs::Descents::take_function))]
 fn function<'k>(
     alloc: Global,
@@ -326,6 +341,7 @@ fn function<'k>(
     Ok((Function { at, body }, rest))
 }
 
+/// A unit at the front of the tokens, and the tokens behind it.
 #[tactic(auto, unfolding(crate::specs::Descents::take_unit))]
 pub fn unit<'k>(
     alloc: Global,

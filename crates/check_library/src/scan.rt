@@ -2,7 +2,7 @@
 
 ghost use Rattle.std.specs.Prelude.{◌≡◌, ◌+◌, ◌*◌, ◌^◌, ◌<◌, ◌≤◌, [], ◌∷◌, ◌++◌, length, IfOk, OnOk, if◌then◌else◌};
 ghost use Rattle.plain_text.specs.Units.{units_in};
-ghost use Rattle.check_library.specs.Tokens.{is_gap, token_of, with_word, tokens_of, words_of};
+ghost use Rattle.check_library.specs.Tokens.{text_limit, is_gap, token_of, with_word, tokens_of, words_of};
 
 mod comment;
 mod kind;
@@ -52,7 +52,7 @@ impl<'t> Scanned<'t> {
 
 /// The tokens of a text of at most 16,777,216 bytes.
 pub fn scan(alloc: Global, text: &[u8]) -> Result<Scanned<'_>, AllocError>
-    requires { length text.now ≤ 16777216 }
+    requires { length text.now ≤ text_limit }
     ensures tokens { IfOk result (λ scanned. scanned.tokens.items ≡ tokens_of text.now) }
     ensures words { IfOk result (λ scanned. scanned.words ≡ words_of text.now) }
     ensures few { IfOk result (λ scanned. length scanned.tokens.items ≤ length text.now) }

@@ -4,6 +4,7 @@ ghost use Rattle.std.specs.Prelude.{◌≡◌, ◌<◌, ◌≤◌, ◌^◌, leng
 ghost use Rattle.dart_tree.specs.Numbers.{nodes_in};
 ghost use Rattle.readings.specs.Readings.{whole};
 ghost use Rattle.check_library.specs.Grammar.{unit_rule, tree_of};
+ghost use Rattle.check_library.specs.Tokens.{text_limit};
 
 use crate::parse::{Miss, unit};
 use crate::scan::{Words, scan};
@@ -36,7 +37,7 @@ fn whole_unit(
 /// The tree of a text of at most 16,777,216 bytes, its nodes numbered in reading order; None where
 /// the text is no unit of the grammar.
 pub fn tree(alloc: Global, text: &[u8]) -> Result<Option<Unit>, AllocError>
-    requires { length text.now ≤ 16777216 }
+    requires { length text.now ≤ text_limit }
     ensures { IfOk result (λ found. found ≡ tree_of text.now) }
 {
     let scanned = scan(alloc, text)?;

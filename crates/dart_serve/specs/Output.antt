@@ -4,6 +4,7 @@ use Rattle.std.specs.Option.{ForSome}
 use Rattle.fault_io.specs.Bytes.{and_then}
 use Rattle.fault_io.specs.Stored.{Stored}
 use Rattle.serve_loop.specs.Served.{Served}
+use Rattle.proto_json.specs.Requests.{max_line}
 use Rattle.serve_loop.specs.declared.end.ServeEnd.{ServeEnd}
 use Rattle.serve_loop.specs.declared.end.ServeEnd.TheVariants as End
 use Rattle.protocol_rules.specs.Turns.{at_start, reply_to, state_after}
@@ -20,6 +21,10 @@ is_serve (word ∷ (more ∷ words)) = false
 abbrev pub usage_line : List ℕ
 usage_line = codes "usage: dart_serve serve|check FILE|run FILE|make N [options]" ++ 10 ∷ []
 
+-- 2^40 bytes: an input that has so many isn't read on
+abbrev pub input_limit : ℕ
+input_limit = 1099511627776
+
 -- the status of an end of serving
 abbrev pub status_for : ServeEnd → Status
 status_for End.Done = Done
@@ -33,7 +38,7 @@ status_for End.SinkMemory = Memory
 pub record ServeOutput (told : Option Stored) (input : List ℕ) (old new left : Option (List ℕ)) (faults faults' : ℕ) (status : Status) : Type 0 where
   pub end : ServeEnd
   pub status_is : status ≡ status_for end
-  pub served : Served (λ _. false) (λ s. reply_to s told) (λ s. state_after s told) 16777216 1099511627776 at_start input old new left faults faults' end
+  pub served : Served (λ _. false) (λ s. reply_to s told) (λ s. state_after s told) max_line input_limit at_start input old new left faults faults' end
 
 -- a front of the usage line that isn't all of it
 abbrev pub PartOfUsage : Option (List ℕ) → Option (List ℕ) → Type 0

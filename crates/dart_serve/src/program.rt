@@ -51,7 +51,8 @@ fn refuse<K: Sink>(alloc: Global, sink: &mut K) -> Status
 /// is the replies that the rules of the protocol define, and each reply to `analysis.getErrors`
 /// lists exactly the diagnostics that the rules of the language define, from nothing, for the text
 /// then current. The other clauses say when each fault comes: a count of faults rises, or stands at
-/// its end, exactly where the status says so, and the store of files is not used.
+/// its end, exactly where the status says so; nothing is read where the words are refused, and the
+/// store of files is not used.
 pub fn dart_main<S: Source, K: Sink, F: Files>(
     alloc: Global,
     words: &[PlainText],
@@ -65,6 +66,7 @@ pub fn dart_main<S: Source, K: Sink, F: Files>(
     ensures no_read_fault { result ≢ Status.ReadFault → S.faults source.new ≡ S.faults source.old }
     ensures write_fault { result ≡ Status.WriteFault → Rose (K.faults sink.old) (K.faults sink.new) }
     ensures no_write_fault { result ≢ Status.WriteFault → K.faults sink.new ≡ K.faults sink.old }
+    ensures unread { is_serve words.now ≡ false → source.new ≡ source.old }
     ensures store { F.faults files.new ≡ F.faults files.old }
     ensures told { F.told files.new ≡ F.told files.old }
 {

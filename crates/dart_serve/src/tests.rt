@@ -23,6 +23,19 @@ const CLEAN: &str = "{\"id\":\"2\",\"result\":{\"errors\":[]}}\n";
 const UNASSIGNED: &str =
     "{\"id\":\"2\",\"result\":{\"errors\":[{\"code\":\"unassigned_read\",\"location\":{\"file\":\"/a.dart\",\"length\":1,\"offset\":25,\"startColumn\":26,\"startLine\":1},\"message\":\"Unassigned read.\",\"severity\":\"ERROR\",\"type\":\"COMPILE_TIME_ERROR\"}]}}\n";
 
+/// A byte order mark, two lines, a character of two code units, and four errors.
+const ADD_FAULTY: &str =
+    "{\"id\":\"1\",\"method\":\"analysis.updateContent\",\"params\":{\"files\":{\"/a.dart\":{\"type\":\"add\",\"content\":\"\\ufeffvoid main(){\\r\\n/*\\ud83d\\ude00*/x; int x=x; int x=0x10000000000000000;}\"}}}}\n";
+
+const FAULTY: [&str; 6] = [
+    "{\"id\":\"2\",\"result\":{\"errors\":[",
+    "{\"code\":\"referenced_before_declaration\",\"location\":{\"file\":\"/a.dart\",\"length\":1,\"offset\":21,\"startColumn\":7,\"startLine\":2},\"message\":\"Referenced before declaration.\",\"severity\":\"ERROR\",\"type\":\"COMPILE_TIME_ERROR\"},",
+    "{\"code\":\"referenced_before_declaration\",\"location\":{\"file\":\"/a.dart\",\"length\":1,\"offset\":30,\"startColumn\":16,\"startLine\":2},\"message\":\"Referenced before declaration.\",\"severity\":\"ERROR\",\"type\":\"COMPILE_TIME_ERROR\"},",
+    "{\"code\":\"duplicate_definition\",\"location\":{\"file\":\"/a.dart\",\"length\":1,\"offset\":37,\"startColumn\":23,\"startLine\":2},\"message\":\"Duplicate definition.\",\"severity\":\"ERROR\",\"type\":\"COMPILE_TIME_ERROR\"},",
+    "{\"code\":\"integer_literal_out_of_range\",\"location\":{\"file\":\"/a.dart\",\"length\":19,\"offset\":39,\"startColumn\":25,\"startLine\":2},\"message\":\"Integer literal out of range.\",\"severity\":\"ERROR\",\"type\":\"COMPILE_TIME_ERROR\"}",
+    "]}}\n",
+];
+
 const NOT_ANALYZED: &str =
     "{\"error\":{\"code\":\"GET_ERRORS_INVALID_FILE\",\"message\":\"The file is not analyzed.\"},\"id\":\"2\"}\n";
 
@@ -85,6 +98,8 @@ fn sessions_are_served(rt: HostRuntime) -> Result<(), Fail> {
     assert!(rt; serves(a, &early, &[NOT_ANALYZED, DONE, CLEAN])?);
     let refused = ["[]\n", ADD_CLEAN, "{}\n", GET];
     assert!(rt; serves(a, &refused, &[NO_REQUEST, DONE, NO_REQUEST, CLEAN])?);
+    let faulty = [DONE, FAULTY[0], FAULTY[1], FAULTY[2], FAULTY[3], FAULTY[4], FAULTY[5]];
+    assert!(rt; serves(a, &[ADD_FAULTY, GET], &faulty)?);
     assert!(rt; serves(a, &["\n\n"], &[])?);
     assert!(rt; serves(a, &[], &[])?);
     Ok(())

@@ -9,14 +9,18 @@ use std::marker::Model;
 /// How the digits of an integer literal are read (Dart specification, "Numbers").
 #[derive(Clone, Copy, Debug, PartialEq, Eq)]
 pub enum Radix {
+    /// Digits `0` to `9`.
     Decimal,
+    /// `0x` or `0X`, and digits `0` to `9`, `a` to `f` and `A` to `F`.
     Hexadecimal,
 }
 
 /// An integer literal: its radix, and its value where that is below 2^64.
 #[derive(Clone, Copy, Debug, PartialEq, Eq)]
 pub struct IntegerLiteral {
+    /// How its digits are read.
     pub radix: Radix,
+    /// The number that its digits stand for; None where that is 2^64 or more.
     pub magnitude: Option<u64>,
 }
 
@@ -25,7 +29,9 @@ pub struct IntegerLiteral {
 /// It is a node of its own, with a number of its own.
 #[derive(Clone, Copy, Debug, PartialEq, Eq)]
 pub struct Name {
+    /// Its number and its range of text.
     pub at: Place,
+    /// The place of its letters among the words of the text, from 0: equal for equal names.
     pub word: u32,
 }
 
@@ -54,6 +60,7 @@ pub enum Production {
 /// An expression.
 #[derive(Drop)]
 pub struct Expr {
+    /// Its form, with its parts.
     pub node: ExprNode,
 }
 
@@ -94,6 +101,7 @@ impl Expr {
 /// A type as it is written.
 #[derive(Drop)]
 pub struct WrittenType {
+    /// Its form, with its parts.
     pub node: WrittenTypeNode,
 }
 
@@ -131,6 +139,7 @@ impl WrittenType {
 /// A statement.
 #[derive(Drop)]
 pub struct Stmt {
+    /// Its form, with its parts.
     pub node: StmtNode,
 }
 
@@ -192,7 +201,9 @@ impl Stmt {
 /// Statements between braces.
 #[derive(Drop)]
 pub struct Block {
+    /// Its number, and its range of text with its braces.
     pub at: Place,
+    /// The statements, in their order.
     pub statements: Vec<Stmt>,
 }
 
@@ -219,7 +230,9 @@ impl Block {
 /// The function `main`, as `void main()` and its block.
 #[derive(Drop)]
 pub struct Function {
+    /// Its number and its range of text.
     pub at: Place,
+    /// The block that it runs.
     pub body: Block,
 }
 
@@ -246,7 +259,9 @@ impl Function {
 /// A whole program text.
 #[derive(Drop)]
 pub struct Unit {
+    /// Its number and its range of text, from its first to its last token.
     pub at: Place,
+    /// Its one declaration.
     pub main: Function,
 }
 

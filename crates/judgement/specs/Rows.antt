@@ -1,4 +1,4 @@
--- The table: what each form gives, from the model before it. A row names the rule that it states.
+-- The table: what each form gives, from the model before it. Each row says its rule in words.
 use Rattle.std.specs.Prelude.{ℕ, ◌^◌, Bool, true, false, not, ◌&&◌, ◌||◌, List, [], ◌∷◌, ◌++◌, nat_lt, is_some, if◌then◌else◌, Option, Some, None}
 use Rattle.std.specs.Option.{option_map_or}
 use Rattle.std.specs.FinMap.{get}
@@ -31,9 +31,11 @@ pub record Outcome : Type 0 where
   pub after : FlowModel
   pub faults : List Fault
 
+-- one diagnostic, over the range of a part
 abbrev pub fault_at : Place → DiagnosticCode → List Fault
 fault_at at code = record { span = at.span; code = code } ∷ []
 
+-- a type, and nothing more known than before
 abbrev pub of_type : Ty → FlowModel → Value
 of_type ty m = record { ty = ty; after = m; faults = [] }
 
@@ -41,6 +43,7 @@ of_type ty m = record { ty = ty; after = m; faults = [] }
 abbrev pub faulty : Place → DiagnosticCode → FlowModel → Value
 faulty at code m = record { ty = invalid; after = m; faults = fault_at at code }
 
+-- no diagnostic: this is known after it
 abbrev pub just : FlowModel → Outcome
 just m = record { after = m; faults = [] }
 
@@ -61,6 +64,7 @@ abbrev pub is_below : Radix → ℕ → Bool
 is_below Decimal magnitude = nat_lt magnitude (2 ^ 63)
 is_below Hexadecimal magnitude = true
 
+-- the value of a literal is an int
 abbrev pub is_in_range : IntegerLiteral → Bool
 is_in_range literal = option_map_or (is_below literal.radix) literal.magnitude false
 
@@ -77,6 +81,7 @@ read_row at (Some local) m = if local.assigned then of_type (current_of local) m
 abbrev pub name_row : Names → Place → ℕ → FlowModel → Value
 name_row names at word m = option_map_or (λ var. read_row at (facts_of m var) m) (get names word) (faulty at UndefinedName m)
 
+-- the type Invalid, or `Invalid?`
 abbrev pub is_invalid : Ty → Bool
 is_invalid t = same_type (bare_of t) invalid
 

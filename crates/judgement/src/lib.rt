@@ -34,6 +34,8 @@ pub enum DiagnosticCode {
 /// Diagnostics are ordered by where they stand, and those of one place by their codes' names.
 #[derive(Clone, Copy, Debug, PartialEq, Eq, PartialOrd, Ord)]
 pub struct Fault {
+    /// The part of the text that is wrong.
     pub span: Span,
+    /// What is wrong with it.
     pub code: DiagnosticCode,
 }

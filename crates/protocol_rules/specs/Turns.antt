@@ -39,7 +39,7 @@ refused_turn s id code = record { id = id; body = Error code; after = s }
 abbrev pub invalid_turn : Contents → Turn
 invalid_turn s = refused_turn s [] InvalidRequest
 
--- An update gives the file its text; nothing was computed that would have to be dropped.
+-- An update gives the file its text.
 abbrev pub update_turn : Contents → List ℕ → List ℕ → List ℕ → Turn
 update_turn s id path text = record { id = id; body = Plain; after = record s { texts = put_text path text s.texts } }
 
@@ -47,7 +47,7 @@ update_turn s id path text = record { id = id; body = Plain; after = record s { 
 abbrev pub analyzed : Contents → List ℕ → Option (List ℕ)
 analyzed s file = if ends_with nat_eq file (codes ".dart") then text_in file s.texts else None
 
--- the errors of a text: the diagnostics that the rules give, from nothing, for the text as it now stands
+-- the errors of a text: the diagnostics that the rules give, from nothing, for the text as it now stands; a refusal where there is no text
 abbrev pub errors_body : List ℕ → Option (List ℕ) → ReplyBody
 errors_body file None = Error GetErrorsInvalidFile
 errors_body file (Some text) = Errors (rows_of file text (diagnostics text))

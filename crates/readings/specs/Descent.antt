@@ -1,4 +1,4 @@
--- Going down by the tokens: of each rule one reading, or none, with no way back.
+-- Going down by the tokens: of each rule one reading, or none; a reading is never given up for another.
 use Rattle.std.specs.Prelude.{ℕ, zero, suc, Bool, List, [], ◌∷◌, Option, Some, None, length, if◌then◌else◌}
 use Rattle.readings.specs.Readings.{Reading, behind, tokens_read, made, listed, whole_or}
 

@@ -1,4 +1,5 @@
-//! The combinators in which a grammar is defined, and what a parser without a way back finds.
+//! The combinators in which a grammar is defined, and what a parser finds that never gives a
+//! reading up for another.
 //!
 //! A rule of a grammar is the ordered list of its readings (`specs/Readings.antt`), a parser a
 //! descent that gives one (`specs/Descent.antt`). The contracts here state that the descent's
@@ -30,7 +31,8 @@ pub fn longest_laws<T, A>()
     ensures whole { (stop : T → Bool) (p : Rule T A) (g : Descent T A) → Agrees stop p g → (ts : List T) → whole (p ts) ≡ complete (g ts) }
 {}
 
-/// Descents parse rules by one token of look-ahead, combinator by combinator.
+/// Descents parse rules, combinator by combinator, where alternatives never both read or differ
+/// in their first token.
 ///
 /// `s` are the tokens before which a shorter reading of the first rule may stop, `f` those with
 /// which it begins; `u` and `v` are these of the second.

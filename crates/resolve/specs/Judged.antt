@@ -2,13 +2,8 @@
 use Rattle.std.specs.Prelude.{◌≡◌, List, ◌++◌}
 use Rattle.flow_model.specs.Ty.{Ty}
 use Rattle.flow_model.specs.Flow.{FlowModel}
-use Rattle.flow_model.specs.declared.subtyping.Rows.{Rows}
 use Rattle.judgement.specs.declared.Fault.{Fault}
 use Rattle.judgement.specs.Rows.{Value, Outcome}
-
--- the rows of no classes
-abbrev pub no_rows : Rows
-no_rows = record {}
 
 -- an expression has the type of the value, the model is the one after it, and its diagnostics were added to those found before
 pub record Evaluates (found now : List Fault) (model : FlowModel) (ty : Ty) (value : Value) : Type 0 where

@@ -6,8 +6,7 @@ mod writes;
 
 ghost use Rattle.std.specs.Prelude.{◌≡◌, ◌++◌, IfOk, OnOk};
 ghost use Rattle.judgement.specs.Rows.{fault_at};
-ghost use Rattle.judgement.specs.Judgement.{faults_of};
-ghost use Rattle.resolve.specs.Judged.{no_rows};
+ghost use Rattle.judgement.specs.Judgement.{faults_of, no_rows};
 
 use crate::names::BlockNames;
 use dart_tree::{Block, Function, Place, Unit};
