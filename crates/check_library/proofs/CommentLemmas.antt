@@ -3,7 +3,7 @@ use Rattle.std.proofs.Common.{◌≡◌, ◌≢◌, ℕ, zero, suc, ◌+◌, ◌
 use Rattle.std.proofs.lemmas.List.{drop-drop, drop_all}
 use Rattle.check_library.specs.Pieces.{begins, comment_end}
 
-comment_end-empty : (steps inner : ℕ) → comment_end steps inner [] ≡ None
+pub comment_end-empty : (steps inner : ℕ) → comment_end steps inner [] ≡ None
 unfolding comment_end
 comment_end-empty zero inner = refl
 comment_end-empty (suc steps) inner = ap (option_map (λ n. 1 + n)) (comment_end-empty steps inner)
@@ -44,7 +44,7 @@ end_of-step inner text =
       comment_end-enough (length text) (length (drop 1 text)) inner (drop 1 text) less first,
     ) refl
 
-further : (a b : ℕ) (o : Option ℕ) → option_map (λ n. a + n) (option_map (λ n. b + n) o) ≡ option_map (λ n. (a + b) + n) o
+pub further : (a b : ℕ) (o : Option ℕ) → option_map (λ n. a + n) (option_map (λ n. b + n) o) ≡ option_map (λ n. (a + b) + n) o
 further a b None = refl
 further a b (Some n) = ap Some (omega arith)
 

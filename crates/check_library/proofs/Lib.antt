@@ -1,4 +1,5 @@
 pub mod CommentLemmas
+pub mod CommentLaws
 pub mod WordsLemmas
 pub mod ScanLemmas
 pub mod LawLemmas

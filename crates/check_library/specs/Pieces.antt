@@ -1,5 +1,5 @@
 -- The pieces of a text: gaps and lexemes, one after another, each the longest at its place.
-use Rattle.std.specs.Prelude.{ℕ, zero, suc, ◌+◌, ◌-◌, ◌==◌, Bool, true, false, ◌&&◌, ◌||◌, List, [], ◌∷◌, length, take, drop, take_while, max, codes, nat_eq, nat_lt, if◌then◌else◌, Option, Some, None, option_map}
+use Rattle.std.specs.Prelude.{ℕ, zero, suc, ◌+◌, ◌-◌, ◌==◌, Bool, true, false, ◌&&◌, ◌||◌, List, [], ◌∷◌, length, take, drop, take_while, ◌++◌, max, codes, IsTrue, nat_eq, nat_lt, not, if◌then◌else◌, Option, Some, None, option_map}
 use Rattle.std.specs.Option.{option_map_or}
 use Rattle.std.specs.List.{starts_with}
 use Rattle.check_library.specs.declared.scan.piece.Class.{Class}
@@ -71,6 +71,21 @@ first_size (mark ∷ more) text = if begins text mark then length mark else firs
 -- A mark of punctuation.
 abbrev pub mark_size : List ℕ → ℕ
 mark_size text = first_size marks text
+
+-- neither `/*` nor `*/` begins here
+abbrev pub neither_opens_nor_closes : List ℕ → Bool
+neither_opens_nor_closes text = not (begins text (codes "/*")) && not (begins text (codes "*/"))
+
+mutual
+  -- A comment: `/*`, parts, and `*/`. Comments nest.
+  pub data IsComment : List ℕ → Type 0 where
+    comment : {parts : List ℕ} → AreParts parts → IsComment (codes "/*" ++ (parts ++ codes "*/"))
+
+  -- the parts of a comment, up to its `*/`: each is a whole comment, or one byte at which neither `/*` nor `*/` begins
+  pub data AreParts : List ℕ → Type 0 where
+    no_more : AreParts []
+    inner_comment : {inner parts : List ℕ} → IsComment inner → AreParts parts → AreParts (inner ++ parts)
+    plain_byte : {byte : ℕ} {parts : List ℕ} → IsTrue (neither_opens_nor_closes (byte ∷ (parts ++ codes "*/"))) → AreParts parts → AreParts (byte ∷ parts)
 
 -- How long the text is up to the end of a comment in which `inner` further comments are open, if it ends within so many steps. Comments nest.
 unfoldable pub comment_end : (steps : ℕ) → (inner : ℕ) → List ℕ → Option ℕ
