@@ -1,6 +1,6 @@
 //! The program over a source, a sink and a store of files.
 
-ghost use Rattle.std.specs.Prelude.{◌≡◌, ◌≢◌};
+ghost use Rattle.std.specs.Prelude.{◌≡◌, ◌≢◌, false};
 ghost use Rattle.fault_io.specs.Faults.{Rose};
 ghost use Rattle.dart_serve.specs.Output.{is_serve, Output, RefusedOutput, MayEnd};
 
