@@ -1,5 +1,8 @@
 -- What a row says of a code.
 use Rattle.std.specs.Prelude.{ℕ, List, [], ◌∷◌, ◌++◌, map, codes, if◌then◌else◌, ◌==◌}
+use Rattle.std.specs.Ordering.{nat_cmp}
+use Rattle.std.specs.Cmp.Lexicographic.{slice_cmp}
+use Rattle.std.specs.declared.cmp.Ordering.{Ordering}
 use Rattle.std.specs.Str.{byte}
 use Rattle.std.specs.Char.{to_ascii_uppercase}
 use Rattle.judgement.specs.declared.DiagnosticCode.{DiagnosticCode}
@@ -16,6 +19,10 @@ name_of ReferencedBeforeDeclaration = codes "referenced_before_declaration"
 name_of SyntaxError = codes "syntax_error"
 name_of UnassignedRead = codes "unassigned_read"
 name_of UndefinedName = codes "undefined_name"
+
+-- two codes by the bytes of their names: the first byte that differs decides, else the shorter name is less
+abbrev pub name_cmp : DiagnosticCode → DiagnosticCode → Ordering
+name_cmp a b = slice_cmp nat_cmp (name_of a) (name_of b)
 
 -- the words of a name: a space stands for each low line
 abbrev pub words_of : List ℕ → List ℕ

@@ -10,7 +10,10 @@ use plain_text::units_of_byte;
 /// A line and a column, both from 1; the column in UTF-16 code units.
 #[derive(Clone, Copy, Debug, PartialEq, Eq)]
 pub struct Position {
+    /// One more than the line feeds before it.
     pub line: u32,
+    /// One more than the UTF-16 code units between the last line feed before it, or the start of
+    /// the text, and it.
     pub column: u32,
 }
 
@@ -21,6 +24,7 @@ pub struct Cursor {
     pub bytes: usize,
     /// How many UTF-16 code units these are.
     pub offset: u32,
+    /// Its line and column.
     pub position: Position,
 }
 

@@ -8,9 +8,11 @@
 
 mod code;
 mod cursor;
+mod laws;
 mod rows;
 
 pub use code::{code_name, error_kind, message};
+pub use laws::codes_are_ordered_by_name;
 pub use rows::render;
 
 #[cfg(test)]
