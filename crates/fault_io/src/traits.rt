@@ -65,7 +65,9 @@ impl From<AllocError> for FilesRefusal {
 /// What an entry of a folder is.
 #[derive(Clone, Copy, Debug, PartialEq, Eq)]
 pub enum EntryKind {
+    /// A folder, which `Files::list` lists.
     Folder,
+    /// A file, whose bytes `Files::read` gives.
     File,
     /// Neither, as a link or a device.
     Other,
@@ -76,6 +78,7 @@ pub enum EntryKind {
 pub struct Entry {
     /// One segment of a path, without a slash.
     pub name: PlainText,
+    /// What stands under that name.
     pub kind: EntryKind,
 }
 

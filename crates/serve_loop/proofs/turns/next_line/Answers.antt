@@ -31,7 +31,8 @@ returns-in-Ok-InputSpent-clause-next g c = λ input lines e s.
     let k = rw c.in-Ok-InputSpent.field-0-is at c.in-Ok-InputSpent.ensures.next in
     let z = rw c.in-Ok-InputSpent.field-0-is at c.in-Ok-InputSpent.ensures.at_end in
     let o : c.args.line.now.at_end ≡ false = false_from_ne_true _ (λ a. let q = (z a).0 in cc) in
-    spent_stop input lines c.args.line.now c.read_line.new.line s c.read_line.ensures.budget o (k o _ e)
+    let h = k o _ e in
+    spent_stop input lines c.args.line.now c.read_line.new.line s c.read_line.ensures.budget o (h.0, h.1)
 
 pub returns-in-Err-Failed-clause-next : goal.returns-in-Err-Failed-clause-next
 returns-in-Err-Failed-clause-next g c = λ input lines e s.
