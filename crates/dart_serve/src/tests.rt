@@ -98,7 +98,9 @@ fn sessions_are_served(rt: HostRuntime) -> Result<(), Fail> {
     assert!(rt; serves(a, &early, &[NOT_ANALYZED, DONE, CLEAN])?);
     let refused = ["[]\n", ADD_CLEAN, "{}\n", GET];
     assert!(rt; serves(a, &refused, &[NO_REQUEST, DONE, NO_REQUEST, CLEAN])?);
-    let faulty = [DONE, FAULTY[0], FAULTY[1], FAULTY[2], FAULTY[3], FAULTY[4], FAULTY[5]];
+    let faulty = [
+        DONE, FAULTY[0], FAULTY[1], FAULTY[2], FAULTY[3], FAULTY[4], FAULTY[5],
+    ];
     assert!(rt; serves(a, &[ADD_FAULTY, GET], &faulty)?);
     assert!(rt; serves(a, &["\n\n"], &[])?);
     assert!(rt; serves(a, &[], &[])?);
