@@ -45,7 +45,7 @@ const NO_REQUEST: &str =
 const USAGE_LINE: &str = "usage: dart_serve serve|check FILE|run FILE|make N [options]\n";
 
 /// No call has this number.
-const NEVER: u64 = 99;
+const NEVER: u64 = u64::MAX;
 
 /// What the program writes, and its status, for words and an input in parts; one read and one
 /// write fail.
