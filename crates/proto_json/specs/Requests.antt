@@ -1,12 +1,14 @@
 -- Which request a line is.
-use Rattle.std.specs.Prelude.{◌≡◌, ◌⊎◌, ℕ, List, [], if◌then◌else◌, nat_le, length, codes, bytes_eq, Option, Some, None, option_map, option_and_then, ok_or, Result, Err}
+use Rattle.std.specs.Prelude.{◌≡◌, ◌⊎◌, ℕ, List, [], if◌then◌else◌, nat_le, length, codes, bytes_eq, Option, Some, None, option_map, option_and_then, Result, Ok, Err}
 use Rattle.std.specs.Str.{is_utf8}
 use Rattle.serde_json.specs.Data.{Data, Members, no_members, member}
 use Rattle.serde_json.specs.Read.{read}
 use Rattle.serde_json.specs.Find.{get, as_str, as_object}
 use Rattle.proto_json.specs.SourceTexts.{if_short}
-use Rattle.proto_json.specs.declared.code.Code.TheVariants.{InvalidRequest}
+use Rattle.proto_json.specs.declared.code.Code.TheVariants.{InvalidRequest, UnknownRequest, InvalidParameter}
 use Rattle.proto_json.specs.declared.request.Asked.{Asked}
+use Rattle.proto_json.specs.declared.request.Method.{Method}
+use Rattle.proto_json.specs.declared.request.Method.TheVariants as method
 use Rattle.proto_json.specs.declared.request.Request.{Request}
 use Rattle.proto_json.specs.declared.request.Request.TheVariants.{Update, GetErrors}
 use Rattle.proto_json.specs.declared.request.RequestRefusal.{RequestRefusal}
@@ -24,7 +26,7 @@ line_data line = if is_utf8 line then read line else None
 abbrev pub text_at : List ℕ → Data → Option (List ℕ)
 text_at key d = option_and_then as_str (get key d)
 
--- what stands in every request
+-- what stands in every request object
 pub record Head : Type 0 where
   pub id : List ℕ
   pub method : List ℕ
@@ -42,7 +44,7 @@ head_with (Some i) None params = None
 head_with (Some i) (Some m) None = None
 head_with (Some i) (Some m) (Some ps) = Some record { id = i; method = m; params = ps }
 
--- a request is an object whose `id` and `method` are strings; other members are ignored
+-- a request object has an `id` and a `method` that are strings; other members are ignored
 abbrev pub head_of : Data → Option Head
 head_of d = head_with (text_at (codes "id") d) (text_at (codes "method") d) (params_of (get (codes "params") d))
 
@@ -69,32 +71,48 @@ update_of params =
 abbrev pub get_errors_of : Data → Option Request
 get_errors_of params = option_map GetErrors (text_at (codes "file") params)
 
--- the form of a method's parameters, one row for each method
-abbrev pub form_of : List ℕ → Option (Data → Option Request)
-form_of method =
-    if bytes_eq method (codes "analysis.updateContent") then Some update_of
-    else (if bytes_eq method (codes "analysis.getErrors") then Some get_errors_of
+-- the method of a name
+abbrev pub method_named : List ℕ → Option Method
+method_named name =
+    if bytes_eq name (codes "analysis.updateContent") then Some method.UpdateContent
+    else (if bytes_eq name (codes "analysis.getErrors") then Some method.GetErrors
     else None)
 
--- the request of a method and its parameters
-abbrev pub request_of : Head → Option Request
-request_of h = option_and_then (λ form. option_and_then form h.params) (form_of h.method)
+-- the request of a method and its parameters, one row for each method
+abbrev pub request_of : Method → Data → Option Request
+request_of method.UpdateContent params = update_of params
+request_of method.GetErrors params = get_errors_of params
 
--- the request of a JSON value, with its id
-abbrev pub asked_of : Data → Option Asked
-asked_of d = option_and_then (λ h. option_map (λ request. record { id = h.id; request = request }) (request_of h)) (head_of d)
-
--- the request of a line that is not too long
-unfoldable pub asked_by : List ℕ → Option Asked
-asked_by line = if nat_le (length line) max_line then option_and_then asked_of (line_data line) else None
-
--- the one refusal of a line, whose reply has the empty id
+-- a line that is no request object; its reply has the empty id
 abbrev pub not_a_request : RequestRefusal
 not_a_request = Refused [] InvalidRequest
 
--- a line is its request, or is refused
+-- the parameters give a request, or they are missing or of another form
+abbrev pub answer_to_params : List ℕ → Option Request → Result Asked RequestRefusal
+answer_to_params id None = Err (Refused id InvalidParameter)
+answer_to_params id (Some request) = Ok record { id = id; request = request }
+
+-- the method is known, or it is refused before its parameters are looked at
+abbrev pub answer_to_method : List ℕ → Option Method → Option Data → Result Asked RequestRefusal
+answer_to_method id None params = Err (Refused id UnknownRequest)
+answer_to_method id (Some method) params = answer_to_params id (option_and_then (request_of method) params)
+
+-- a request object, by its method and parameters; its refusals repeat its id
+abbrev pub answer_to_head : Head → Result Asked RequestRefusal
+answer_to_head h = answer_to_method h.id (method_named h.method) h.params
+
+-- the request object of a line that is not too long
+unfoldable pub head_by : List ℕ → Option Head
+head_by line = if nat_le (length line) max_line then option_and_then head_of (line_data line) else None
+
+-- the line is a request object, or it is refused before its method is looked at
+abbrev pub answer_to : Option Head → Result Asked RequestRefusal
+answer_to None = Err not_a_request
+answer_to (Some h) = answer_to_head h
+
+-- A line is its request, or is refused by the first of these that is wrong: length, JSON, request object, method, parameters.
 abbrev pub answer : List ℕ → Result Asked RequestRefusal
-answer line = ok_or (asked_by line) not_a_request
+answer line = answer_to (head_by line)
 
 -- the result is the answer, unless memory was wanting
 abbrev pub IsUnlessMemory : {T : Type 0} → Result T RequestRefusal → Result T RequestRefusal → Type 0

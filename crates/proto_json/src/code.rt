@@ -3,11 +3,16 @@
 ghost use Rattle.std.specs.Prelude.{◌≡◌};
 ghost use Rattle.proto_json.specs.Codes.{name_of, message_of};
 
-/// Why a request is refused: the `code` of the protocol's RequestError.
+/// Why a line is refused: the `code` of the protocol's RequestError. Of several causes the one
+/// that stands first here is told.
 #[derive(Clone, Copy, Debug, PartialEq, Eq)]
 pub enum Code {
-    /// The line is no request that the server reads.
+    /// The line is too long, isn't JSON, or isn't the object of a request.
     InvalidRequest,
+    /// The server has no method of this name.
+    UnknownRequest,
+    /// The parameters aren't of the form that the method reads.
+    InvalidParameter,
     /// The errors of a file are asked for that is not analyzed.
     GetErrorsInvalidFile,
 }
@@ -19,6 +24,8 @@ impl Code {
     {
         match self {
             Code::InvalidRequest => "INVALID_REQUEST",
+            Code::UnknownRequest => "UNKNOWN_REQUEST",
+            Code::InvalidParameter => "INVALID_PARAMETER",
             Code::GetErrorsInvalidFile => "GET_ERRORS_INVALID_FILE",
         }
     }
@@ -29,6 +36,8 @@ impl Code {
     {
         match self {
             Code::InvalidRequest => "The line is not a request.",
+            Code::UnknownRequest => "The method is not known.",
+            Code::InvalidParameter => "A parameter is missing or of another kind.",
             Code::GetErrorsInvalidFile => "The file is not analyzed.",
         }
     }

@@ -1,10 +1,10 @@
 //! Requests, read from a line.
 
-ghost use Rattle.std.specs.Prelude.{◌≡◌, IfOk, option_map, option_and_then};
+ghost use Rattle.std.specs.Prelude.{◌≡◌, IfOk, option_map};
 ghost use Rattle.serde_json.specs.View.{view, members_view};
 ghost use Rattle.proto_json.specs.Heads.{head_view};
 ghost use Rattle.proto_json.specs.declared.request.RequestRefusal.TheVariants.{Memory};
-ghost use Rattle.proto_json.specs.Requests.{answer, line_data, asked_by, text_at, head_of, only_member, added_text, update_of, get_errors_of, request_of, not_a_request, IsUnlessMemory};
+ghost use Rattle.proto_json.specs.Requests.{answer, answer_to_head, line_data, text_at, head_of, method_named, only_member, added_text, update_of, get_errors_of, request_of, not_a_request, IsUnlessMemory};
 
 use crate::code::Code;
 use crate::source_text::SourceText;
@@ -31,6 +31,26 @@ pub enum Request {
     },
 }
 
+// The methods that the server has.
+#[derive(Clone, Copy, Debug, PartialEq, Eq)]
+enum Method {
+    // `analysis.updateContent`
+    UpdateContent,
+    // `analysis.getErrors`
+    GetErrors,
+}
+
+// The method of a name.
+fn method_named(name: &str) -> Option<Method>
+    ensures { result ≡ method_named name.now }
+{
+    match name {
+        "analysis.updateContent" => Some(Method::UpdateContent),
+        "analysis.getErrors" => Some(Method::GetErrors),
+        _ => None,
+    }
+}
+
 /// A request, and the id that its reply repeats.
 #[derive(Debug, Drop)]
 pub struct Asked {
@@ -41,7 +61,8 @@ pub struct Asked {
 /// Why a line gave no request.
 #[derive(Debug, Drop, Error)]
 pub enum RequestRefusal {
-    /// The line is refused, and its reply has this id and this code.
+    /// The line is refused, and its reply has this id and this code: the empty id where the line is
+    /// no request object, else that of the request.
     #[error("the line is refused")]
     Refused { id: PlainText, code: Code },
     /// Want of memory.
@@ -57,7 +78,7 @@ impl From<AllocError> for RequestRefusal {
     }
 }
 
-// The parts of a request, which the parsed line lends.
+// The parts of a request object, which the parsed line lends.
 #[derive(Drop)]
 struct Head<'v> {
     id: &'v str,
@@ -144,16 +165,34 @@ fn read_get_errors(alloc: Global, params: &Value) -> Result<Option<Request>, All
 }
 
 // The request of a method, one row for each method.
-fn read_method(alloc: Global, head: &Head<'_>) -> Result<Option<Request>, AllocError>
-    ensures { IfOk result (λ request. request ≡ request_of (head_view head.now)) }
+fn read_params(alloc: Global, method: Method, params: &Value) -> Result<Option<Request>, AllocError>
+    ensures { IfOk result (λ request. request ≡ request_of method (view params.now)) }
 {
-    let Some(params) = head.params else {
-        return Ok(None);
+    match method {
+        Method::UpdateContent => read_update(alloc, params),
+        Method::GetErrors => read_get_errors(alloc, params),
+    }
+}
+
+// The request of a request object, or its refusal, which repeats the id.
+fn read_object(alloc: Global, head: &Head<'_>) -> Result<Asked, RequestRefusal>
+    ensures { IsUnlessMemory result (answer_to_head (head_view head.now)) }
+{
+    let id = PlainText::new(alloc, head.id)?;
+    let Some(method) = method_named(head.method) else {
+        let code = Code::UnknownRequest;
+        return Err(RequestRefusal::Refused { id, code });
     };
-    match head.method {
-        "analysis.updateContent" => read_update(alloc, params),
-        "analysis.getErrors" => read_get_errors(alloc, params),
-        _ => Ok(None),
+    let request = match head.params {
+        None => None,
+        Some(params) => read_params(alloc, method, params)?,
+    };
+    match request {
+        None => {
+            let code = Code::InvalidParameter;
+            Err(RequestRefusal::Refused { id, code })
+        }
+        Some(request) => Ok(Asked { id, request }),
     }
 }
 
@@ -168,37 +207,29 @@ fn parse(alloc: Global, line: &[u8]) -> Result<Option<Value>, AllocError>
     }
 }
 
-// The request of a line.
-#[tactic(auto, unfolding(crate::specs::Requests::asked_by))]
-fn read_asked(alloc: Global, line: &[u8]) -> Result<Option<Asked>, AllocError>
-    ensures { IfOk result (λ asked. asked ≡ asked_by line.now) }
+// The refusal of a line that is no request object.
+fn not_a_request(alloc: Global) -> RequestRefusal
+    ensures { result ≡ not_a_request }
 {
-    if line.len() > MAX_LINE {
-        return Ok(None);
-    }
-    let Some(value) = parse(alloc, line)? else {
-        return Ok(None);
-    };
-    let Some(head) = read_head(&value) else {
-        return Ok(None);
-    };
-    let Some(request) = read_method(alloc, &head)? else {
-        return Ok(None);
-    };
-    let id = PlainText::new(alloc, head.id)?;
-    Ok(Some(Asked { id, request }))
+    let id = PlainText::from_string(String::new(alloc));
+    let code = Code::InvalidRequest;
+    RequestRefusal::Refused { id, code }
 }
 
-/// The request that a line is, or its refusal, both as `answer` states them; or want of memory.
-/// The line is given without its line feed.
+/// The request that a line is, or the first refusal that it meets, both as `answer` states them;
+/// or want of memory. The line is given without its line feed.
+#[tactic(auto, unfolding(crate::specs::Requests::head_by))]
 pub fn read_request(alloc: Global, line: &[u8]) -> Result<Asked, RequestRefusal>
     ensures { IsUnlessMemory result (answer line.now) }
 {
-    match read_asked(alloc, line)? {
-        Some(asked) => Ok(asked),
-        None => Err(RequestRefusal::Refused {
-            id: PlainText::from_string(String::new(alloc)),
-            code: Code::InvalidRequest,
-        }),
+    if line.len() > MAX_LINE {
+        return Err(not_a_request(alloc));
     }
+    let Some(value) = parse(alloc, line)? else {
+        return Err(not_a_request(alloc));
+    };
+    let Some(head) = read_head(&value) else {
+        return Err(not_a_request(alloc));
+    };
+    read_object(alloc, &head)
 }

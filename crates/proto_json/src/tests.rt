@@ -84,12 +84,11 @@ fn a_line_is_its_request(rt: HostRuntime) -> Result<(), Fail> {
 }
 
 #[test]
-fn every_other_line_is_refused(rt: HostRuntime) -> Result<(), Fail> {
+fn a_line_that_is_no_request_object_is_refused(rt: HostRuntime) -> Result<(), Fail> {
     let alloc = rt.alloc();
-    let lines: [&[u8]; 24] = [
+    let lines: [&[u8]; 19] = [
+        // No JSON.
         b"",
-        b"[]",
-        b"{}",
         br#"{"id":"1","method":"analysis.getErrors","params":{"file":"/a"}"#,
         br#"{"id":"1","method":"analysis.getErrors","params":{"file":"/a"}}}"#,
         br#"{"id":"1","method":"analysis.getErrors","params":{"file":"/a"},}"#,
@@ -98,23 +97,99 @@ fn every_other_line_is_refused(rt: HostRuntime) -> Result<(), Fail> {
         b"\xef\xbb\xbf{\"id\":\"1\",\"method\":\"analysis.getErrors\",\"params\":{\"file\":\"/a\"}}",
         br#"{"id":"\ud800","method":"analysis.getErrors","params":{"file":"/a"}}"#,
         br#"{"id":"1","method":"analysis.getErrors","params":{"file":"/a","big":1e999}}"#,
+        // No request object, whatever its method and its parameters are.
+        b"[]",
+        b"{}",
         br#"{"id":1,"method":"analysis.getErrors","params":{"file":"/a"}}"#,
         br#"{"id":"1","id":1,"method":"analysis.getErrors","params":{"file":"/a"}}"#,
         br#"{"method":"analysis.getErrors","params":{"file":"/a"}}"#,
-        br#"{"id":"1","method":"analysis.geterrors","params":{"file":"/a"}}"#,
-        br#"{"id":"1","method":"analysis.getErrors"}"#,
+        br#"{"id":"1","params":{"file":"/a"}}"#,
+        br#"{"id":"1","method":null,"params":{"file":"/a"}}"#,
         br#"{"id":"1","method":"analysis.getErrors","params":null}"#,
-        br#"{"id":"1","method":"analysis.getErrors","params":{"file":["/a"]}}"#,
-        br#"{"id":"1","method":"analysis.updateContent","params":{"files":{}}}"#,
-        br#"{"id":"1","method":"analysis.updateContent","params":{"files":[]}}"#,
-        br#"{"id":"1","method":"analysis.updateContent","params":{"files":{"/a":{"type":"add","content":""},"/b":{"type":"add","content":""}}}}"#,
-        br#"{"id":"1","method":"analysis.updateContent","params":{"files":{"/a":{"type":"remove"}}}}"#,
-        br#"{"id":"1","method":"analysis.updateContent","params":{"files":{"/a":{"type":"change","edits":[]}}}}"#,
-        br#"{"id":"1","method":"analysis.updateContent","params":{"files":{"/a":{"type":"add"}}}}"#,
+        br#"{"id":"1","method":"analysis.getErrors","params":["/a"]}"#,
+        br#"{"id":"1","method":"no.such","params":0}"#,
     ];
     for line in lines {
         let said = told(alloc, line)?;
         assert_eq!(rt; said.as_str(), ": INVALID_REQUEST", "{line:?}");
+    }
+    Ok(())
+}
+
+#[test]
+fn a_request_object_is_refused_by_its_first_fault(rt: HostRuntime) -> Result<(), Fail> {
+    let alloc = rt.alloc();
+    let refusals: [(&str, &str); 16] = [
+        // The method, before its parameters are looked at.
+        (
+            r#"{"id":"1","method":"analysis.geterrors","params":{"file":"/a"}}"#,
+            "1: UNKNOWN_REQUEST",
+        ),
+        (
+            r#"{"id":"2","method":"analysis.reanalyze"}"#,
+            "2: UNKNOWN_REQUEST",
+        ),
+        (
+            r#"{"id":"é","method":"","params":{"file":0}}"#,
+            "é: UNKNOWN_REQUEST",
+        ),
+        // The parameters.
+        (
+            r#"{"id":"3","method":"analysis.getErrors"}"#,
+            "3: INVALID_PARAMETER",
+        ),
+        (
+            r#"{"id":"4","method":"analysis.getErrors","params":{}}"#,
+            "4: INVALID_PARAMETER",
+        ),
+        (
+            r#"{"id":"5","method":"analysis.getErrors","params":{"file":["/a"]}}"#,
+            "5: INVALID_PARAMETER",
+        ),
+        (
+            r#"{"id":"","method":"analysis.updateContent"}"#,
+            ": INVALID_PARAMETER",
+        ),
+        (
+            r#"{"id":"6","method":"analysis.updateContent","params":{"file":"/a"}}"#,
+            "6: INVALID_PARAMETER",
+        ),
+        (
+            r#"{"id":"7","method":"analysis.updateContent","params":{"files":{}}}"#,
+            "7: INVALID_PARAMETER",
+        ),
+        (
+            r#"{"id":"8","method":"analysis.updateContent","params":{"files":[]}}"#,
+            "8: INVALID_PARAMETER",
+        ),
+        (
+            r#"{"id":"9","method":"analysis.updateContent","params":{"files":{"/a":{"type":"add","content":""},"/b":{"type":"add","content":""}}}}"#,
+            "9: INVALID_PARAMETER",
+        ),
+        (
+            r#"{"id":"10","method":"analysis.updateContent","params":{"files":{"/a":"var x;"}}}"#,
+            "10: INVALID_PARAMETER",
+        ),
+        (
+            r#"{"id":"11","method":"analysis.updateContent","params":{"files":{"/a":{"type":"remove"}}}}"#,
+            "11: INVALID_PARAMETER",
+        ),
+        (
+            r#"{"id":"12","method":"analysis.updateContent","params":{"files":{"/a":{"type":"change","edits":[]}}}}"#,
+            "12: INVALID_PARAMETER",
+        ),
+        (
+            r#"{"id":"13","method":"analysis.updateContent","params":{"files":{"/a":{"type":"add"}}}}"#,
+            "13: INVALID_PARAMETER",
+        ),
+        (
+            r#"{"id":"14","method":"analysis.updateContent","params":{"files":{"/a":{"content":""}}}}"#,
+            "14: INVALID_PARAMETER",
+        ),
+    ];
+    for (line, want) in refusals {
+        let said = told(alloc, line.as_bytes())?;
+        assert_eq!(rt; said.as_str(), want, "{line}");
     }
     Ok(())
 }
@@ -182,15 +257,37 @@ fn a_reply_is_one_line(rt: HostRuntime) -> Result<(), Fail> {
     let want =
         "{\"id\":\"2\",\"result\":{\"errors\":[{\"code\":\"unassigned_read\",\"location\":{\"file\":\"/a.dart\",\"length\":1,\"offset\":25,\"startColumn\":26,\"startLine\":1},\"message\":\"Unassigned read.\",\"severity\":\"ERROR\",\"type\":\"COMPILE_TIME_ERROR\"}]}}\n";
     assert_eq!(rt; one.as_slice(), want.as_bytes());
+    Ok(())
+}
 
-    let refused = write_reply(alloc, "", &ReplyBody::Error(Code::InvalidRequest))?;
-    let want =
-        "{\"error\":{\"code\":\"INVALID_REQUEST\",\"message\":\"The line is not a request.\"},\"id\":\"\"}\n";
-    assert_eq!(rt; refused.as_slice(), want.as_bytes());
-
-    let refused = write_reply(alloc, "3", &ReplyBody::Error(Code::GetErrorsInvalidFile))?;
-    let want =
-        "{\"error\":{\"code\":\"GET_ERRORS_INVALID_FILE\",\"message\":\"The file is not analyzed.\"},\"id\":\"3\"}\n";
-    assert_eq!(rt; refused.as_slice(), want.as_bytes());
+#[test]
+fn a_refusal_tells_its_code(rt: HostRuntime) -> Result<(), Fail> {
+    let alloc = rt.alloc();
+    let refusals: [(Code, &str, &str); 4] = [
+        (
+            Code::InvalidRequest,
+            "",
+            "{\"error\":{\"code\":\"INVALID_REQUEST\",\"message\":\"The line is not a request.\"},\"id\":\"\"}\n",
+        ),
+        (
+            Code::UnknownRequest,
+            "1",
+            "{\"error\":{\"code\":\"UNKNOWN_REQUEST\",\"message\":\"The method is not known.\"},\"id\":\"1\"}\n",
+        ),
+        (
+            Code::InvalidParameter,
+            "2",
+            "{\"error\":{\"code\":\"INVALID_PARAMETER\",\"message\":\"A parameter is missing or of another kind.\"},\"id\":\"2\"}\n",
+        ),
+        (
+            Code::GetErrorsInvalidFile,
+            "3",
+            "{\"error\":{\"code\":\"GET_ERRORS_INVALID_FILE\",\"message\":\"The file is not analyzed.\"},\"id\":\"3\"}\n",
+        ),
+    ];
+    for (code, id, want) in refusals {
+        let line = write_reply(alloc, id, &ReplyBody::Error(code))?;
+        assert_eq!(rt; line.as_slice(), want.as_bytes());
+    }
     Ok(())
 }
