@@ -95,7 +95,7 @@ answer_to_params id (Some request) = Ok record { id = id; request = request }
 -- the method is known, or it is refused before its parameters are looked at
 abbrev pub answer_to_method : List ℕ → Option Method → Option Data → Result Asked RequestRefusal
 answer_to_method id None params = Err (Refused id UnknownRequest)
-answer_to_method id (Some method) params = answer_to_params id (option_and_then (request_of method) params)
+answer_to_method id (Some m) params = answer_to_params id (option_and_then (request_of m) params)
 
 -- a request object, by its method and parameters; its refusals repeat its id
 abbrev pub answer_to_head : Head → Result Asked RequestRefusal

@@ -32,7 +32,7 @@ pub enum Request {
 }
 
 // The methods that the server has.
-#[derive(Clone, Copy, Debug, PartialEq, Eq)]
+#[derive(Clone, Copy)]
 enum Method {
     // `analysis.updateContent`
     UpdateContent,
