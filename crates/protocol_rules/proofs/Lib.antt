@@ -1,1 +1,2 @@
 pub mod TextsLemmas
+pub mod TurnLemmas
