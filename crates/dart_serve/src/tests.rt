@@ -108,6 +108,82 @@ fn sessions_are_served(rt: HostRuntime) -> Result<(), Fail> {
 }
 
 #[test]
+fn a_refused_line_changes_nothing(rt: HostRuntime) -> Result<(), Fail> {
+    let a = rt.alloc();
+    let refusals: [(&str, &str); 9] = [
+        // The line is no request, whatever else is wrong with it.
+        (
+            r#"{"id":"3","method":"analysis.getErrors","params":{"file":"/a.dart"}"#,
+            r#"{"error":{"code":"INVALID_REQUEST","message":"The line is not a request."},"id":""}"#,
+        ),
+        (
+            r#"{"id":3,"method":"no.such"}"#,
+            r#"{"error":{"code":"INVALID_REQUEST","message":"The line is not a request."},"id":""}"#,
+        ),
+        (
+            r#"{"id":"3","method":"analysis.getErrors","params":null}"#,
+            r#"{"error":{"code":"INVALID_REQUEST","message":"The line is not a request."},"id":""}"#,
+        ),
+        // The method is not known, whatever its parameters are.
+        (
+            r#"{"id":"4","method":"server.getVersion"}"#,
+            r#"{"error":{"code":"UNKNOWN_REQUEST","message":"The method is not known."},"id":"4"}"#,
+        ),
+        (
+            r#"{"id":"\"4\"","method":"analysis.getError","params":{"file":"/a.dart"}}"#,
+            r#"{"error":{"code":"UNKNOWN_REQUEST","message":"The method is not known."},"id":"\"4\""}"#,
+        ),
+        // The parameters are of another form.
+        (
+            r#"{"id":"5","method":"analysis.updateContent","params":{"files":{"/a.dart":{"type":"remove"}}}}"#,
+            r#"{"error":{"code":"INVALID_PARAMETER","message":"A parameter is missing or of another kind."},"id":"5"}"#,
+        ),
+        (
+            r#"{"id":"5","method":"analysis.getErrors"}"#,
+            r#"{"error":{"code":"INVALID_PARAMETER","message":"A parameter is missing or of another kind."},"id":"5"}"#,
+        ),
+        // The file was given no text, or its name is not that of a library.
+        (
+            r#"{"id":"6","method":"analysis.getErrors","params":{"file":"/b.dart"}}"#,
+            r#"{"error":{"code":"GET_ERRORS_INVALID_FILE","message":"The file is not analyzed."},"id":"6"}"#,
+        ),
+        (
+            r#"{"id":"6","method":"analysis.getErrors","params":{"file":"/a.dar"}}"#,
+            r#"{"error":{"code":"GET_ERRORS_INVALID_FILE","message":"The file is not analyzed."},"id":"6"}"#,
+        ),
+    ];
+    for (line, reply) in refusals {
+        let said = serves(
+            a,
+            &[ADD_CLEAN, line, "\n", GET],
+            &[DONE, reply, "\n", CLEAN],
+        )?;
+        assert!(rt; said, "{line}");
+    }
+    Ok(())
+}
+
+/// The request for errors, padded with spaces to this many bytes, and a line feed.
+fn padded(alloc: Global, size: usize) -> Result<String, Fail> {
+    let mut line = String::from_str(alloc, GET)?;
+    for _ in line.len()..size {
+        line.push(' ')?;
+    }
+    line.push('\n')?;
+    Ok(line)
+}
+
+#[test]
+fn a_line_that_is_too_long_is_refused(rt: HostRuntime) -> Result<(), Fail> {
+    let a = rt.alloc();
+    let longest = padded(a, 16_777_216)?;
+    let longer = padded(a, 16_777_217)?;
+    let input = [ADD_CLEAN, longest.as_str(), longer.as_str(), GET];
+    assert!(rt; serves(a, &input, &[DONE, CLEAN, NO_REQUEST, CLEAN])?);
+    Ok(())
+}
+
+#[test]
 fn faults_end_the_program(rt: HostRuntime) -> Result<(), Fail> {
     let alloc = rt.alloc();
     let (status, written) = ran(alloc, &["serve"], &[ADD_CLEAN, GET], NEVER, 2)?;
