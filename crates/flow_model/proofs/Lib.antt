@@ -5,3 +5,8 @@ pub mod ListTests
 pub mod Places
 pub mod Scopes
 pub mod Promotions
+pub mod Joins
+pub mod SameScope
+pub mod JoinLaws
+pub mod StepLaws
+pub mod Captured

@@ -1,5 +1,5 @@
 -- Flow models: what is known of the locals at a point of a body, and what scopes do to it.
-use Rattle.std.specs.Prelude.{◌≢◌, ◌<◌, Bool, true, false, nat_eq, nat_lt, List, [], ◌∷◌, ◌++◌, Option, if◌then◌else◌, filter, map, find, fold, not, refl, AllPairs}
+use Rattle.std.specs.Prelude.{◌≡◌, ◌≢◌, ◌<◌, Bool, true, false, nat_eq, nat_lt, List, [], ◌∷◌, ◌++◌, Option, if◌then◌else◌, filter, map, find, fold, not, refl, All, AllPairs, IsTrue}
 use Rattle.std.specs.List.{list_any}
 use Rattle.std.specs.Coded.{Coded, code_by, coded×, coded_bool, coded_list}
 use Rattle.flow_model.specs.Ty.{Ty}
@@ -43,6 +43,14 @@ last_or t (u ∷ us) = last_or u us
 -- the current type of a local: the last that it was promoted to, else the declared one
 abbrev pub current_of : Facts → Ty
 current_of l = last_or l.ty l.chain
+
+-- the local isn't promoted where it is captured
+abbrev pub IsUnpromotedIfCaptured : Facts → Type 0
+IsUnpromotedIfCaptured l = IsTrue l.captured → l.chain ≡ []
+
+-- no captured local is promoted
+abbrev pub PromotesNoCaptured : FlowModel → Type 0
+PromotesNoCaptured m = All IsUnpromotedIfCaptured m.locals
 
 -- what is known of a local that has just come into scope
 abbrev pub fresh_facts : LocalDecl → Facts

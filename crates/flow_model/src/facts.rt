@@ -1,12 +1,13 @@
-//! What is read of the facts of one local, and what a write does to them.
+//! What is read of the facts of one local, and what writes and tests do to them.
 
 ghost use Rattle.std.specs.Prelude.{◌≡◌, ◌++◌, ◌∷◌, [], ◌&&◌, IfOk, OnOk, OnErr, MatchOption, filter};
 ghost use Rattle.std.specs.List.{list_all};
 ghost use Rattle.flow_model.specs.Sub.{sub, proper_sub};
-ghost use Rattle.flow_model.specs.Flow.{current_of, last_or, fresh_facts};
+ghost use Rattle.flow_model.specs.Flow.{current_of, last_or, fresh_facts, is_listed};
+ghost use Rattle.flow_model.specs.Steps.{conservative_facts, non_null_facts};
 ghost use Rattle.flow_model.specs.Assign.{is_in, interest_of, between_of, least_of, appended_of, assign_facts};
 
-use crate::locals::{Facts, LocalDecl};
+use crate::locals::{Facts, LocalDecl, LocalId};
 use crate::subtyping::{Rows, is_proper_subtype, is_subtype};
 use crate::types::{DartType, TypeList};
 use std::alloc::{AllocError, Global};
@@ -71,6 +72,33 @@ impl Facts {
         Ok(())
     }
 
+    /// The local isn't null. After an `Err` the facts are as before.
+    pub(crate) fn non_null(&mut self, alloc: Global) -> Result<(), AllocError>
+        ensures ok { OnOk result (self.new ≡ non_null_facts self.old) }
+        ensures err { OnErr result (self.new ≡ self.old) }
+    {
+        if self.captured {
+            return Ok(());
+        }
+        let bare = self.current().non_null(alloc)?;
+        if !bare.is_same(self.current()) {
+            self.chain.push(bare)?;
+        }
+        Ok(())
+    }
+
+    /// Forgets what code that writes and captures these could change.
+    pub(crate) fn forget(&mut self, written: &[LocalId], captured: &[LocalId])
+        ensures { self.new ≡ conservative_facts written.now captured.now self.old }
+    {
+        let is_captured = is_listed(captured, self.var);
+        if is_listed(written, self.var) || is_captured {
+            self.chain.clear();
+            self.unassigned = false;
+            self.captured = self.captured || is_captured;
+        }
+    }
+
     // The types of interest: the declared one, the tested ones, and these without null.
     fn interest(&self, alloc: Global) -> Result<TypeList, AllocError>
         ensures { IfOk result (λ types. types ≡ interest_of self.now) }
@@ -86,6 +114,18 @@ impl Facts {
         }
         Ok(types)
     }
+}
+
+// Whether a local is in a list.
+fn is_listed(vars: &[LocalId], var: LocalId) -> bool
+    ensures { result ≡ is_listed vars.now var }
+{
+    for listed in vars {
+        if listed.0 == var.0 {
+            return true;
+        }
+    }
+    false
 }
 
 // The last of the types, or `t` where there is none.

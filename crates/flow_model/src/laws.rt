@@ -1,11 +1,15 @@
 //! Laws of flow models, in the words of their definitions. Each is the contract of a function that
 //! does no work.
 
-ghost use Rattle.std.specs.Prelude.{◌≡◌, ◌≢◌, true, false, All, Some, find, IsNone, IsSome, [], ◌∷◌};
+ghost use Rattle.std.specs.Prelude.{◌≡◌, ◌≢◌, ◌&&◌, ◌||◌, true, false, not, All, Some, find, IsNone, IsSome, IsTrue, [], ◌∷◌};
 ghost use Rattle.std.specs.Option.{option_map, option_map_or};
+ghost use Rattle.flow_model.specs.Ty.{admits_null};
 ghost use Rattle.flow_model.specs.Sub.{Sub};
-ghost use Rattle.flow_model.specs.Flow.{AreDistinct, at_local, current_of, declare_of, declares, end_of, facts_of, fresh_facts, start_of};
-ghost use Rattle.flow_model.specs.Assign.{assign_facts, chain_after};
+ghost use Rattle.flow_model.specs.Flow.{AreDistinct, at_local, current_of, declare_of, declares, end_of, facts_of, fresh_facts, is_listed, start_of, PromotesNoCaptured};
+ghost use Rattle.flow_model.specs.Assign.{assign_facts, chain_after, is_in};
+ghost use Rattle.flow_model.specs.Join.{HaveSameScope, join_facts, join_of, scope_of};
+ghost use Rattle.flow_model.specs.Steps.{conservative_of, exit_of, non_null_facts};
+ghost use Rattle.flow_model.specs.declared.locals.Facts.{Facts};
 
 use crate::locals::{Facts, LocalDecl, LocalId};
 use crate::model::Flow;
@@ -48,4 +52,93 @@ pub fn assign_changes_one_local(
 /// type is a subtype of it.
 pub fn written_value_has_each_promoted_type(_rows: &Rows, _written: &DartType, _facts: &Facts)
     ensures { All (λ t. Sub _rows.now _written.now t) (chain_after _rows.now _written.now _facts.now) }
+{}
+
+/// What is known of a local where two reached paths meet is joined from what is known of it on
+/// each.
+pub fn join_knows_each_local(_a: &Flow, _b: &Flow, _var: LocalId)
+    ensures { HaveSameScope _a.now _b.now → IsTrue _a.now.reachable → IsTrue _b.now.reachable → (l m : Facts) → facts_of _a.now _var ≡ Some l → facts_of _b.now _var ≡ Some m → facts_of (join_of _a.now _b.now) _var ≡ Some (join_facts l m) }
+{}
+
+/// Where two paths meet a local is promoted to what it was promoted to on both of them, unless it
+/// is captured on one.
+pub fn join_promotes_to_what_both_do(_a: &Facts, _b: &Facts, _t: &DartType)
+    ensures { is_in (join_facts _a.now _b.now).chain _t.now ≡ (not (_a.now.captured || _b.now.captured) && (is_in _a.now.chain _t.now && is_in _b.now.chain _t.now)) }
+{}
+
+/// Which of two paths is the first matters for no more than the order of the types.
+pub fn join_commutes(_a: &Facts, _b: &Facts, _t: &DartType)
+    ensures chain { is_in (join_facts _a.now _b.now).chain _t.now ≡ is_in (join_facts _b.now _a.now).chain _t.now }
+    ensures tested { is_in (join_facts _a.now _b.now).tested _t.now ≡ is_in (join_facts _b.now _a.now).tested _t.now }
+    ensures assigned { (join_facts _a.now _b.now).assigned ≡ (join_facts _b.now _a.now).assigned }
+    ensures unassigned { (join_facts _a.now _b.now).unassigned ≡ (join_facts _b.now _a.now).unassigned }
+    ensures captured { (join_facts _a.now _b.now).captured ≡ (join_facts _b.now _a.now).captured }
+{}
+
+/// Two paths with the same model meet in that model, where no captured local is promoted.
+pub fn join_with_itself_changes_nothing(_flow: &Flow)
+    ensures { PromotesNoCaptured _flow.now → join_of _flow.now _flow.now ≡ _flow.now }
+{}
+
+/// What code could change is forgotten of the locals that it writes or captures: each has its
+/// declared type. What is known of the others stays.
+pub fn conservative_join_forgets_the_written(
+    _flow: &Flow,
+    _written: &[LocalId],
+    _captured: &[LocalId],
+    _var: LocalId,
+)
+    ensures forgotten { IsTrue (is_listed _written.now _var || is_listed _captured.now _var) → option_map current_of (facts_of (conservative_of _flow.now _written.now _captured.now) _var) ≡ option_map (λ l. l.ty) (facts_of _flow.now _var) }
+    ensures kept { (is_listed _written.now _var || is_listed _captured.now _var) ≡ false → facts_of (conservative_of _flow.now _written.now _captured.now) _var ≡ facts_of _flow.now _var }
+{}
+
+/// A local that was found not to be null has a subtype of the type that it had, and one without
+/// null where it isn't captured.
+pub fn non_null_narrows(_rows: &Rows, _facts: &Facts)
+    ensures subtype { Sub _rows.now (current_of (non_null_facts _facts.now)) (current_of _facts.now) }
+    ensures without_null { _facts.now.captured ≡ false → admits_null (current_of (non_null_facts _facts.now)) ≡ false }
+{}
+
+/// Only `declare` and `end` change which locals are in scope, or their declared types, and they do
+/// it alike in models of the same scope. Where two paths of the same scope meet, it is that scope.
+pub fn steps_keep_the_scope(
+    _flow: &Flow,
+    _other: &Flow,
+    _rows: &Rows,
+    _local: &LocalDecl,
+    _var: LocalId,
+    _type: &DartType,
+    _written: &[LocalId],
+    _captured: &[LocalId],
+)
+    ensures declare { HaveSameScope _flow.now _other.now → HaveSameScope (declare_of _flow.now _local.now) (declare_of _other.now _local.now) }
+    ensures end { HaveSameScope _flow.now _other.now → HaveSameScope (end_of _flow.now _written.now) (end_of _other.now _written.now) }
+    ensures exit { scope_of (exit_of _flow.now) ≡ scope_of _flow.now }
+    ensures assign { scope_of (at_local _flow.now _var (assign_facts _rows.now _type.now)) ≡ scope_of _flow.now }
+    ensures non_null { scope_of (at_local _flow.now _var non_null_facts) ≡ scope_of _flow.now }
+    ensures conservative_join { scope_of (conservative_of _flow.now _written.now _captured.now) ≡ scope_of _flow.now }
+    ensures join { HaveSameScope _flow.now _other.now → scope_of (join_of _flow.now _other.now) ≡ scope_of _flow.now }
+{}
+
+/// No captured local is promoted at the start of a body, and none is after any step where none was
+/// before.
+pub fn no_captured_local_is_promoted(
+    _vars: &[LocalDecl],
+    _flow: &Flow,
+    _other: &Flow,
+    _rows: &Rows,
+    _local: &LocalDecl,
+    _var: LocalId,
+    _type: &DartType,
+    _written: &[LocalId],
+    _captured: &[LocalId],
+)
+    ensures start { PromotesNoCaptured (start_of _vars.now) }
+    ensures declare { PromotesNoCaptured _flow.now → PromotesNoCaptured (declare_of _flow.now _local.now) }
+    ensures end { PromotesNoCaptured _flow.now → PromotesNoCaptured (end_of _flow.now _written.now) }
+    ensures exit { PromotesNoCaptured _flow.now → PromotesNoCaptured (exit_of _flow.now) }
+    ensures assign { PromotesNoCaptured _flow.now → PromotesNoCaptured (at_local _flow.now _var (assign_facts _rows.now _type.now)) }
+    ensures non_null { PromotesNoCaptured _flow.now → PromotesNoCaptured (at_local _flow.now _var non_null_facts) }
+    ensures conservative_join { PromotesNoCaptured _flow.now → PromotesNoCaptured (conservative_of _flow.now _written.now _captured.now) }
+    ensures join { PromotesNoCaptured _flow.now → PromotesNoCaptured _other.now → PromotesNoCaptured (join_of _flow.now _other.now) }
 {}

@@ -3,11 +3,12 @@
 //! A `DartType` is a type as a contract compares it; `is_subtype` decides the rules of subtyping,
 //! which `specs/Sub.antt` states as a relation. A `Flow` is a flow model: whether a point can be
 //! reached, and for each local in scope what is known of it. Each of its calls is one equation over
-//! the model, by the definitions of `specs/Flow.antt` and `specs/Assign.antt`. The crate stands on
-//! std alone.
+//! the model, by the definitions of `specs/Flow.antt`, `specs/Assign.antt`, `specs/Join.antt` and
+//! `specs/Steps.antt`. The crate stands on std alone.
 #![tactic(auto)]
 
 mod facts;
+mod join;
 mod laws;
 mod locals;
 mod model;
@@ -17,8 +18,10 @@ mod tests;
 mod types;
 
 pub use laws::{
-    assign_changes_one_local, declare_adds_one_local, end_undoes_declare, start_knows_its_locals,
-    written_value_has_each_promoted_type,
+    assign_changes_one_local, conservative_join_forgets_the_written, declare_adds_one_local,
+    end_undoes_declare, join_commutes, join_knows_each_local, join_promotes_to_what_both_do,
+    join_with_itself_changes_nothing, no_captured_local_is_promoted, non_null_narrows,
+    start_knows_its_locals, steps_keep_the_scope, written_value_has_each_promoted_type,
 };
 pub use locals::{Facts, LocalDecl, LocalId};
 pub use model::Flow;

@@ -1,11 +1,14 @@
 //! Flow models and the calls that change them.
 
-ghost use Rattle.std.specs.Prelude.{◌≡◌, ◌∷◌, [], false, IfOk, IfErr, OnOk, OnErr, IsSome, IsNone, is_some};
+ghost use Rattle.std.specs.Prelude.{◌≡◌, ◌∷◌, [], false, IfOk, IfErr, OnOk, OnErr, IsSome, IsNone, is_some, map};
 ghost use Rattle.std.specs.Option.{option_copied, option_map, option_map_or};
 ghost use Rattle.flow_model.specs.Flow.{at_local, current_of, facts_of, declare_of, start_of, end_of, AreDistinct, IsInOrder};
 ghost use Rattle.flow_model.specs.Assign.{assign_facts};
+ghost use Rattle.flow_model.specs.Join.{HaveSameScope, join_of};
+ghost use Rattle.flow_model.specs.Steps.{conservative_of, conservative_facts, exit_of, non_null_facts};
 ghost use Rattle.flow_model.specs.Place.{StandsAt, WouldStandAt};
 
+use crate::join::join_locals;
 use crate::locals::{Facts, LocalDecl, LocalId};
 use crate::subtyping::Rows;
 use crate::types::DartType;
@@ -182,6 +185,61 @@ impl Flow {
         }
     }
 
+    /// Makes the point one that isn't reached, as one behind a `return` or `throw`. It takes no
+    /// memory.
+    pub fn exit(&mut self)
+        ensures { self.new ≡ exit_of self.old }
+    {
+        self.reachable = false;
+    }
+
+    /// A local in scope isn't null: it is promoted to its current type without null, where that is
+    /// another type and the local isn't captured. After an `Err` the model is as before.
+    pub fn non_null(&mut self, alloc: Global, var: LocalId) -> Result<(), AllocError>
+        requires { IsSome (facts_of self.old var) }
+        ensures ok { OnOk result (self.new ≡ at_local self.old var non_null_facts) }
+        ensures err { OnErr result (self.new ≡ self.old) }
+    {
+        match self.search(var) {
+            Ok(place) => {
+                self.locals[place].non_null(alloc)?;
+                Ok(())
+            }
+            Err(_) => unreachable!(),
+        }
+    }
+
+    /// The model where two paths meet, at both of which the same locals are in scope. A local has
+    /// or hasn't a value where that is certain on both, is promoted to the types that it was
+    /// promoted to on both, in the order of the first, and is captured where it is on either. A path
+    /// that isn't reached adds nothing to the other.
+    pub fn join(alloc: Global, a: &Flow, b: &Flow) -> Result<Flow, AllocError>
+        requires { HaveSameScope a.now b.now }
+        ensures { IfOk result (λ joined. joined ≡ join_of a.now b.now) }
+    {
+        if !b.reachable {
+            return a.copy(alloc);
+        }
+        if !a.reachable {
+            return b.copy(alloc);
+        }
+        let locals = join_locals(alloc, &a.locals, &b.locals)?;
+        Ok(Flow {
+            reachable: true,
+            locals,
+        })
+    }
+
+    /// Forgets what code that may run any number of times, or at a later time, could change: of
+    /// the locals that it writes or captures, what they are promoted to and that they have no
+    /// value. Those that it captures are captured from now on. It takes no memory, and goes through
+    /// both lists once for each local in scope.
+    pub fn conservative_join(&mut self, written: &[LocalId], captured: &[LocalId])
+        ensures { self.new ≡ conservative_of self.old written.now captured.now }
+    {
+        forget(&mut self.locals, written, captured);
+    }
+
     /// A second value of the same model.
     pub fn copy(&self, alloc: Global) -> Result<Flow, AllocError>
         ensures { IfOk result (λ copied. copied ≡ self.now) }
@@ -213,5 +271,14 @@ impl Flow {
     {
         self.locals
             .binary_search_by_key(&var.0, |facts| facts.var.0)
+    }
+}
+
+// Forgets what code that writes and captures these could change.
+fn forget(locals: &mut [Facts], written: &[LocalId], captured: &[LocalId])
+    ensures { locals.new ≡ map (conservative_facts written.now captured.now) locals.old }
+{
+    for i in 0..locals.len() {
+        locals[i].forget(written, captured);
     }
 }

@@ -83,3 +83,58 @@ fn writes_promote_and_demote(rt: HostRuntime) -> Result<(), Fail> {
     assert!(rt; after.current(y).is_none());
     Ok(())
 }
+
+// Where two paths meet, a local of the type `int?` is an int just where it is one on both of those
+// that are reached; a loop that writes it makes it `int?` again.
+#[test]
+fn paths_meet(rt: HostRuntime) -> Result<(), Fail> {
+    let alloc = rt.alloc();
+    let x = LocalId(3);
+    let y = LocalId(5);
+    let declared = LocalDecl {
+        var: x,
+        ty: maybe_int(alloc)?,
+        assigned: true,
+        unassigned: false,
+    };
+    let other = LocalDecl {
+        var: y,
+        ty: plain(TypeNode::Bool),
+        assigned: false,
+        unassigned: true,
+    };
+    let before = Flow::start(alloc, &[other, declared])?;
+    let mut narrowed = before.copy(alloc)?;
+    narrowed.non_null(alloc, x)?;
+    let mut left = before.copy(alloc)?;
+    left.exit();
+
+    let mut types = TypeList::new(alloc);
+    for (a, b) in [
+        (&narrowed, &narrowed),
+        (&left, &narrowed),
+        (&narrowed, &left),
+        (&before, &narrowed),
+    ] {
+        let met = Flow::join(alloc, a, b)?;
+        assert!(rt; met.reachable());
+        types.push(met.current(x).ok_or("not in scope")?.copy(alloc)?)?;
+    }
+    let int = plain(TypeNode::Int);
+    for (t, is_int) in types
+        .as_slice()
+        .iter()
+        .zip([true, true, true, false].iter())
+    {
+        assert_eq!(rt; t.is_same(&int), *is_int);
+    }
+    types.clear();
+    assert!(rt; types.as_slice().is_empty());
+
+    narrowed.conservative_join(&[x], &[y]);
+    assert!(rt; narrowed.current(x).ok_or("not in scope")?.admits_null());
+    assert!(rt; narrowed.is_captured(y));
+    assert!(rt; !narrowed.is_unassigned(y));
+    assert!(rt; !narrowed.is_captured(x));
+    Ok(())
+}

@@ -189,6 +189,13 @@ impl TypeList {
         Ok(())
     }
 
+    /// Leaves no types. It takes no memory.
+    pub fn clear(&mut self)
+        ensures { self.new ≡ [] }
+    {
+        self.items.clear();
+    }
+
     /// Whether the type is one of these.
     pub fn contains(&self, t: &DartType) -> bool
         ensures { result ≡ list_any (same_type t.now) self.now }
