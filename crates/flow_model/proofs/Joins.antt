@@ -1,5 +1,6 @@
 -- One more step along the locals of two paths.
 use Rattle.std.proofs.Common.{◌≡◌, ℕ, zero, suc, ◌<◌, List, [], ◌∷◌, ◌++◌, length, get_or, take, drop, set, map, arith, ap, refl}
+use Rattle.std.specs.Prelude.{min}
 use Rattle.flow_model.specs.declared.locals.Facts.{Facts}
 use Rattle.flow_model.specs.Join.{join_facts, join_locals}
 
@@ -10,6 +11,16 @@ join_locals-more (x ∷ xs) [] i l m in_ls in_ms is_l is_m = absurd (omega arith
 join_locals-more (x ∷ xs) (y ∷ ys) zero l m in_ls in_ms is_l is_m = rw (is_l, is_m) refl
 join_locals-more (x ∷ xs) (y ∷ ys) (suc i) l m in_ls in_ms is_l is_m =
     ap (λ (js : List Facts). join_facts x y ∷ js) (join_locals-more xs ys i l m (omega arith) (omega arith) is_l is_m)
+
+-- the locals up to where the shorter list ends are all of them
+pub join_locals-whole : (ls ms : List Facts) (i : ℕ) → i ≡ min (length ls) (length ms) → join_locals (take i ls) (take i ms) ≡ join_locals ls ms
+join_locals-whole [] ms zero end = refl
+join_locals-whole [] ms (suc i) end = refl
+join_locals-whole (l ∷ ls) [] zero end = refl
+join_locals-whole (l ∷ ls) [] (suc i) end = refl
+join_locals-whole (l ∷ ls) (m ∷ ms) zero end = absurd (omega (arith, end))
+join_locals-whole (l ∷ ls) (m ∷ ms) (suc i) end =
+    ap (λ (js : List Facts). join_facts l m ∷ js) (join_locals-whole ls ms i (omega (arith, end)))
 
 module _ (f : Facts → Facts) where
   -- the change of the item at a place, where those before it are changed

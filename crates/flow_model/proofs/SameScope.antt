@@ -1,5 +1,5 @@
 -- Models of the same scope: what keeps the scope, and the order of the locals with it.
-use Rattle.std.proofs.Common.{◌≡◌, ℕ, zero, suc, Bool, true, false, not, nat_lt, List, [], ◌∷◌, ◌++◌, length, get_or, take, map, if◌then◌else◌, refl, sym, ap, ◌∙◌, arith}
+use Rattle.std.proofs.Common.{◌≡◌, ℕ, zero, suc, ◌<◌, Bool, true, false, not, nat_lt, List, [], ◌∷◌, ◌++◌, length, get_or, take, map, if◌then◌else◌, refl, sym, ap, ◌∙◌, arith}
 use Rattle.std.specs.Prelude.{◌||◌, filter}
 use Rattle.std.proofs.lemmas.List.{length-map, map-append}
 use Rattle.flow_model.specs.Ty.{Ty, same_type, non_null_of}
@@ -106,6 +106,23 @@ scope-join_locals [] ms same = refl
 scope-join_locals (l ∷ ls) [] same = absurd (omega arith)
 scope-join_locals (l ∷ ls) (m ∷ ms) same =
     ap (λ (locals : List (LocalId × Ty)). local_of l ∷ locals) (scope-join_locals ls ms (omega arith))
+
+-- of each place that the locals of two paths have, the first path has the same local
+local-join_at : (ls ms : List Facts) (i : ℕ) (d : Facts) → i < length (join_locals ls ms) → (i < length ls) × ((get_or (join_locals ls ms) i d).var.0 ≡ (get_or ls i d).var.0)
+local-join_at [] ms i d within = absurd (omega (arith, within))
+local-join_at (l ∷ ls) [] i d within = absurd (omega (arith, within))
+local-join_at (l ∷ ls) (m ∷ ms) zero d within = (omega arith, refl)
+local-join_at (l ∷ ls) (m ∷ ms) (suc i) d within =
+    let behind = local-join_at ls ms i d (omega (arith, within)) in
+    (omega (arith, behind.0), behind.1)
+
+-- so they stand in its order
+pub order-join_locals : (ls ms : List Facts) → IsInOrder ls → IsInOrder (join_locals ls ms)
+order-join_locals ls ms order i j d lt within =
+    let lesser = local-join_at ls ms i d (omega arith) in
+    let greater = local-join_at ls ms j d within in
+    let below = order i j d lt greater.0 in
+    rw (lesser.1, greater.1) below
 
 -- the step of the next lemma
 scope-join_of_at : (a b : FlowModel) (in_a in_b : Bool) → a.reachable ≡ in_a → b.reachable ≡ in_b → HaveSameScope a b → scope_of (join_of a b) ≡ scope_of a

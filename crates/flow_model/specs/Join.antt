@@ -35,7 +35,7 @@ join_facts a b = record {
   captured = a.captured || b.captured;
 }
 
--- what is known of each local on both paths, where the same locals are in scope
+-- what is known of each local on both paths; the locals are paired by their places
 abbrev pub join_locals : List Facts → List Facts → List Facts
 join_locals ls ms = map (λ pair. join_facts pair.0 pair.1) (zip ls ms)
 

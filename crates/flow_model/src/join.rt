@@ -1,20 +1,20 @@
 //! Where two paths meet: what is known of the locals on both.
 
-ghost use Rattle.std.specs.Prelude.{◌≡◌, IfOk, length};
+ghost use Rattle.std.specs.Prelude.{◌≡◌, IfOk};
 ghost use Rattle.flow_model.specs.Join.{common_of, join_facts, join_locals, union_of};
 
 use crate::locals::Facts;
 use crate::types::TypeList;
 use std::alloc::{AllocError, Global};
 
-/// What is known of each local on both paths. The lists are of the same locals.
+/// What is known of each local on both paths, where the lists pair them by their places. What one
+/// has beyond the other's end is passed over.
 pub(crate) fn join_locals(alloc: Global, a: &[Facts], b: &[Facts]) -> Result<Vec<Facts>, AllocError>
-    requires { length a.now ≡ length b.now }
     ensures { IfOk result (λ joined. joined.items ≡ join_locals a.now b.now) }
 {
     let mut joined = Vec::new(alloc);
-    for i in 0..a.len() {
-        joined.push(join_facts(alloc, &a[i], &b[i])?)?;
+    for (l, m) in a.iter().zip(b) {
+        joined.push(join_facts(alloc, l, m)?)?;
     }
     Ok(joined)
 }

@@ -4,7 +4,7 @@ ghost use Rattle.std.specs.Prelude.{◌≡◌, ◌∷◌, [], false, IfOk, IfErr
 ghost use Rattle.std.specs.Option.{option_copied, option_map, option_map_or};
 ghost use Rattle.flow_model.specs.Flow.{at_local, current_of, facts_of, declare_of, start_of, end_of, AreDistinct, IsInOrder};
 ghost use Rattle.flow_model.specs.Assign.{assign_facts};
-ghost use Rattle.flow_model.specs.Join.{HaveSameScope, join_of};
+ghost use Rattle.flow_model.specs.Join.{join_of};
 ghost use Rattle.flow_model.specs.Steps.{conservative_of, conservative_facts, exit_of, non_null_facts};
 ghost use Rattle.flow_model.specs.Place.{StandsAt, WouldStandAt};
 
@@ -209,12 +209,11 @@ impl Flow {
         }
     }
 
-    /// The model where two paths meet, at both of which the same locals are in scope. A local has
-    /// or hasn't a value where that is certain on both, is promoted to the types that it was
-    /// promoted to on both, in the order of the first, and is captured where it is on either. A path
-    /// that isn't reached adds nothing to the other.
+    /// The model where two paths of one scope meet. A local has or hasn't a value where that is
+    /// certain on both, is promoted to the types that it was promoted to on both, in the order of
+    /// the first, and is captured where it is on either. A path that isn't reached adds nothing to
+    /// the other. Of different scopes it pairs the locals by their places, as far as both go.
     pub fn join(alloc: Global, a: &Flow, b: &Flow) -> Result<Flow, AllocError>
-        requires { HaveSameScope a.now b.now }
         ensures { IfOk result (λ joined. joined ≡ join_of a.now b.now) }
     {
         if !b.reachable {
