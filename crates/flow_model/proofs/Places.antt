@@ -11,7 +11,7 @@ use Rattle.flow_model.specs.declared.locals.LocalId.{LocalId}
 use Rattle.flow_model.specs.declared.locals.Facts.{Facts}
 use Rattle.flow_model.specs.Flow.{IsInOrder, is_of, is_listed}
 use Rattle.flow_model.specs.Place.{StandsAt, WouldStandAt}
-use Rattle.flow_model.proofs.ListTests.{Answers, find_none, find_at, filter_all, filter_front, filter_back, filter_but, map_at}
+use Rattle.flow_model.proofs.ListTests.{Answers, find_none, find_at, filter_all, filter_front, filter_back, filter_but, map_none, map_at}
 
 module _ (locals : List Facts) (order : IsInOrder locals) (var : LocalId) where
   -- the comparisons with the local rise along the list, as a binary search asks
@@ -77,6 +77,10 @@ module _ (locals : List Facts) (var : LocalId) (at : ℕ) (gap : WouldStandAt lo
   -- so the local isn't in scope
   pub not_some : IsSome (find (is_of var) locals) → ⊥
   not_some present = let found = rw find_absent at present in cc
+
+  -- a change of what is known of the local changes nothing
+  pub map_absent : (change : Facts → Facts) → map (λ l. if is_of var l then change l else l) locals ≡ locals
+  map_absent change = map_none (is_of var) change locals (λ j d from to. none_anywhere j d to)
 
   -- the locals of smaller numbers stand before the gap
   pub filter-smaller : filter (λ l. nat_lt l.var.0 var.0) locals ≡ take at locals

@@ -193,10 +193,10 @@ impl Flow {
         self.reachable = false;
     }
 
-    /// A local in scope isn't null: it is promoted to its current type without null, where that is
-    /// another type and the local isn't captured. After an `Err` the model is as before.
+    /// A local isn't null: it is promoted to its current type without null, where that is another
+    /// type and the local isn't captured. One that isn't in scope is passed over. After an `Err` the
+    /// model is as before.
     pub fn non_null(&mut self, alloc: Global, var: LocalId) -> Result<(), AllocError>
-        requires { IsSome (facts_of self.old var) }
         ensures ok { OnOk result (self.new ≡ at_local self.old var non_null_facts) }
         ensures err { OnErr result (self.new ≡ self.old) }
     {
@@ -205,7 +205,7 @@ impl Flow {
                 self.locals[place].non_null(alloc)?;
                 Ok(())
             }
-            Err(_) => unreachable!(),
+            Err(_) => Ok(()),
         }
     }
 

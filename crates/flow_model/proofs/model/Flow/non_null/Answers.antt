@@ -2,20 +2,21 @@ use Rattle.std.proofs.Common.{sym, ap, ◌∙◌, set}
 use Rattle.flow_model.specs.declared.locals.Facts.{Facts}
 use Rattle.flow_model.specs.Flow.{FlowModel}
 use Rattle.flow_model.specs.Steps.{non_null_facts}
-use Rattle.flow_model.proofs.Places.{not_some, map_there}
+use Rattle.flow_model.proofs.Places.{map_there, map_absent}
 use Rattle.flow_model.proofs.Scopes.{with_locals}
 use Rattle.flow_model.proofs.model.Flow.non_null.Goals as goal
 
--- a local that stands nowhere isn't in scope
-pub unreachable-requires : goal.unreachable-requires
-unreachable-requires c =
-    not_some c.args.self.now.locals c.args.var c.in-Err.field-0 c.in-Err.ensures.absent c.requires
-
 -- the change at its place is the change of the local
-pub returns-clause-ok : goal.returns-clause-ok
-returns-clause-ok c =
+pub returns-in_ok-non_null-in-Ok-clause-ok : goal.returns-in_ok-non_null-in-Ok-clause-ok
+returns-in_ok-non_null-in-Ok-clause-ok c =
     let same = ap (λ (m : FlowModel). m.locals) c.self.view_is in
     let there = map_there c.self.inside.locals.items c.self.invariant c.args.var c.in-Ok.place (rw same c.in-Ok.ensures.found) non_null_facts c.index_mut.result.now in
     let made = c.in_ok-non_null-in-Ok.ensures.ok in
     let written = ap (λ (l : Facts). set c.self.inside.locals.items c.in-Ok.place (non_null_facts l)) c.index_mut.ensures.value in
     rw (← c.self.view_is) (ap (with_locals c.self.inside.reachable) (ap (λ (l : Facts). set c.self.inside.locals.items c.in-Ok.place l) made ∙ (written ∙ sym there)))
+
+-- a local that stands nowhere is passed over
+pub returns-in-Err-clause-ok : goal.returns-in-Err-clause-ok
+returns-in-Err-clause-ok c =
+    ap (with_locals c.args.self.now.reachable)
+    (sym (map_absent c.args.self.now.locals c.args.var c.in-Err.field-0 c.in-Err.ensures.absent non_null_facts))
