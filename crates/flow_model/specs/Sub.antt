@@ -3,6 +3,10 @@ use Rattle.std.specs.Prelude.{Bool, true, ◌&&◌, not}
 use Rattle.flow_model.specs.Ty.{Ty, invalid, never, null, int, bool, nullable, bare_of, same_type, admits_null}
 use Rattle.flow_model.specs.declared.subtyping.Rows.{Rows}
 
+-- the rows of no classes: the language has none yet
+abbrev pub no_rows : Rows
+no_rows = record {}
+
 -- s is a subtype of t: one constructor a rule. Of the invalid type only those rules speak that speak of all types
 pub data Sub (rows : Rows) : Ty → Ty → Type 0 where
   -- a type is a subtype of itself

@@ -1,7 +1,7 @@
 //! Subtyping.
 
 ghost use Rattle.std.specs.Prelude.{◌≡◌, IfOk, IsTrue, ◌↔◌};
-ghost use Rattle.flow_model.specs.Sub.{Sub, sub, proper_sub};
+ghost use Rattle.flow_model.specs.Sub.{Sub, sub, proper_sub, no_rows};
 
 use crate::types::{DartType, TypeNode};
 use std::alloc::{AllocError, Global};
@@ -13,7 +13,7 @@ pub struct Rows {}
 impl Rows {
     /// The rows of no classes.
     pub fn new() -> Rows
-        ensures { result ≡ record {} }
+        ensures { result ≡ no_rows }
     {
         Rows {}
     }
