@@ -10,3 +10,4 @@ pub mod SameScope
 pub mod JoinLaws
 pub mod StepLaws
 pub mod Captured
+pub mod Forgets

@@ -82,6 +82,11 @@ module _ {X : Type 0} (p : X → Bool) where
   map_at f (x ∷ xs) (suc i) d within before here after =
       rw (before 0 x (omega arith) (omega arith)) (ap (λ (ys : List X). x ∷ ys) (map_at f xs i d (omega arith) (answers_front false x xs i before) here (answers_tail false x xs (suc i) (length xs) after)))
 
+-- two changes that are the same of each item
+pub map-same : {X : Type 0} (f g : X → X) → ((x : X) → f x ≡ g x) → (xs : List X) → map f xs ≡ map g xs
+map-same f g same [] = refl
+map-same f g same (x ∷ xs) = rw (same x) (ap (λ ys. g x ∷ ys) (map-same f g same xs))
+
 -- an item that passes the second test is kept or left by the first
 filter-filter-at : {X : Type 0} (p q r : X → Bool) (x : X) (xs : List X) (a b : Bool) → p x ≡ a → q x ≡ b → r x ≡ (a && b) → filter q (filter p xs) ≡ filter r xs → filter q (filter p (x ∷ xs)) ≡ filter r (x ∷ xs)
 filter-filter-at p q r x xs true true ep eq er more = rw (ep, eq, er) (ap (λ ys. x ∷ ys) more)

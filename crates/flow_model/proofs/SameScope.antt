@@ -1,5 +1,5 @@
--- Models of the same scope: what keeps the scope, and the order of the locals with it.
-use Rattle.std.proofs.Common.{◌≡◌, ℕ, zero, suc, ◌<◌, Bool, true, false, not, nat_lt, List, [], ◌∷◌, ◌++◌, length, get_or, take, map, if◌then◌else◌, refl, sym, ap, ◌∙◌, arith}
+-- Models of the same scope: what keeps the scope, and in which order the locals of two paths stand.
+use Rattle.std.proofs.Common.{◌≡◌, ℕ, zero, suc, ◌<◌, Bool, true, false, not, nat_lt, List, [], ◌∷◌, ◌++◌, length, get_or, map, if◌then◌else◌, refl, sym, ap, ◌∙◌, arith}
 use Rattle.std.specs.Prelude.{◌||◌, filter}
 use Rattle.std.proofs.lemmas.List.{length-map, map-append}
 use Rattle.flow_model.specs.Ty.{Ty, same_type, non_null_of}
@@ -14,26 +14,10 @@ use Rattle.flow_model.specs.declared.locals.Facts.{Facts}
 abbrev pub local_of : Facts → LocalId × Ty
 local_of l = (l.var, l.ty)
 
--- what is made of an item of a list is the item of what is made of the list
-get_or-map : {X Y : Type 0} (f : X → Y) (xs : List X) (i : ℕ) (d : X) → get_or (map f xs) i (f d) ≡ f (get_or xs i d)
-get_or-map f [] i d = refl
-get_or-map f (x ∷ xs) zero d = refl
-get_or-map f (x ∷ xs) (suc i) d = get_or-map f xs i d
-
 -- lists of the same locals are of one length
-pub length_from_scope : (ls ms : List Facts) → map local_of ls ≡ map local_of ms → length ls ≡ length ms
+length_from_scope : (ls ms : List Facts) → map local_of ls ≡ map local_of ms → length ls ≡ length ms
 length_from_scope ls ms same =
     sym (length-map ls local_of) ∙ (ap (λ (locals : List (LocalId × Ty)). length locals) same ∙ length-map ms local_of)
-
--- and in one order
-pub order_from_scope : (ls ms : List Facts) → map local_of ls ≡ map local_of ms → IsInOrder ms → IsInOrder ls
-order_from_scope ls ms same order i j d lt within =
-    let number = λ (k : ℕ). get_or (map local_of ls) k (local_of d) in
-    let same_number : (k : ℕ) → (get_or ls k d).var.0 ≡ (get_or ms k d).var.0 =
-    λ k. ap (λ (local : LocalId × Ty). local.0.0) (sym (get_or-map local_of ls k d) ∙ (ap (λ (locals : List (LocalId × Ty)). get_or locals k (local_of d)) same ∙ get_or-map local_of ms k d)) in
-    let lengths = length_from_scope ls ms same in
-    let below = order i j d lt (omega arith) in
-    rw (same_number i, same_number j) below
 
 -- a change of the facts that keeps each local keeps the locals
 pub scope-map : (f : Facts → Facts) → ((l : Facts) → local_of (f l) ≡ local_of l) → (locals : List Facts) → map local_of (map f locals) ≡ map local_of locals
@@ -134,8 +118,3 @@ scope-join_of_at a b true true is_a is_b same =
 -- where two paths meet
 pub scope-join_of : (a b : FlowModel) → HaveSameScope a b → scope_of (join_of a b) ≡ scope_of a
 scope-join_of a b same = scope-join_of_at a b a.reachable b.reachable refl refl same
-
--- a list that was written back whole in place of another
-pub written_back : (new rest : List Facts) → take (length new) (new ++ rest) ≡ new
-written_back [] rest = refl
-written_back (l ∷ ls) rest = ap (λ (locals : List Facts). l ∷ locals) (written_back ls rest)

@@ -1,13 +1,13 @@
 //! What is read of the facts of one local, and what writes and tests do to them.
 
-ghost use Rattle.std.specs.Prelude.{◌≡◌, ◌++◌, ◌∷◌, [], ◌&&◌, IfOk, OnOk, OnErr, MatchOption, filter};
+ghost use Rattle.std.specs.Prelude.{◌≡◌, ◌++◌, ◌∷◌, [], false, ◌&&◌, IfOk, OnOk, OnErr, MatchOption, filter};
 ghost use Rattle.std.specs.List.{list_all};
 ghost use Rattle.flow_model.specs.Sub.{sub, proper_sub};
-ghost use Rattle.flow_model.specs.Flow.{current_of, last_or, fresh_facts, is_listed};
-ghost use Rattle.flow_model.specs.Steps.{conservative_facts, non_null_facts};
+ghost use Rattle.flow_model.specs.Flow.{current_of, last_or, fresh_facts};
+ghost use Rattle.flow_model.specs.Steps.{non_null_facts};
 ghost use Rattle.flow_model.specs.Assign.{is_in, interest_of, between_of, least_of, appended_of, assign_facts};
 
-use crate::locals::{Facts, LocalDecl, LocalId};
+use crate::locals::{Facts, LocalDecl};
 use crate::subtyping::{Rows, is_proper_subtype, is_subtype};
 use crate::types::{DartType, TypeList};
 use std::alloc::{AllocError, Global};
@@ -87,16 +87,12 @@ impl Facts {
         Ok(())
     }
 
-    /// Forgets what code that writes and captures these could change.
-    pub(crate) fn forget(&mut self, written: &[LocalId], captured: &[LocalId])
-        ensures { self.new ≡ conservative_facts written.now captured.now self.old }
+    /// Forgets what code that writes the local could change.
+    pub(crate) fn forget(&mut self)
+        ensures { self.new ≡ record self.old { chain = []; unassigned = false } }
     {
-        let is_captured = is_listed(captured, self.var);
-        if is_listed(written, self.var) || is_captured {
-            self.chain.clear();
-            self.unassigned = false;
-            self.captured = self.captured || is_captured;
-        }
+        self.chain.clear();
+        self.unassigned = false;
     }
 
     // The types of interest: the declared one, the tested ones, and these without null.
@@ -114,18 +110,6 @@ impl Facts {
         }
         Ok(types)
     }
-}
-
-// Whether a local is in a list.
-fn is_listed(vars: &[LocalId], var: LocalId) -> bool
-    ensures { result ≡ is_listed vars.now var }
-{
-    for listed in vars {
-        if listed.0 == var.0 {
-            return true;
-        }
-    }
-    false
 }
 
 // The last of the types, or `t` where there is none.

@@ -1,7 +1,7 @@
 //! Laws of flow models, in the words of their definitions. Each is the contract of a function that
 //! does no work.
 
-ghost use Rattle.std.specs.Prelude.{◌≡◌, ◌≢◌, ◌&&◌, ◌||◌, true, false, not, All, Some, find, IsNone, IsSome, IsTrue, [], ◌∷◌};
+ghost use Rattle.std.specs.Prelude.{◌≡◌, ◌≢◌, ◌&&◌, ◌||◌, true, false, not, All, Some, find, IsNone, IsSome, IsTrue, [], ◌∷◌, ◌++◌};
 ghost use Rattle.std.specs.Option.{option_map, option_map_or};
 ghost use Rattle.flow_model.specs.Ty.{admits_null};
 ghost use Rattle.flow_model.specs.Sub.{Sub};
@@ -90,6 +90,18 @@ pub fn conservative_join_forgets_the_written(
 )
     ensures forgotten { IsTrue (is_listed _written.now _var || is_listed _captured.now _var) → option_map current_of (facts_of (conservative_of _flow.now _written.now _captured.now) _var) ≡ option_map (λ l. l.ty) (facts_of _flow.now _var) }
     ensures kept { (is_listed _written.now _var || is_listed _captured.now _var) ≡ false → facts_of (conservative_of _flow.now _written.now _captured.now) _var ≡ facts_of _flow.now _var }
+{}
+
+/// What two pieces of code could change is forgotten one after the other, or at once: each local
+/// that one of them writes or captures.
+pub fn conservative_joins_add_up(
+    _flow: &Flow,
+    _written: &[LocalId],
+    _captured: &[LocalId],
+    _written_next: &[LocalId],
+    _captured_next: &[LocalId],
+)
+    ensures { conservative_of (conservative_of _flow.now _written.now _captured.now) _written_next.now _captured_next.now ≡ conservative_of _flow.now (_written.now ++ _written_next.now) (_captured.now ++ _captured_next.now) }
 {}
 
 /// A local that was found not to be null has a subtype of the type that it had, and one without

@@ -18,10 +18,11 @@ mod tests;
 mod types;
 
 pub use laws::{
-    assign_changes_one_local, conservative_join_forgets_the_written, declare_adds_one_local,
-    end_undoes_declare, join_commutes, join_knows_each_local, join_promotes_to_what_both_do,
-    join_with_itself_changes_nothing, no_captured_local_is_promoted, non_null_narrows,
-    start_knows_its_locals, steps_keep_the_scope, written_value_has_each_promoted_type,
+    assign_changes_one_local, conservative_join_forgets_the_written, conservative_joins_add_up,
+    declare_adds_one_local, end_undoes_declare, join_commutes, join_knows_each_local,
+    join_promotes_to_what_both_do, join_with_itself_changes_nothing, no_captured_local_is_promoted,
+    non_null_narrows, start_knows_its_locals, steps_keep_the_scope,
+    written_value_has_each_promoted_type,
 };
 pub use locals::{Facts, LocalDecl, LocalId};
 pub use model::Flow;

@@ -1,11 +1,11 @@
 //! Flow models and the calls that change them.
 
-ghost use Rattle.std.specs.Prelude.{◌≡◌, ◌∷◌, [], false, IfOk, IfErr, OnOk, OnErr, IsSome, IsNone, is_some, map};
+ghost use Rattle.std.specs.Prelude.{◌≡◌, ◌∷◌, [], false, IfOk, IfErr, OnOk, OnErr, IsSome, IsNone, is_some};
 ghost use Rattle.std.specs.Option.{option_copied, option_map, option_map_or};
 ghost use Rattle.flow_model.specs.Flow.{at_local, current_of, facts_of, declare_of, start_of, end_of, AreDistinct, IsInOrder};
 ghost use Rattle.flow_model.specs.Assign.{assign_facts};
 ghost use Rattle.flow_model.specs.Join.{join_of};
-ghost use Rattle.flow_model.specs.Steps.{conservative_of, conservative_facts, exit_of, non_null_facts};
+ghost use Rattle.flow_model.specs.Steps.{conservative_of, exit_of, non_null_facts};
 ghost use Rattle.flow_model.specs.Place.{StandsAt, WouldStandAt};
 
 use crate::join::join_locals;
@@ -87,6 +87,7 @@ impl Flow {
     pub fn locals_are_in_order(&self)
         ensures { IsInOrder self.now.locals }
     {
+        // Opens the invariant for the contract.
         let _ = &self.locals;
     }
 
@@ -231,12 +232,17 @@ impl Flow {
 
     /// Forgets what code that may run any number of times, or at a later time, could change: of
     /// the locals that it writes or captures, what they are promoted to and that they have no
-    /// value. Those that it captures are captured from now on. It takes no memory, and goes through
-    /// both lists once for each local in scope.
+    /// value. Those that it captures are captured from now on. It takes no memory, and costs a
+    /// binary search for each entry of both lists.
     pub fn conservative_join(&mut self, written: &[LocalId], captured: &[LocalId])
         ensures { self.new ≡ conservative_of self.old written.now captured.now }
     {
-        forget(&mut self.locals, written, captured);
+        for var in written {
+            self.forget_written(*var);
+        }
+        for var in captured {
+            self.forget_captured(*var);
+        }
     }
 
     /// A second value of the same model.
@@ -251,6 +257,26 @@ impl Flow {
             reachable: self.reachable,
             locals,
         })
+    }
+
+    // Forgets what code that writes the local could change.
+    fn forget_written(&mut self, var: LocalId)
+        ensures { self.new ≡ conservative_of self.old (var ∷ []) [] }
+    {
+        if let Ok(place) = self.search(var) {
+            self.locals[place].forget();
+        }
+    }
+
+    // Forgets what code that captures the local could change; it is captured from now on.
+    fn forget_captured(&mut self, var: LocalId)
+        ensures { self.new ≡ conservative_of self.old [] (var ∷ []) }
+    {
+        if let Ok(place) = self.search(var) {
+            let facts = &mut self.locals[place];
+            facts.forget();
+            facts.captured = true;
+        }
     }
 
     // What is known of a local.
@@ -270,14 +296,5 @@ impl Flow {
     {
         self.locals
             .binary_search_by_key(&var.0, |facts| facts.var.0)
-    }
-}
-
-// Forgets what code that writes and captures these could change.
-fn forget(locals: &mut [Facts], written: &[LocalId], captured: &[LocalId])
-    ensures { locals.new ≡ map (conservative_facts written.now captured.now) locals.old }
-{
-    for i in 0..locals.len() {
-        locals[i].forget(written, captured);
     }
 }

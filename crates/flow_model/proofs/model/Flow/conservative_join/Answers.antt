@@ -1,19 +1,24 @@
-use Rattle.std.proofs.Common.{◌≡◌, length, take, drop, map, ◌++◌, sym, ap, ◌∙◌, subst, arith}
-use Rattle.flow_model.specs.Flow.{IsInOrder}
-use Rattle.flow_model.specs.Steps.{conservative_facts}
-use Rattle.flow_model.proofs.SameScope.{local_of, written_back, length_from_scope, order_from_scope, scope-conservative}
+use Rattle.std.proofs.Common.{◌∙◌, sym, ap, [], add-one, arith}
+use Rattle.std.proofs.lemmas.List.{drop_all}
+use Rattle.flow_model.specs.Steps.{conservative_of}
+use Rattle.flow_model.proofs.Forgets.{conservative_of-none, write_one_more, capture_one_more}
 use Rattle.flow_model.proofs.model.Flow.conservative_join.Goals as goal
 
--- no local is added or taken away, so they keep their order
-pub invariant_of-self : goal.invariant_of-self
-invariant_of-self c =
-    let old = c.self.inside.locals.items in
-    let new = c.forget.new.locals in
-    let written = c.args.written.now in
-    let captured = c.args.captured.now in
-    let changed = c.forget.ensures ∙ ap (map (conservative_facts written captured)) c.deref_mut.ensures.value in
-    let same = ap (map local_of) changed ∙ scope-conservative written captured old in
-    let lengths = length_from_scope new old same in
-    let len : c.self.inside.locals.len ≡ length new = omega arith in
-    let whole : take c.self.inside.locals.len (new ++ drop (length new) old) ≡ new = rw len (written_back new (drop (length new) old)) in
-    subst IsInOrder (sym whole) (order_from_scope new old same c.self.invariant)
+-- one more written local
+pub loop-var-preserved : goal.loop-var-preserved
+loop-var-preserved c =
+    rw (add-one, c.forget_written.ensures)
+    (write_one_more c.loop-var.self c.args.written.now c.args.captured.now c.loop-var.var-index _ c.loop-var-test.true ∙ c.loop-var.invariant)
+
+-- one more captured local
+pub loop-var-2-preserved : goal.loop-var-2-preserved
+loop-var-2-preserved c =
+    rw (add-one, c.forget_captured.ensures)
+    (capture_one_more c.loop-var-2.self c.args.captured.now c.loop-var-2.var-index _ c.loop-var-2-test.true ∙ c.loop-var-2.invariant)
+
+-- nothing is left to forget
+pub returns : goal.returns
+returns c =
+    let none = drop_all c.loop-var-2.var-index c.args.captured.now (omega arith) in
+    sym (conservative_of-none c.loop-var-2.self)
+    ∙ (ap (conservative_of c.loop-var-2.self []) (sym none) ∙ c.loop-var-2.invariant)
