@@ -17,6 +17,7 @@ trees_of-each_numbered n (t ∷ ts) = ap (more (numbered n t)) (trees_of-each_nu
 pub record IsNumberedUpTo (index first : ℕ) (were : List Tree) (next : ℕ) (trees : List Tree) : Type 0 where
   pub so_far : each_numbered first were ≡ take index trees ++ each_numbered next (drop index trees)
   pub to_come : next + nodes_in_all (trees_of (drop index trees)) ≡ first + nodes_in_all (trees_of were)
+  pub behind : first ≤ next
 
 all_taken : (index next : ℕ) (trees : List Tree) → length trees ≤ index → take index trees ++ each_numbered next (drop index trees) ≡ trees
 all_taken index next trees past =

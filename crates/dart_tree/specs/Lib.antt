@@ -6,3 +6,4 @@ pub mod Counts
 pub mod Counters
 pub mod Numbers
 pub mod NumberLaws
+pub mod Falls

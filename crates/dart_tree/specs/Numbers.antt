@@ -1,6 +1,6 @@
 -- The numbers of the nodes: in reading order, a node before the nodes in it.
 use Rattle.std.specs.Prelude.{ℕ, ◌+◌, List, [], ◌∷◌, ◌++◌}
-use Rattle.dart_tree.specs.Tree.{Tree, Trees, Part, no_more, more, absent, present, name, integer, int_type, declare, assign, eval, print, block, function, unit}
+use Rattle.dart_tree.specs.Tree.{Tree, Trees, Part, no_more, more, absent, present, name, integer, boolean, null_literal, binary, int_type, bool_type, declare, assign, eval, print, if_statement, while_statement, block, function, unit}
 use Rattle.dart_tree.specs.declared.places.Place.{Place}
 use Rattle.dart_tree.specs.declared.nodes.Name.{Name}
 
@@ -9,11 +9,17 @@ abbrev mutual
   pub nodes_in : Tree → ℕ
   nodes_in (name at word) = 1
   nodes_in (integer at literal) = 1
-  nodes_in (int_type at) = 1
+  nodes_in (boolean at value) = 1
+  nodes_in (null_literal at) = 1
+  nodes_in (binary at operator left right) = 1 + nodes_in left + nodes_in right
+  nodes_in (int_type at nullable) = 1
+  nodes_in (bool_type at) = 1
   nodes_in (declare at declared variable initial) = 2 + nodes_in declared + nodes_in_part initial
   nodes_in (assign at target value) = 2 + nodes_in value
   nodes_in (eval at value) = 1 + nodes_in value
   nodes_in (print at value) = 1 + nodes_in value
+  nodes_in (if_statement at condition then otherwise) = 1 + nodes_in condition + nodes_in then + nodes_in_part otherwise
+  nodes_in (while_statement at condition body) = 1 + nodes_in condition + nodes_in body
   nodes_in (block at statements) = 1 + nodes_in_all statements
   nodes_in (function at body) = 1 + nodes_in body
   nodes_in (unit at main) = 1 + nodes_in main
@@ -41,13 +47,22 @@ abbrev mutual
   pub numbered : ℕ → Tree → Tree
   numbered n (name at word) = name (place_numbered n at) word
   numbered n (integer at literal) = integer (place_numbered n at) literal
-  numbered n (int_type at) = int_type (place_numbered n at)
+  numbered n (boolean at value) = boolean (place_numbered n at) value
+  numbered n (null_literal at) = null_literal (place_numbered n at)
+  numbered n (binary at operator left right) = binary (place_numbered n at) operator (numbered (n + 1) left) (numbered (n + 1 + nodes_in left) right)
+  numbered n (int_type at nullable) = int_type (place_numbered n at) nullable
+  numbered n (bool_type at) = bool_type (place_numbered n at)
   numbered n (declare at declared variable initial) =
       declare (place_numbered n at) (numbered (n + 1) declared) (name_numbered (n + 1 + nodes_in declared) variable)
       (part_numbered (n + 2 + nodes_in declared) initial)
   numbered n (assign at target value) = assign (place_numbered n at) (name_numbered (n + 1) target) (numbered (n + 2) value)
   numbered n (eval at value) = eval (place_numbered n at) (numbered (n + 1) value)
   numbered n (print at value) = print (place_numbered n at) (numbered (n + 1) value)
+  numbered n (if_statement at condition then otherwise) =
+      if_statement (place_numbered n at) (numbered (n + 1) condition) (numbered (n + 1 + nodes_in condition) then)
+      (part_numbered (n + 1 + nodes_in condition + nodes_in then) otherwise)
+  numbered n (while_statement at condition body) =
+      while_statement (place_numbered n at) (numbered (n + 1) condition) (numbered (n + 1 + nodes_in condition) body)
   numbered n (block at statements) = block (place_numbered n at) (all_numbered (n + 1) statements)
   numbered n (function at body) = function (place_numbered n at) (numbered (n + 1) body)
   numbered n (unit at main) = unit (place_numbered n at) (numbered (n + 1) main)
@@ -71,11 +86,17 @@ abbrev mutual
   pub numbers_of : Tree → List ℕ
   numbers_of (name at word) = number_at at ∷ []
   numbers_of (integer at literal) = number_at at ∷ []
-  numbers_of (int_type at) = number_at at ∷ []
+  numbers_of (boolean at value) = number_at at ∷ []
+  numbers_of (null_literal at) = number_at at ∷ []
+  numbers_of (binary at operator left right) = number_at at ∷ (numbers_of left ++ numbers_of right)
+  numbers_of (int_type at nullable) = number_at at ∷ []
+  numbers_of (bool_type at) = number_at at ∷ []
   numbers_of (declare at declared variable initial) = number_at at ∷ (numbers_of declared ++ number_at variable.at ∷ numbers_of_part initial)
   numbers_of (assign at target value) = number_at at ∷ number_at target.at ∷ numbers_of value
   numbers_of (eval at value) = number_at at ∷ numbers_of value
   numbers_of (print at value) = number_at at ∷ numbers_of value
+  numbers_of (if_statement at condition then otherwise) = number_at at ∷ (numbers_of condition ++ (numbers_of then ++ numbers_of_part otherwise))
+  numbers_of (while_statement at condition body) = number_at at ∷ (numbers_of condition ++ numbers_of body)
   numbers_of (block at statements) = number_at at ∷ numbers_of_all statements
   numbers_of (function at body) = number_at at ∷ numbers_of body
   numbers_of (unit at main) = number_at at ∷ numbers_of main

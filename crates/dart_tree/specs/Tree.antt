@@ -1,19 +1,26 @@
 -- Syntax trees, as the rules of the language see them.
-use Rattle.std.specs.Prelude.{ℕ, List, [], ◌∷◌, Option, Some, None}
+use Rattle.std.specs.Prelude.{ℕ, Bool, List, [], ◌∷◌, Option, Some, None}
 use Rattle.dart_tree.specs.declared.places.Place.{Place}
 use Rattle.dart_tree.specs.declared.nodes.IntegerLiteral.{IntegerLiteral}
 use Rattle.dart_tree.specs.declared.nodes.Name.{Name}
+use Rattle.dart_tree.specs.declared.nodes.Operator.{Operator}
 
 mutual
   -- a node with where it stands and the nodes in it, in the order in which they are written
   pub data Tree : Type 0 where
     name : (at : Place) (word : ℕ) → Tree
     integer : (at : Place) (literal : IntegerLiteral) → Tree
-    int_type : (at : Place) → Tree
+    boolean : (at : Place) (value : Bool) → Tree
+    null_literal : (at : Place) → Tree
+    binary : (at : Place) (operator : Operator) (left : Tree) (right : Tree) → Tree
+    int_type : (at : Place) (nullable : Bool) → Tree
+    bool_type : (at : Place) → Tree
     declare : (at : Place) (declared : Tree) (variable : Name) (initial : Part) → Tree
     assign : (at : Place) (target : Name) (value : Tree) → Tree
     eval : (at : Place) (value : Tree) → Tree
     print : (at : Place) (value : Tree) → Tree
+    if_statement : (at : Place) (condition : Tree) (then : Tree) (otherwise : Part) → Tree
+    while_statement : (at : Place) (condition : Tree) (body : Tree) → Tree
     block : (at : Place) (statements : Trees) → Tree
     function : (at : Place) (body : Tree) → Tree
     unit : (at : Place) (main : Tree) → Tree

@@ -2,10 +2,10 @@
 use Rattle.std.specs.Prelude.{◌≡◌, List, [], ◌∷◌, ◌++◌, Option, Some, None, refl}
 use Rattle.std.proofs.Common.{ap, ◌∙◌}
 use Rattle.std.specs.Coded.{Coded, code_by, coded×, coded_list, coded_option}
-use Rattle.dart_tree.specs.Tree.{Tree, Trees, Part, no_more, more, absent, present, name, integer, int_type, declare, assign, eval, print, block, function, unit}
+use Rattle.dart_tree.specs.Tree.{Tree, Trees, Part, no_more, more, absent, present, name, integer, boolean, null_literal, binary, int_type, bool_type, declare, assign, eval, print, if_statement, while_statement, block, function, unit}
 use Rattle.dart_tree.specs.declared.places.Place.{Place}
 use Rattle.dart_tree.specs.declared.nodes.Production.{Production}
-use Rattle.dart_tree.specs.declared.nodes.Production.TheVariants.{NoMore, More, Absent, Present, Name, Integer, IntType, Declare, Assign, Eval, Print, Block, Function, Unit as WholeUnit}
+use Rattle.dart_tree.specs.declared.nodes.Production.TheVariants.{NoMore, More, Absent, Present, Name, Integer, Boolean, NullLiteral, Binary, IntType, BoolType, Declare, Assign, Eval, Print, If, While, Block, Function, Unit as WholeUnit}
 use Rattle.dart_tree.specs.contracts.places.Place as place
 use Rattle.dart_tree.specs.contracts.nodes.Production as production
 
@@ -22,11 +22,17 @@ abbrev mutual
   pub marks : Tree → Marks → Marks
   marks (name at word) k = None ∷ Some (Name word, at) ∷ k
   marks (integer at literal) k = None ∷ Some (Integer literal, at) ∷ k
-  marks (int_type at) k = None ∷ Some (IntType, at) ∷ k
+  marks (boolean at value) k = None ∷ Some (Boolean value, at) ∷ k
+  marks (null_literal at) k = None ∷ Some (NullLiteral, at) ∷ k
+  marks (binary at operator left right) k = None ∷ marks left (marks right (Some (Binary operator, at) ∷ k))
+  marks (int_type at nullable) k = None ∷ Some (IntType nullable, at) ∷ k
+  marks (bool_type at) k = None ∷ Some (BoolType, at) ∷ k
   marks (declare at declared variable initial) k = None ∷ marks declared (marks_of_part initial (Some (Declare variable, at) ∷ k))
   marks (assign at target value) k = None ∷ marks value (Some (Assign target, at) ∷ k)
   marks (eval at value) k = None ∷ marks value (Some (Eval, at) ∷ k)
   marks (print at value) k = None ∷ marks value (Some (Print, at) ∷ k)
+  marks (if_statement at condition then otherwise) k = None ∷ marks condition (marks then (marks_of_part otherwise (Some (If, at) ∷ k)))
+  marks (while_statement at condition body) k = None ∷ marks condition (marks body (Some (While, at) ∷ k))
   marks (block at statements) k = None ∷ marks_of_all statements (Some (Block, at) ∷ k)
   marks (function at body) k = None ∷ marks body (Some (Function, at) ∷ k)
   marks (unit at main) k = None ∷ marks main (Some (WholeUnit, at) ∷ k)
@@ -49,7 +55,7 @@ pub data Held : Type 0 where
 
 -- the tree that is read where there is none
 abbrev pub no_tree : Tree
-no_tree = int_type nowhere
+no_tree = bool_type nowhere
 
 -- the first of what was read, as a tree
 abbrev pub one_of : List Held → Tree
@@ -85,11 +91,17 @@ build Absent at hs = Maybe absent
 build Present at hs = Maybe (present (one_of hs))
 build (Name word) at hs = One (name at word)
 build (Integer literal) at hs = One (integer at literal)
-build IntType at hs = One (int_type at)
+build (Boolean value) at hs = One (boolean at value)
+build NullLiteral at hs = One (null_literal at)
+build (Binary operator) at hs = One (binary at operator (one_of hs) (one_of (next hs)))
+build (IntType nullable) at hs = One (int_type at nullable)
+build BoolType at hs = One (bool_type at)
 build (Declare variable) at hs = One (declare at (one_of hs) variable (part_in (next hs)))
 build (Assign target) at hs = One (assign at target (one_of hs))
 build Eval at hs = One (eval at (one_of hs))
 build Print at hs = One (print at (one_of hs))
+build If at hs = One (if_statement at (one_of hs) (one_of (next hs)) (part_in (next (next hs))))
+build While at hs = One (while_statement at (one_of hs) (one_of (next hs)))
 build Block at hs = One (block at (all_of hs))
 build Function at hs = One (function at (one_of hs))
 build WholeUnit at hs = One (unit at (one_of hs))
@@ -115,11 +127,17 @@ mutual
   pub read-marks : (t : Tree) (k : Marks) (hs : List Held) (s : List (List Held)) → read (marks t k) (hs ∷ s) ≡ read k ((hs ++ One t ∷ []) ∷ s)
   read-marks (name at word) k hs s = refl
   read-marks (integer at literal) k hs s = refl
-  read-marks (int_type at) k hs s = refl
+  read-marks (boolean at value) k hs s = refl
+  read-marks (null_literal at) k hs s = refl
+  read-marks (binary at operator left right) k hs s = read-marks left _ _ _ ∙ read-marks right _ _ _
+  read-marks (int_type at nullable) k hs s = refl
+  read-marks (bool_type at) k hs s = refl
   read-marks (declare at declared variable initial) k hs s = read-marks declared _ _ _ ∙ read-part initial _ _ _
   read-marks (assign at target value) k hs s = read-marks value _ _ _
   read-marks (eval at value) k hs s = read-marks value _ _ _
   read-marks (print at value) k hs s = read-marks value _ _ _
+  read-marks (if_statement at condition then otherwise) k hs s = read-marks condition _ _ _ ∙ (read-marks then _ _ _ ∙ read-part otherwise _ _ _)
+  read-marks (while_statement at condition body) k hs s = read-marks condition _ _ _ ∙ read-marks body _ _ _
   read-marks (block at statements) k hs s = read-all statements _ _ _
   read-marks (function at body) k hs s = read-marks body _ _ _
   read-marks (unit at main) k hs s = read-marks main _ _ _

@@ -1,6 +1,7 @@
 //! Copies of trees.
 
 ghost use Rattle.std.specs.Prelude.{◌≡◌, IfOk};
+ghost use Rattle.dart_tree.specs.Tree.{part_of};
 
 use crate::nodes::{
     Block, Expr, ExprNode, Function, Stmt, StmtNode, Unit, WrittenType, WrittenTypeNode,
@@ -9,8 +10,8 @@ use std::alloc::{AllocError, Global};
 
 impl Expr {
     /// An equal expression.
-    pub fn copy(&self) -> Expr
-        ensures { result ≡ self.now }
+    pub fn copy(&self, alloc: Global) -> Result<Expr, AllocError>
+        ensures { IfOk result (λ copied. copied ≡ self.now) }
     {
         let node = match &self.node {
             ExprNode::Name { at, word } => ExprNode::Name {
@@ -21,8 +22,24 @@ impl Expr {
                 at: *at,
                 literal: *literal,
             },
+            ExprNode::Boolean { at, value } => ExprNode::Boolean {
+                at: *at,
+                value: *value,
+            },
+            ExprNode::Null { at } => ExprNode::Null { at: *at },
+            ExprNode::Binary {
+                at,
+                operator,
+                left,
+                right,
+            } => ExprNode::Binary {
+                at: *at,
+                operator: *operator,
+                left: Box::new(alloc, left.copy(alloc)?)?,
+                right: Box::new(alloc, right.copy(alloc)?)?,
+            },
         };
-        Expr { node }
+        Ok(Expr { node })
     }
 }
 
@@ -32,7 +49,11 @@ impl WrittenType {
         ensures { result ≡ self.now }
     {
         let node = match &self.node {
-            WrittenTypeNode::Int { at } => WrittenTypeNode::Int { at: *at },
+            WrittenTypeNode::Int { at, nullable } => WrittenTypeNode::Int {
+                at: *at,
+                nullable: *nullable,
+            },
+            WrittenTypeNode::Bool { at } => WrittenTypeNode::Bool { at: *at },
         };
         WrittenType { node }
     }
@@ -40,8 +61,9 @@ impl WrittenType {
 
 impl Stmt {
     /// An equal statement.
-    pub fn copy(&self) -> Stmt
-        ensures { result ≡ self.now }
+    #[cycle(copy_stmt)]
+    pub fn copy(&self, alloc: Global) -> Result<Stmt, AllocError>
+        ensures { IfOk result (λ copied. copied ≡ self.now) }
     {
         let node = match &self.node {
             StmtNode::Declare {
@@ -55,35 +77,69 @@ impl Stmt {
                 name: *name,
                 initial: match initial {
                     None => None,
-                    Some(value) => Some(value.copy()),
+                    Some(value) => Some(value.copy(alloc)?),
                 },
             },
             StmtNode::Assign { at, target, value } => StmtNode::Assign {
                 at: *at,
                 target: *target,
-                value: value.copy(),
+                value: value.copy(alloc)?,
             },
             StmtNode::Eval { at, value } => StmtNode::Eval {
                 at: *at,
-                value: value.copy(),
+                value: value.copy(alloc)?,
             },
             StmtNode::Print { at, value } => StmtNode::Print {
                 at: *at,
-                value: value.copy(),
+                value: value.copy(alloc)?,
             },
+            StmtNode::If {
+                at,
+                condition,
+                then,
+                otherwise,
+            } => StmtNode::If {
+                at: *at,
+                condition: condition.copy(alloc)?,
+                then: then.copy(alloc)?,
+                otherwise: match otherwise {
+                    None => None,
+                    Some(block) => Some(block.copy(alloc)?),
+                },
+            },
+            StmtNode::While {
+                at,
+                condition,
+                body,
+            } => StmtNode::While {
+                at: *at,
+                condition: condition.copy(alloc)?,
+                body: body.copy(alloc)?,
+            },
+            StmtNode::Block { at, statements } => {
+                let mut copies = Vec::new(alloc);
+                for statement in statements {
+                    copies.push(statement.copy(alloc)?)?;
+                }
+                StmtNode::Block {
+                    at: *at,
+                    statements: copies,
+                }
+            }
         };
-        Stmt { node }
+        Ok(Stmt { node })
     }
 }
 
 impl Block {
     /// An equal block.
+    #[cycle(copy_stmt)]
     pub fn copy(&self, alloc: Global) -> Result<Block, AllocError>
         ensures { IfOk result (λ copied. copied ≡ self.now) }
     {
         let mut statements = Vec::new(alloc);
         for statement in &self.statements {
-            statements.push(statement.copy())?;
+            statements.push(statement.copy(alloc)?)?;
         }
         Ok(Block {
             at: self.at,

@@ -14,8 +14,8 @@ mod places;
 
 pub use counters::{Work, WorkKind};
 pub use nodes::{
-    Block, Expr, ExprNode, Function, IntegerLiteral, Name, Production, Radix, Stmt, StmtNode, Unit,
-    WrittenType, WrittenTypeNode,
+    Block, Expr, ExprNode, Function, IntegerLiteral, Name, Operator, OperatorKind, Production,
+    Radix, Stmt, StmtNode, Unit, WrittenType, WrittenTypeNode,
 };
 pub use numbering::{number_unit, numbering_laws};
 pub use places::{NodeId, Place, Span};

@@ -3,7 +3,7 @@
 ghost use Rattle.std.specs.Prelude.{◌≡◌};
 ghost use Rattle.dart_tree.specs.Places.{place_of};
 
-use crate::places::Place;
+use crate::places::{Place, Span};
 use std::marker::Model;
 
 /// How the digits of an integer literal are read (Dart specification, "Numbers").
@@ -22,6 +22,26 @@ pub struct IntegerLiteral {
     pub radix: Radix,
     /// The number that its digits stand for; None where that is 2^64 or more.
     pub magnitude: Option<u64>,
+}
+
+/// What an operator between two operands is.
+#[derive(Clone, Copy, Debug, PartialEq, Eq)]
+pub enum OperatorKind {
+    /// `+`
+    Plus,
+    /// `<`
+    Less,
+    /// `!=`
+    NotEqual,
+}
+
+/// An operator as it is written: what it is, and where it stands. It is no node of its own.
+#[derive(Clone, Copy, Debug, PartialEq, Eq)]
+pub struct Operator {
+    /// What it is.
+    pub kind: OperatorKind,
+    /// The range of its token.
+    pub span: Span,
 }
 
 /// An identifier as it is declared or assigned: where it stands and the number of its word.
@@ -47,17 +67,24 @@ pub enum Production {
     Present,
     Name(u32),
     Integer(IntegerLiteral),
-    IntType,
+    Boolean(bool),
+    NullLiteral,
+    Binary(Operator),
+    IntType(bool),
+    BoolType,
     Declare(Name),
     Assign(Name),
     Eval,
     Print,
+    If,
+    While,
     Block,
     Function,
     Unit,
 }
 
 /// An expression.
+#[cycle(expr)]
 #[derive(Drop)]
 pub struct Expr {
     /// Its form, with its parts.
@@ -65,17 +92,41 @@ pub struct Expr {
 }
 
 /// The forms of an expression.
+#[cycle(expr)]
 #[derive(Drop)]
 pub enum ExprNode {
     /// `x`: the variable of that name.
-    Name { at: Place, word: u32 },
+    Name {
+        at: Place,
+        word: u32,
+    },
     /// `12` or `0x1F`.
-    Integer { at: Place, literal: IntegerLiteral },
+    Integer {
+        at: Place,
+        literal: IntegerLiteral,
+    },
+    /// `true` or `false`.
+    Boolean {
+        at: Place,
+        value: bool,
+    },
+    /// `null`
+    Null {
+        at: Place,
+    },
+    /// `a + b`, `a < b` or `a != b`.
+    Binary {
+        at: Place,
+        operator: Operator,
+        left: Box<Expr>,
+        right: Box<Expr>,
+    },
 }
 
 impl Model for Expr {
     ghost use Rattle.dart_tree.specs.Tree.{Tree};
     ghost use Rattle.dart_tree.specs.TreeCode.{tree_code};
+    ghost use Rattle.dart_tree.specs.Numbers.{nodes_in};
 
     ghost Value = { Tree };
 
@@ -84,6 +135,12 @@ impl Model for Expr {
     ghost use Rattle.dart_tree.specs.View.{expr_of};
 
     ghost view = { λ e. expr_of e.node };
+
+    ghost size = { nodes_in };
+
+    ghost use Rattle.dart_tree.specs.Falls.{expr_falls};
+
+    ghost size_decreases = { λ e h. expr_falls e.node };
 }
 
 impl Expr {
@@ -94,6 +151,9 @@ impl Expr {
         match &self.node {
             ExprNode::Name { at, .. } => *at,
             ExprNode::Integer { at, .. } => *at,
+            ExprNode::Boolean { at, .. } => *at,
+            ExprNode::Null { at } => *at,
+            ExprNode::Binary { at, .. } => *at,
         }
     }
 }
@@ -108,8 +168,10 @@ pub struct WrittenType {
 /// The forms of a written type.
 #[derive(Drop)]
 pub enum WrittenTypeNode {
-    /// `int`.
-    Int { at: Place },
+    /// `int`, or `int?` where it is nullable.
+    Int { at: Place, nullable: bool },
+    /// `bool`
+    Bool { at: Place },
 }
 
 impl Model for WrittenType {
@@ -131,12 +193,14 @@ impl WrittenType {
         ensures { result ≡ place_of self.now }
     {
         match &self.node {
-            WrittenTypeNode::Int { at } => *at,
+            WrittenTypeNode::Int { at, .. } => *at,
+            WrittenTypeNode::Bool { at } => *at,
         }
     }
 }
 
 /// A statement.
+#[cycle(stmt)]
 #[derive(Drop)]
 pub struct Stmt {
     /// Its form, with its parts.
@@ -144,9 +208,10 @@ pub struct Stmt {
 }
 
 /// The forms of a statement.
+#[cycle(stmt)]
 #[derive(Drop)]
 pub enum StmtNode {
-    /// `int x = e;`, or `int x;`.
+    /// `int x = e;`, or `int x;`, and so with the other types.
     Declare {
         at: Place,
         declared: WrittenType,
@@ -169,11 +234,30 @@ pub enum StmtNode {
         at: Place,
         value: Expr,
     },
+    /// `if (c) { .. }`, with or without `else { .. }`.
+    If {
+        at: Place,
+        condition: Expr,
+        then: Block,
+        otherwise: Option<Block>,
+    },
+    /// `while (c) { .. }`.
+    While {
+        at: Place,
+        condition: Expr,
+        body: Block,
+    },
+    /// `{ .. }`: a block that stands as a statement.
+    Block {
+        at: Place,
+        statements: Vec<Stmt>,
+    },
 }
 
 impl Model for Stmt {
     ghost use Rattle.dart_tree.specs.Tree.{Tree};
     ghost use Rattle.dart_tree.specs.TreeCode.{tree_code};
+    ghost use Rattle.dart_tree.specs.Numbers.{nodes_in};
 
     ghost Value = { Tree };
 
@@ -182,10 +266,16 @@ impl Model for Stmt {
     ghost use Rattle.dart_tree.specs.View.{stmt_of};
 
     ghost view = { λ s. stmt_of s.node };
+
+    ghost size = { nodes_in };
+
+    ghost use Rattle.dart_tree.specs.Falls.{stmt_falls};
+
+    ghost size_decreases = { λ s h. stmt_falls s.node };
 }
 
 impl Stmt {
-    /// The statement's number and range of text, from its first token to its semicolon.
+    /// The statement's number and range of text, from its first to its last token.
     pub fn place(&self) -> Place
         ensures { result ≡ place_of self.now }
     {
@@ -194,11 +284,15 @@ impl Stmt {
             StmtNode::Assign { at, .. } => *at,
             StmtNode::Eval { at, .. } => *at,
             StmtNode::Print { at, .. } => *at,
+            StmtNode::If { at, .. } => *at,
+            StmtNode::While { at, .. } => *at,
+            StmtNode::Block { at, .. } => *at,
         }
     }
 }
 
-/// Statements between braces.
+/// Statements between braces, as the body of a function, an `if` or a `while`.
+#[cycle(stmt)]
 #[derive(Drop)]
 pub struct Block {
     /// Its number, and its range of text with its braces.
@@ -210,12 +304,19 @@ pub struct Block {
 impl Model for Block {
     ghost use Rattle.dart_tree.specs.Tree.{Tree, block, trees_of};
     ghost use Rattle.dart_tree.specs.TreeCode.{tree_code};
+    ghost use Rattle.dart_tree.specs.Numbers.{nodes_in};
 
     ghost Value = { Tree };
 
     ghost coded = { tree_code };
 
     ghost view = { λ b. block b.at (trees_of b.statements.items) };
+
+    ghost size = { nodes_in };
+
+    ghost use Rattle.dart_tree.specs.Falls.{block_falls};
+
+    ghost size_decreases = { λ b h. block_falls b };
 }
 
 impl Block {

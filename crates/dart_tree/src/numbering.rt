@@ -40,6 +40,7 @@ fn number_function(function: &mut Function, first: u32) -> u32
 }
 
 /// Numbers a block's nodes from `first` on, and answers the number after the last.
+#[cycle(number)]
 fn number_block(block: &mut Block, first: u32) -> u32
     requires { first + nodes_in block.old < 2 ^ 32 }
     ensures tree { block.new ≡ numbered first block.old }
@@ -51,6 +52,7 @@ fn number_block(block: &mut Block, first: u32) -> u32
 
 /// Numbers the nodes of statements, one after the other, from `first` on, and answers the number
 /// after the last.
+#[cycle(number)]
 fn number_all(statements: &mut [Stmt], first: u32) -> u32
     requires { first + nodes_in_all (trees_of statements.old) < 2 ^ 32 }
     ensures trees { trees_of statements.new ≡ all_numbered first (trees_of statements.old) }
@@ -64,6 +66,7 @@ fn number_all(statements: &mut [Stmt], first: u32) -> u32
 }
 
 /// Numbers a statement's nodes from `first` on, and answers the number after the last.
+#[cycle(number)]
 fn number_stmt(statement: &mut Stmt, first: u32) -> u32
     requires { first + nodes_in statement.old < 2 ^ 32 }
     ensures tree { statement.new ≡ numbered first statement.old }
@@ -97,6 +100,33 @@ fn number_stmt(statement: &mut Stmt, first: u32) -> u32
             number_place(at, first);
             number_expr(value, first + 1)
         }
+        StmtNode::If {
+            at,
+            condition,
+            then,
+            otherwise,
+        } => {
+            number_place(at, first);
+            let next = number_expr(condition, first + 1);
+            let next = number_block(then, next);
+            match otherwise {
+                None => next,
+                Some(block) => number_block(block, next),
+            }
+        }
+        StmtNode::While {
+            at,
+            condition,
+            body,
+        } => {
+            number_place(at, first);
+            let next = number_expr(condition, first + 1);
+            number_block(body, next)
+        }
+        StmtNode::Block { at, statements } => {
+            number_place(at, first);
+            number_all(statements.as_mut_slice(), first + 1)
+        }
     }
 }
 
@@ -107,7 +137,11 @@ fn number_type(written: &mut WrittenType, first: u32) -> u32
     ensures next { result ≡ first + nodes_in written.old }
 {
     match &mut written.node {
-        WrittenTypeNode::Int { at } => {
+        WrittenTypeNode::Int { at, .. } => {
+            number_place(at, first);
+            first + 1
+        }
+        WrittenTypeNode::Bool { at } => {
             number_place(at, first);
             first + 1
         }
@@ -128,6 +162,24 @@ fn number_expr(expr: &mut Expr, first: u32) -> u32
         ExprNode::Integer { at, .. } => {
             number_place(at, first);
             first + 1
+        }
+        ExprNode::Boolean { at, .. } => {
+            number_place(at, first);
+            first + 1
+        }
+        ExprNode::Null { at } => {
+            number_place(at, first);
+            first + 1
+        }
+        ExprNode::Binary {
+            at,
+            left,
+            right,
+            ..
+        } => {
+            number_place(at, first);
+            let next = number_expr(left, first + 1);
+            number_expr(right, next)
         }
     }
 }
