@@ -32,8 +32,8 @@ stmt_falls (Declare at declared variable initial) = omega arith
 stmt_falls (Assign at target value) = omega arith
 stmt_falls (Eval at value) = omega arith
 stmt_falls (Print at value) = omega arith
-stmt_falls (If at condition then None) = omega arith
-stmt_falls (If at condition then (Some otherwise)) = omega arith
+stmt_falls (If at condition then_block None) = omega arith
+stmt_falls (If at condition then_block (Some else_block)) = omega arith
 stmt_falls (While at condition body) = omega arith
 stmt_falls (BlockStatement at statements) = omega (arith, most_le-nodes_in_all statements.items)
 

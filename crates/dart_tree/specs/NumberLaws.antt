@@ -20,8 +20,8 @@ mutual
   nodes_in-numbered n (assign at target value) = rw (nodes_in-numbered (n + 2) value) refl
   nodes_in-numbered n (eval at value) = rw (nodes_in-numbered (n + 1) value) refl
   nodes_in-numbered n (print at value) = rw (nodes_in-numbered (n + 1) value) refl
-  nodes_in-numbered n (if_statement at condition then otherwise) =
-      rw (nodes_in-numbered (n + 1) condition, nodes_in-numbered (n + 1 + nodes_in condition) then, nodes_in-part_numbered (n + 1 + nodes_in condition + nodes_in then) otherwise) refl
+  nodes_in-numbered n (if_statement at condition then_block else_block) =
+      rw (nodes_in-numbered (n + 1) condition, nodes_in-numbered (n + 1 + nodes_in condition) then_block, nodes_in-part_numbered (n + 1 + nodes_in condition + nodes_in then_block) else_block) refl
   nodes_in-numbered n (while_statement at condition body) = rw (nodes_in-numbered (n + 1) condition, nodes_in-numbered (n + 1 + nodes_in condition) body) refl
   nodes_in-numbered n (block at statements) = rw (nodes_in-all_numbered (n + 1) statements) refl
   nodes_in-numbered n (function at body) = rw (nodes_in-numbered (n + 1) body) refl
@@ -50,7 +50,7 @@ place_of-numbered n (declare at declared variable initial) = refl
 place_of-numbered n (assign at target value) = refl
 place_of-numbered n (eval at value) = refl
 place_of-numbered n (print at value) = refl
-place_of-numbered n (if_statement at condition then otherwise) = refl
+place_of-numbered n (if_statement at condition then_block else_block) = refl
 place_of-numbered n (while_statement at condition body) = refl
 place_of-numbered n (block at statements) = refl
 place_of-numbered n (function at body) = refl
@@ -72,13 +72,13 @@ mutual
   numbered-numbered n m (assign at target value) = rw (numbered-numbered (n + 2) (m + 2) value) refl
   numbered-numbered n m (eval at value) = rw (numbered-numbered (n + 1) (m + 1) value) refl
   numbered-numbered n m (print at value) = rw (numbered-numbered (n + 1) (m + 1) value) refl
-  numbered-numbered n m (if_statement at condition then otherwise) =
+  numbered-numbered n m (if_statement at condition then_block else_block) =
       rw (
         nodes_in-numbered (m + 1) condition,
-        nodes_in-numbered (m + 1 + nodes_in condition) then,
+        nodes_in-numbered (m + 1 + nodes_in condition) then_block,
         numbered-numbered (n + 1) (m + 1) condition,
-        numbered-numbered (n + 1 + nodes_in condition) (m + 1 + nodes_in condition) then,
-        part_numbered-part_numbered (n + 1 + nodes_in condition + nodes_in then) (m + 1 + nodes_in condition + nodes_in then) otherwise,
+        numbered-numbered (n + 1 + nodes_in condition) (m + 1 + nodes_in condition) then_block,
+        part_numbered-part_numbered (n + 1 + nodes_in condition + nodes_in then_block) (m + 1 + nodes_in condition + nodes_in then_block) else_block,
       ) refl
   numbered-numbered n m (while_statement at condition body) =
       rw (nodes_in-numbered (m + 1) condition, numbered-numbered (n + 1) (m + 1) condition, numbered-numbered (n + 1 + nodes_in condition) (m + 1 + nodes_in condition) body) refl
@@ -150,12 +150,12 @@ mutual
   numbers_of-numbered n (assign at target value) = rw (numbers_of-numbered (n + 2) value) (range-assign n (nodes_in value))
   numbers_of-numbered n (eval at value) = rw (numbers_of-numbered (n + 1) value) (range-first n (nodes_in value))
   numbers_of-numbered n (print at value) = rw (numbers_of-numbered (n + 1) value) (range-first n (nodes_in value))
-  numbers_of-numbered n (if_statement at condition then otherwise) =
+  numbers_of-numbered n (if_statement at condition then_block else_block) =
       rw (
         numbers_of-numbered (n + 1) condition,
-        numbers_of-numbered (n + 1 + nodes_in condition) then,
-        numbers_of-part_numbered (n + 1 + nodes_in condition + nodes_in then) otherwise,
-      ) (range-three n (nodes_in condition) (nodes_in then) (nodes_in_part otherwise))
+        numbers_of-numbered (n + 1 + nodes_in condition) then_block,
+        numbers_of-part_numbered (n + 1 + nodes_in condition + nodes_in then_block) else_block,
+      ) (range-three n (nodes_in condition) (nodes_in then_block) (nodes_in_part else_block))
   numbers_of-numbered n (while_statement at condition body) =
       rw (numbers_of-numbered (n + 1) condition, numbers_of-numbered (n + 1 + nodes_in condition) body) (range-two n (nodes_in condition) (nodes_in body))
   numbers_of-numbered n (block at statements) = rw (numbers_of-all_numbered (n + 1) statements) (range-first n (nodes_in_all statements))

@@ -18,7 +18,7 @@ abbrev mutual
   nodes_in (assign at target value) = 2 + nodes_in value
   nodes_in (eval at value) = 1 + nodes_in value
   nodes_in (print at value) = 1 + nodes_in value
-  nodes_in (if_statement at condition then otherwise) = 1 + nodes_in condition + nodes_in then + nodes_in_part otherwise
+  nodes_in (if_statement at condition then_block else_block) = 1 + nodes_in condition + nodes_in then_block + nodes_in_part else_block
   nodes_in (while_statement at condition body) = 1 + nodes_in condition + nodes_in body
   nodes_in (block at statements) = 1 + nodes_in_all statements
   nodes_in (function at body) = 1 + nodes_in body
@@ -58,9 +58,9 @@ abbrev mutual
   numbered n (assign at target value) = assign (place_numbered n at) (name_numbered (n + 1) target) (numbered (n + 2) value)
   numbered n (eval at value) = eval (place_numbered n at) (numbered (n + 1) value)
   numbered n (print at value) = print (place_numbered n at) (numbered (n + 1) value)
-  numbered n (if_statement at condition then otherwise) =
-      if_statement (place_numbered n at) (numbered (n + 1) condition) (numbered (n + 1 + nodes_in condition) then)
-      (part_numbered (n + 1 + nodes_in condition + nodes_in then) otherwise)
+  numbered n (if_statement at condition then_block else_block) =
+      if_statement (place_numbered n at) (numbered (n + 1) condition) (numbered (n + 1 + nodes_in condition) then_block)
+      (part_numbered (n + 1 + nodes_in condition + nodes_in then_block) else_block)
   numbered n (while_statement at condition body) =
       while_statement (place_numbered n at) (numbered (n + 1) condition) (numbered (n + 1 + nodes_in condition) body)
   numbered n (block at statements) = block (place_numbered n at) (all_numbered (n + 1) statements)
@@ -95,7 +95,7 @@ abbrev mutual
   numbers_of (assign at target value) = number_at at ∷ number_at target.at ∷ numbers_of value
   numbers_of (eval at value) = number_at at ∷ numbers_of value
   numbers_of (print at value) = number_at at ∷ numbers_of value
-  numbers_of (if_statement at condition then otherwise) = number_at at ∷ (numbers_of condition ++ (numbers_of then ++ numbers_of_part otherwise))
+  numbers_of (if_statement at condition then_block else_block) = number_at at ∷ (numbers_of condition ++ (numbers_of then_block ++ numbers_of_part else_block))
   numbers_of (while_statement at condition body) = number_at at ∷ (numbers_of condition ++ numbers_of body)
   numbers_of (block at statements) = number_at at ∷ numbers_of_all statements
   numbers_of (function at body) = number_at at ∷ numbers_of body

@@ -19,7 +19,7 @@ mutual
     assign : (at : Place) (target : Name) (value : Tree) → Tree
     eval : (at : Place) (value : Tree) → Tree
     print : (at : Place) (value : Tree) → Tree
-    if_statement : (at : Place) (condition : Tree) (then : Tree) (otherwise : Part) → Tree
+    if_statement : (at : Place) (condition : Tree) (then_block : Tree) (else_block : Part) → Tree
     while_statement : (at : Place) (condition : Tree) (body : Tree) → Tree
     block : (at : Place) (statements : Trees) → Tree
     function : (at : Place) (body : Tree) → Tree

@@ -31,7 +31,7 @@ abbrev mutual
   marks (assign at target value) k = None ∷ marks value (Some (Assign target, at) ∷ k)
   marks (eval at value) k = None ∷ marks value (Some (Eval, at) ∷ k)
   marks (print at value) k = None ∷ marks value (Some (Print, at) ∷ k)
-  marks (if_statement at condition then otherwise) k = None ∷ marks condition (marks then (marks_of_part otherwise (Some (If, at) ∷ k)))
+  marks (if_statement at condition then_block else_block) k = None ∷ marks condition (marks then_block (marks_of_part else_block (Some (If, at) ∷ k)))
   marks (while_statement at condition body) k = None ∷ marks condition (marks body (Some (While, at) ∷ k))
   marks (block at statements) k = None ∷ marks_of_all statements (Some (Block, at) ∷ k)
   marks (function at body) k = None ∷ marks body (Some (Function, at) ∷ k)
@@ -136,7 +136,7 @@ mutual
   read-marks (assign at target value) k hs s = read-marks value _ _ _
   read-marks (eval at value) k hs s = read-marks value _ _ _
   read-marks (print at value) k hs s = read-marks value _ _ _
-  read-marks (if_statement at condition then otherwise) k hs s = read-marks condition _ _ _ ∙ (read-marks then _ _ _ ∙ read-part otherwise _ _ _)
+  read-marks (if_statement at condition then_block else_block) k hs s = read-marks condition _ _ _ ∙ (read-marks then_block _ _ _ ∙ read-part else_block _ _ _)
   read-marks (while_statement at condition body) k hs s = read-marks condition _ _ _ ∙ read-marks body _ _ _
   read-marks (block at statements) k hs s = read-all statements _ _ _
   read-marks (function at body) k hs s = read-marks body _ _ _

@@ -26,6 +26,6 @@ stmt_of (Declare at declared variable initial) = declare at declared variable (p
 stmt_of (Assign at target value) = assign at target value
 stmt_of (Eval at value) = eval at value
 stmt_of (Print at value) = print at value
-stmt_of (If at condition then otherwise) = if_statement at condition then (part_of otherwise)
+stmt_of (If at condition then_block else_block) = if_statement at condition then_block (part_of else_block)
 stmt_of (While at condition body) = while_statement at condition body
 stmt_of (Block at statements) = block at (trees_of statements.items)

@@ -96,13 +96,13 @@ impl Stmt {
             StmtNode::If {
                 at,
                 condition,
-                then,
-                otherwise,
+                then_block,
+                else_block,
             } => StmtNode::If {
                 at: *at,
                 condition: condition.copy(alloc)?,
-                then: then.copy(alloc)?,
-                otherwise: match otherwise {
+                then_block: then_block.copy(alloc)?,
+                else_block: match else_block {
                     None => None,
                     Some(block) => Some(block.copy(alloc)?),
                 },

@@ -238,8 +238,8 @@ pub enum StmtNode {
     If {
         at: Place,
         condition: Expr,
-        then: Block,
-        otherwise: Option<Block>,
+        then_block: Block,
+        else_block: Option<Block>,
     },
     /// `while (c) { .. }`.
     While {

@@ -103,13 +103,13 @@ fn number_stmt(statement: &mut Stmt, first: u32) -> u32
         StmtNode::If {
             at,
             condition,
-            then,
-            otherwise,
+            then_block,
+            else_block,
         } => {
             number_place(at, first);
             let next = number_expr(condition, first + 1);
-            let next = number_block(then, next);
-            match otherwise {
+            let next = number_block(then_block, next);
+            match else_block {
                 None => next,
                 Some(block) => number_block(block, next),
             }

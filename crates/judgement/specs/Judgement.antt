@@ -1,56 +1,75 @@
 -- The judgement of trees.
-use Rattle.std.specs.Prelude.{List, []}
-use Rattle.dart_tree.specs.Tree.{Tree, Trees, Part, no_more, more, absent, present, name, integer, int_type, declare, assign, eval, print, block, function, unit}
+use Rattle.std.specs.Prelude.{Bool, true, false, List, [], Option, None, if◌then◌else◌}
+use Rattle.std.specs.FinMap.{empty, get}
+use Rattle.dart_tree.specs.Tree.{Tree, Trees, Part, no_more, more, absent, present, name, integer, boolean, null_literal, binary, int_type, bool_type, declare, assign, eval, print, if_statement, while_statement, block, function, unit}
 use Rattle.dart_tree.specs.Places.{place_of}
 use Rattle.dart_tree.specs.declared.nodes.Name.{Name}
-use Rattle.flow_model.specs.Ty.{Ty, invalid, int}
+use Rattle.flow_model.specs.Ty.{Ty, invalid, null, int, bool, nullable_of}
 use Rattle.flow_model.specs.Flow.{FlowModel, start_of, end_of}
+use Rattle.flow_model.specs.declared.locals.LocalId.{LocalId}
 use Rattle.flow_model.specs.declared.subtyping.Rows.{Rows}
 use Rattle.judgement.specs.declared.Fault.{Fault}
-use Rattle.judgement.specs.Names.{Names, names_of, locals_of}
-use Rattle.judgement.specs.Rows.{Value, Outcome, of_type, just, value_then, and_then, integer_row, name_row, assign_row, declare_row, initialize_row}
+use Rattle.judgement.specs.Names.{Names, names_within, locals_of}
+use Rattle.judgement.specs.Written.{written_in}
+use Rattle.judgement.specs.Rows.{Value, Outcome, of_type, just, value_then, and_then, integer_row, boolean_row, name_row, operator_row, assign_row, declare_row, initialize_row, if_row, while_row, loop_head}
 
 -- the type that a written type is; trees of other forms, which never stand there, are none
 abbrev pub type_of : Tree → Ty
-type_of (int_type at) = int
+type_of (int_type at nullable) = if nullable then nullable_of int else int
+type_of (bool_type at) = bool
 type_of _ = invalid
 
--- what an expression gives; trees of other forms, which never stand there, have no type
-abbrev pub evaluate : Names → Tree → FlowModel → Value
-evaluate names (name at word) m = name_row names at word m
-evaluate names (integer at literal) m = integer_row at literal m
-evaluate names _ m = of_type invalid m
+-- the local that a comparison of these two sides compares with the literal `null`
+abbrev pub compared_local : Names → Tree → Tree → Option LocalId
+compared_local names (name at word) (null_literal at_null) = get names word
+compared_local names (null_literal at_null) (name at word) = get names word
+compared_local names _ _ = None
+
+-- what an expression gives: of an operator the left side is judged before the right; trees of other forms, which never stand there, have no type
+abbrev pub evaluate : Rows → Names → Tree → FlowModel → Value
+evaluate rows names (name at word) m = name_row names at word m
+evaluate rows names (integer at literal) m = integer_row at literal m
+evaluate rows names (boolean at value) m = boolean_row value m
+evaluate rows names (null_literal at) m = of_type null m
+evaluate rows names (binary at operator left right) m =
+    operator_row rows operator.kind operator.span (place_of right) (compared_local names left right) (evaluate rows names left m)
+    (evaluate rows names right (evaluate rows names left m).after)
+evaluate rows names _ m = of_type invalid m
 
 -- what a declaration gives: the initializer is judged before the local comes into scope
 abbrev pub declare_local : Rows → Names → Name → Ty → Part → FlowModel → Outcome
 declare_local rows names variable ty absent m = declare_row names variable ty m
 declare_local rows names variable ty (present value) m =
-    value_then (evaluate names value m) (initialize_row rows names variable ty (place_of value) (evaluate names value m).ty)
+    value_then (evaluate rows names value m) (initialize_row rows names variable ty (place_of value) (evaluate rows names value m).ty)
 
--- what a statement gives; trees of other forms, which never stand there, change nothing
-abbrev pub run : Rows → Names → Tree → FlowModel → Outcome
-run rows names (declare at declared variable initial) m = declare_local rows names variable (type_of declared) initial m
-run rows names (assign at target value) m = value_then (evaluate names value m) (assign_row rows names target (place_of value) (evaluate names value m).ty)
-run rows names (eval at value) m = value_then (evaluate names value m) just
-run rows names (print at value) m = value_then (evaluate names value m) just
-run rows names _ m = just m
+abbrev mutual
+  -- what a statement gives; trees of other forms, which never stand there, change nothing
+  pub run : Rows → Names → Tree → FlowModel → Outcome
+  run rows names (declare at declared variable initial) m = declare_local rows names variable (type_of declared) initial m
+  run rows names (assign at target value) m = value_then (evaluate rows names value m) (assign_row rows names target (place_of value) (evaluate rows names value m).ty)
+  run rows names (eval at value) m = value_then (evaluate rows names value m) just
+  run rows names (print at value) m = value_then (evaluate rows names value m) just
+  run rows names (if_statement at condition then_block else_block) m =
+      if_row rows (place_of condition) (evaluate rows names condition m) (run rows names then_block) (run_part rows names else_block)
+  run rows names (while_statement at condition body) m =
+      while_row rows (place_of condition) (evaluate rows names condition (loop_head m (written_in names body))) (run rows names body)
+  run rows names (block at statements) m =
+      and_then (run_all rows (names_within names statements) statements m) (λ after. just (end_of after (locals_of statements)))
+  run rows names _ m = just m
 
--- statements, one after another
-abbrev pub run_all : Rows → Names → Trees → FlowModel → Outcome
-run_all rows names no_more m = just m
-run_all rows names (more first rest) m = and_then (run rows names first m) (run_all rows names rest)
+  -- statements, one after another
+  pub run_all : Rows → Names → Trees → FlowModel → Outcome
+  run_all rows names no_more m = just m
+  run_all rows names (more first rest) m = and_then (run rows names first m) (run_all rows names rest)
 
--- A block: its names mean what it declares, and its locals end with it.
-abbrev pub run_block : Rows → Trees → FlowModel → Outcome
-run_block rows statements m = and_then (run_all rows (names_of statements) statements m) (λ after. just (end_of after (locals_of statements)))
+  -- a part: nothing where it is left out
+  pub run_part : Rows → Names → Part → FlowModel → Outcome
+  run_part rows names absent m = just m
+  run_part rows names (present tree) m = run rows names tree m
 
--- the rows of no classes: the language has none yet
-abbrev pub no_rows : Rows
-no_rows = record {}
-
--- the diagnostics of a unit: those of its function's body, from nothing known; trees of other forms have none
+-- the diagnostics of a unit: those of its function's body, where no name means anything yet and nothing is known; trees of other forms have none
 abbrev pub faults_of : Rows → Tree → List Fault
 faults_of rows (unit at main) = faults_of rows main
 faults_of rows (function at body) = faults_of rows body
-faults_of rows (block at statements) = (run_block rows statements (start_of [])).faults
+faults_of rows (block at statements) = (run rows empty (block at statements) (start_of [])).faults
 faults_of rows _ = []

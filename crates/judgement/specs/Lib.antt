@@ -1,3 +1,4 @@
 pub mod Names
+pub mod Written
 pub mod Rows
 pub mod Judgement

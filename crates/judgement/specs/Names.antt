@@ -1,12 +1,12 @@
--- What the names of a block mean.
-use Rattle.std.specs.Prelude.{ℕ, List, [], ◌∷◌, ◌++◌, map}
+-- What names mean.
+use Rattle.std.specs.Prelude.{ℕ, List, [], ◌∷◌, ◌++◌}
 use Rattle.std.specs.Ordering.{nat_cmp}
-use Rattle.std.specs.FinMap.{FinMap, from_entries}
+use Rattle.std.specs.FinMap.{FinMap, insert}
 use Rattle.dart_tree.specs.Tree.{Tree, Trees, no_more, more, declare}
 use Rattle.dart_tree.specs.declared.nodes.Name.{Name}
 use Rattle.flow_model.specs.declared.locals.LocalId.{LocalId}
 
--- from the words that a block declares to their locals
+-- from words to the locals that they mean
 abbrev pub Names : Type 0
 Names = FinMap nat_cmp LocalId
 
@@ -14,20 +14,22 @@ Names = FinMap nat_cmp LocalId
 abbrev pub local_of : Name → LocalId
 local_of x = record { 0 = x.at.node.0 }
 
--- the word and the local that a statement itself declares
-abbrev pub declared_by : Tree → List (ℕ × LocalId)
-declared_by (declare at declared variable initial) = (variable.word, local_of variable) ∷ []
+-- a declared name means its local, whatever it meant before; no other form declares a name
+abbrev pub meaning_declared : Tree → Names → Names
+meaning_declared (declare at declared variable initial) names = insert names variable.word (local_of variable)
+meaning_declared _ names = names
+
+-- What names mean in a block, from its beginning on: what the block declares under them, and else what they mean around it. Of a word that is declared twice, the first declaration.
+abbrev pub names_within : Names → Trees → Names
+names_within around no_more = around
+names_within around (more first rest) = meaning_declared first (names_within around rest)
+
+-- the local that a statement itself declares
+abbrev pub declared_by : Tree → List LocalId
+declared_by (declare at declared variable initial) = local_of variable ∷ []
 declared_by _ = []
 
--- the words and the locals that statements declare, in their order
-abbrev pub declared_in : Trees → List (ℕ × LocalId)
-declared_in no_more = []
-declared_in (more first rest) = declared_by first ++ declared_in rest
-
--- What the names of these statements mean: of a word that is declared twice, the first declaration.
-abbrev pub names_of : Trees → Names
-names_of statements = from_entries (declared_in statements)
-
--- the locals that these statements declare
+-- the locals that these statements themselves declare, in their order
 abbrev pub locals_of : Trees → List LocalId
-locals_of statements = map (λ e. e.1) (declared_in statements)
+locals_of no_more = []
+locals_of (more first rest) = declared_by first ++ locals_of rest

@@ -3,27 +3,35 @@ use Rattle.std.specs.Prelude.{ℕ, ◌^◌, Bool, true, false, not, ◌&&◌, �
 use Rattle.std.specs.Option.{option_map_or}
 use Rattle.std.specs.FinMap.{get}
 use Rattle.dart_tree.specs.declared.places.Place.{Place}
+use Rattle.dart_tree.specs.declared.places.Span.{Span}
 use Rattle.dart_tree.specs.declared.nodes.Name.{Name}
 use Rattle.dart_tree.specs.declared.nodes.IntegerLiteral.{IntegerLiteral}
+use Rattle.dart_tree.specs.declared.nodes.Operator.{Operator}
+use Rattle.dart_tree.specs.declared.nodes.OperatorKind.{OperatorKind}
+use Rattle.dart_tree.specs.declared.nodes.OperatorKind.TheVariants.{Plus, Less, NotEqual}
 use Rattle.dart_tree.specs.declared.nodes.Radix.{Radix}
 use Rattle.dart_tree.specs.declared.nodes.Radix.TheVariants.{Decimal, Hexadecimal}
-use Rattle.flow_model.specs.Ty.{Ty, invalid, int, bare_of, same_type, admits_null}
+use Rattle.flow_model.specs.Ty.{Ty, invalid, never, null, int, bool, bare_of, same_type, non_null_of, admits_null}
 use Rattle.flow_model.specs.Sub.{sub}
 use Rattle.flow_model.specs.Flow.{FlowModel, facts_of, at_local, current_of, declare_of}
 use Rattle.flow_model.specs.Assign.{assign_facts}
+use Rattle.flow_model.specs.Join.{join_of}
+use Rattle.flow_model.specs.Steps.{exit_of, non_null_facts, conservative_of}
 use Rattle.flow_model.specs.declared.locals.LocalId.{LocalId}
 use Rattle.flow_model.specs.declared.locals.Facts.{Facts}
 use Rattle.flow_model.specs.declared.locals.LocalDecl.{LocalDecl}
 use Rattle.flow_model.specs.declared.subtyping.Rows.{Rows}
 use Rattle.judgement.specs.declared.Fault.{Fault}
 use Rattle.judgement.specs.declared.DiagnosticCode.{DiagnosticCode}
-use Rattle.judgement.specs.declared.DiagnosticCode.TheVariants.{DuplicateDefinition, IntegerLiteralOutOfRange, InvalidAssignment, ReferencedBeforeDeclaration, UnassignedRead, UndefinedName}
+use Rattle.judgement.specs.declared.DiagnosticCode.TheVariants.{ArgumentType, ConditionNotBool, DuplicateDefinition, IntegerLiteralOutOfRange, InvalidAssignment, ReferencedBeforeDeclaration, UnassignedRead, UncheckedNullableUse, UndefinedName, UndefinedOperator}
 use Rattle.judgement.specs.Names.{Names}
 
--- what an expression gives: its static type, what is known after it, and its diagnostics
+-- what an expression gives: its static type, what is known after it, where it is true and where it is false, and its diagnostics
 pub record Value : Type 0 where
   pub ty : Ty
   pub after : FlowModel
+  pub when_true : FlowModel
+  pub when_false : FlowModel
   pub faults : List Fault
 
 -- what a statement gives: what is known after it, and its diagnostics
@@ -31,17 +39,21 @@ pub record Outcome : Type 0 where
   pub after : FlowModel
   pub faults : List Fault
 
+-- one diagnostic, over a range of the text
+abbrev pub fault_over : Span → DiagnosticCode → List Fault
+fault_over span code = record { span = span; code = code } ∷ []
+
 -- one diagnostic, over the range of a part
 abbrev pub fault_at : Place → DiagnosticCode → List Fault
-fault_at at code = record { span = at.span; code = code } ∷ []
+fault_at at code = fault_over at.span code
 
 -- a type, and nothing more known than before
 abbrev pub of_type : Ty → FlowModel → Value
-of_type ty m = record { ty = ty; after = m; faults = [] }
+of_type ty m = record { ty = ty; after = m; when_true = m; when_false = m; faults = [] }
 
 -- what has a diagnostic has the type Invalid
 abbrev pub faulty : Place → DiagnosticCode → FlowModel → Value
-faulty at code m = record { ty = invalid; after = m; faults = fault_at at code }
+faulty at code m = record { ty = invalid; after = m; when_true = m; when_false = m; faults = fault_at at code }
 
 -- no diagnostic: this is known after it
 abbrev pub just : FlowModel → Outcome
@@ -71,6 +83,11 @@ is_in_range literal = option_map_or (is_below literal.radix) literal.magnitude f
 -- An integer literal is an int, if its value is in range.
 abbrev pub integer_row : Place → IntegerLiteral → FlowModel → Value
 integer_row at literal m = if is_in_range literal then of_type int m else faulty at IntegerLiteralOutOfRange m
+
+-- `true` and `false` are of type bool, and are never the other: where they would be, nothing is reached.
+abbrev pub boolean_row : Bool → FlowModel → Value
+boolean_row true m = record (of_type bool m) { when_false = exit_of m }
+boolean_row false m = record (of_type bool m) { when_true = exit_of m }
 
 -- a read of a local of which this is known: it is assigned, and has its current type
 abbrev pub read_row : Place → Option Facts → FlowModel → Value
@@ -127,3 +144,76 @@ initialize_row rows names variable ty at value m =
     (λ var. if is_some (facts_of m var) then complains variable.at DuplicateDefinition m
     else record { after = at_local (declare_of m (declared_local ty var true)) var (assign_facts rows value); faults = fit_faults rows at value ty })
     (get names variable.word) (just m)
+
+-- The type, null aside, has the operators `+` and `<`: int alone has them.
+abbrev pub has_operators : Ty → Bool
+has_operators ty = same_type (non_null_of ty) int
+
+-- Where `+` or `<` stands behind a value of this type: the type must have the operator. One that has it null aside, and Null itself, may not be used unchecked; of Invalid no more is said, and Never has no value that could be used.
+abbrev pub receiver_faults : Span → Ty → List Fault
+receiver_faults span ty =
+    if admits_null ty && (has_operators ty || same_type ty null) then fault_over span UncheckedNullableUse
+    else (if has_operators ty || (is_invalid ty || same_type ty never) then [] else fault_over span UndefinedOperator)
+
+-- the right side of an operator that the left side has must be an int
+abbrev pub argument_faults : Rows → Place → Ty → Ty → List Fault
+argument_faults rows at ty argument =
+    if not (has_operators ty) || fits rows argument int then [] else fault_at at ArgumentType
+
+-- the type of an operator's result: its own where the left side has it and the right side is an int; what has no value gives none
+abbrev pub result_type : Rows → (result : Ty) → Ty → Ty → Ty
+result_type rows result ty argument =
+    if has_operators ty && sub rows argument int then result else (if same_type ty never then never else invalid)
+
+-- An operator of int: the left side must have it, and the right side, which stands at the place, is judged and checked behind it.
+abbrev pub int_operator_row : Rows → Span → Place → (result : Ty) → Value → Value → Value
+int_operator_row rows span at result left right = record {
+  ty = result_type rows result left.ty right.ty;
+  after = right.after;
+  when_true = right.after;
+  when_false = right.after;
+  faults = left.faults ++ (right.faults ++ (receiver_faults span left.ty ++ argument_faults rows at left.ty right.ty));
+}
+
+-- what is known where a local isn't null: no more than before where there is none
+abbrev pub where_not_null : Option LocalId → FlowModel → FlowModel
+where_not_null None m = m
+where_not_null (Some var) m = at_local m var non_null_facts
+
+-- `!=` takes any operands and is of type bool. Where it compares a local with the literal `null` and is true, the local isn't null.
+abbrev pub not_equal_row : Option LocalId → Value → Value → Value
+not_equal_row compared left right = record {
+  ty = bool;
+  after = right.after;
+  when_true = where_not_null compared right.after;
+  when_false = right.after;
+  faults = left.faults ++ right.faults;
+}
+
+-- an operator, from what its sides give, of which the right one stands at the place, and from the local that it compares with `null`
+abbrev pub operator_row : Rows → OperatorKind → Span → Place → Option LocalId → Value → Value → Value
+operator_row rows Plus span at compared left right = int_operator_row rows span at int left right
+operator_row rows Less span at compared left right = int_operator_row rows span at bool left right
+operator_row rows NotEqual span at compared left right = not_equal_row compared left right
+
+-- a condition, which stands at the place, must be a bool
+abbrev pub condition_faults : Rows → Place → Ty → List Fault
+condition_faults rows at ty = if fits rows ty bool then [] else fault_at at ConditionNotBool
+
+-- A branch: one block from where the condition is true, the other, or nothing, from where it is false. After it is known what is known after both.
+abbrev pub if_row : Rows → Place → Value → (then_block else_block : FlowModel → Outcome) → Outcome
+if_row rows at condition then_block else_block = record {
+  after = join_of (then_block condition.when_true).after (else_block condition.when_false).after;
+  faults = condition.faults ++ (condition_faults rows at condition.ty ++ ((then_block condition.when_true).faults ++ (else_block condition.when_false).faults));
+}
+
+-- what is known at the head of a loop that writes these locals: each time it is come to, whatever the loop may have written before
+abbrev pub loop_head : FlowModel → List LocalId → FlowModel
+loop_head m written = conservative_of m written []
+
+-- A loop, from what its condition gives at its head: the body goes from where it is true, and the loop ends where it is false.
+abbrev pub while_row : Rows → Place → Value → (body : FlowModel → Outcome) → Outcome
+while_row rows at condition body = record {
+  after = condition.when_false;
+  faults = condition.faults ++ (condition_faults rows at condition.ty ++ (body condition.when_true).faults);
+}

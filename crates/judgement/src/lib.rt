@@ -13,6 +13,10 @@ use dart_tree::Span;
 /// What a diagnostic says, in the order of the codes' names.
 #[derive(Clone, Copy, Debug, PartialEq, Eq, PartialOrd, Ord)]
 pub enum DiagnosticCode {
+    /// The right side of an operator hasn't the type that the left side's operator takes.
+    ArgumentType,
+    /// The condition of an `if` or a `while` is no bool.
+    ConditionNotBool,
     /// A name is declared again in one block.
     DuplicateDefinition,
     /// A decimal literal past 2^63 - 1, or a hexadecimal one past 2^64 - 1.
@@ -25,8 +29,12 @@ pub enum DiagnosticCode {
     SyntaxError,
     /// A variable is read that may have no value yet.
     UnassignedRead,
+    /// An operator of int is used on a value that may be null.
+    UncheckedNullableUse,
     /// A name means nothing.
     UndefinedName,
+    /// A value's type hasn't the operator.
+    UndefinedOperator,
 }
 
 /// Something wrong in a text, and where: in UTF-16 code units, from 0.

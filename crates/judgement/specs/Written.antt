@@ -1,0 +1,31 @@
+-- The locals that a tree writes.
+use Rattle.std.specs.Prelude.{List, [], ◌∷◌, ◌++◌}
+use Rattle.std.specs.Option.{option_map_or}
+use Rattle.std.specs.FinMap.{get}
+use Rattle.dart_tree.specs.Tree.{Tree, Trees, Part, no_more, more, absent, present, assign, if_statement, while_statement, block}
+use Rattle.dart_tree.specs.declared.nodes.Name.{Name}
+use Rattle.flow_model.specs.declared.locals.LocalId.{LocalId}
+use Rattle.judgement.specs.Names.{Names, names_within}
+
+-- the local that an assignment to this name writes, if the name means one
+abbrev pub written_by : Names → Name → List LocalId
+written_by names target = option_map_or (λ var. var ∷ []) (get names target.word) []
+
+abbrev mutual
+  -- The locals that the assignments in a tree name, each by what its name means there. An initializer is no write, and expressions write nothing.
+  pub written_in : Names → Tree → List LocalId
+  written_in names (assign at target value) = written_by names target
+  written_in names (if_statement at condition then_block else_block) = written_in names then_block ++ written_in_part names else_block
+  written_in names (while_statement at condition body) = written_in names body
+  written_in names (block at statements) = written_in_all (names_within names statements) statements
+  written_in names _ = []
+
+  -- those that statements write, one after another
+  pub written_in_all : Names → Trees → List LocalId
+  written_in_all names no_more = []
+  written_in_all names (more first rest) = written_in names first ++ written_in_all names rest
+
+  -- those that a part writes: none where it is left out
+  pub written_in_part : Names → Part → List LocalId
+  written_in_part names absent = []
+  written_in_part names (present tree) = written_in names tree
