@@ -1,5 +1,5 @@
 -- The judgement of trees.
-use Rattle.std.specs.Prelude.{Bool, true, false, List, [], Option, None, if◌then◌else◌}
+use Rattle.std.specs.Prelude.{List, [], Option, None, if◌then◌else◌}
 use Rattle.std.specs.FinMap.{empty, get}
 use Rattle.dart_tree.specs.Tree.{Tree, Trees, Part, no_more, more, absent, present, name, integer, boolean, null_literal, binary, int_type, bool_type, declare, assign, eval, print, if_statement, while_statement, block, function, unit}
 use Rattle.dart_tree.specs.Places.{place_of}

@@ -1,5 +1,5 @@
 -- What names mean.
-use Rattle.std.specs.Prelude.{ℕ, List, [], ◌∷◌, ◌++◌}
+use Rattle.std.specs.Prelude.{List, [], ◌∷◌, ◌++◌}
 use Rattle.std.specs.Ordering.{nat_cmp}
 use Rattle.std.specs.FinMap.{FinMap, insert}
 use Rattle.dart_tree.specs.Tree.{Tree, Trees, no_more, more, declare}

@@ -6,7 +6,6 @@ use Rattle.dart_tree.specs.declared.places.Place.{Place}
 use Rattle.dart_tree.specs.declared.places.Span.{Span}
 use Rattle.dart_tree.specs.declared.nodes.Name.{Name}
 use Rattle.dart_tree.specs.declared.nodes.IntegerLiteral.{IntegerLiteral}
-use Rattle.dart_tree.specs.declared.nodes.Operator.{Operator}
 use Rattle.dart_tree.specs.declared.nodes.OperatorKind.{OperatorKind}
 use Rattle.dart_tree.specs.declared.nodes.OperatorKind.TheVariants.{Plus, Less, NotEqual}
 use Rattle.dart_tree.specs.declared.nodes.Radix.{Radix}
