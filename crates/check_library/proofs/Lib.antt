@@ -5,6 +5,9 @@ pub mod ScanLemmas
 pub mod LawLemmas
 pub mod LiteralLemmas
 pub mod ParseLemmas
+pub mod Lowering
+pub mod KindTests
 pub mod Agreement
+pub mod Dispatch
 pub mod Reports
 pub mod SortedKeys

@@ -1,36 +1,25 @@
--- The grammar: a unit is one declaration `void main()` with its block, of statements without blocks in them.
-use Rattle.std.specs.Prelude.{ℕ, ◌-◌, ◌==◌, Bool, List, length, Option, option_map, slice_get}
+-- The grammar: a unit is one declaration `void main()` with its block. No node lies deeper than 200.
+use Rattle.std.specs.Prelude.{ℕ, zero, suc, ◌+◌, ◌-◌, Bool, true, false, List, [], length, Option, Some, None, is_some, option_map, slice_get}
 use Rattle.std.specs.Option.{option_map_or}
+use denote.Enum.Bare.{sameb}
 use Rattle.dart_tree.specs.declared.places.Place.{Place}
 use Rattle.dart_tree.specs.declared.nodes.Name.{Name}
-use Rattle.dart_tree.specs.Tree.{Tree, Part, name, integer, int_type, declare, assign, eval, print, block, function, unit, trees_of, part_of}
+use Rattle.dart_tree.specs.declared.nodes.Operator.{Operator}
+use Rattle.dart_tree.specs.declared.nodes.OperatorKind.{OperatorKind}
+use Rattle.dart_tree.specs.declared.nodes.OperatorKind.TheVariants as operator
+use Rattle.dart_tree.specs.Tree.{Tree, Part, name, integer, boolean, null_literal, binary, int_type, bool_type, declare, assign, eval, print, if_statement, while_statement, block, function, unit, trees_of, part_of}
 use Rattle.dart_tree.specs.Numbers.{numbered}
 use Rattle.readings.specs.Readings.{Rule, token, ◌▹◌, ◌∣◌, make, turn, maybe, many, whole}
 use Rattle.check_library.specs.declared.token.Token.{Token}
 use Rattle.check_library.specs.declared.token.Kind.{Kind}
-use Rattle.check_library.specs.declared.token.Kind.TheVariants.{Identifier, Integer, Void, Main, Int, Print, OpenParenthesis, CloseParenthesis, OpenBrace, CloseBrace, Equals, Semicolon, Other}
+use Rattle.check_library.specs.declared.token.Kind.TheVariants.{Identifier, Integer, Void, Main, Int, Bool as BoolWord, Print, If, Else, While, True, False, Null, OpenParenthesis, CloseParenthesis, OpenBrace, CloseBrace, Equals, Semicolon, Question, Plus, Less, NotEqual}
+use Rattle.check_library.specs.contracts.token.Kind as kind
 use Rattle.check_library.specs.Literals.{literal_of}
 use Rattle.check_library.specs.Tokens.{word_at, tokens_of, words_of}
 
--- kinds in a row, to tell them apart
-abbrev pub rank_of : Kind → ℕ
-rank_of Identifier = 0
-rank_of Integer = 1
-rank_of Void = 2
-rank_of Main = 3
-rank_of Int = 4
-rank_of Print = 5
-rank_of OpenParenthesis = 6
-rank_of CloseParenthesis = 7
-rank_of OpenBrace = 8
-rank_of CloseBrace = 9
-rank_of Equals = 10
-rank_of Semicolon = 11
-rank_of Other = 12
-
 -- the token is of the kind
 abbrev pub is : Kind → Token → Bool
-is kind t = rank_of t.kind == rank_of kind
+is k t = sameb kind.the_type t.kind k
 
 -- where a part stands; its nodes are numbered once the whole is read
 abbrev pub at_span : ℕ → ℕ → Place
@@ -52,9 +41,23 @@ last_end read = option_map_or (λ t. t.end) (slice_get read (length read - 1)) 0
 abbrev pub place_over : List Token → Place
 place_over read = at_span (first_start read) (last_end read)
 
+-- what the rules read where fewer nodes may lie on a way down
+pub record Below : Type 0 where
+  pub operand : Rule Token Tree
+  pub expression : Rule Token Tree
+  pub written_type : Rule Token Tree
+  pub statement : Rule Token Tree
+  pub block : Rule Token Tree
+  pub function : Rule Token Tree
+  pub unit : Rule Token Tree
+
 -- the name that a token declares or assigns
 abbrev pub variable_of : Token → Name
 variable_of t = record { at = place_of_token t; word = t.word }
+
+-- an identifier that is declared or assigned
+unfoldable pub variable_rule : Rule Token Name
+variable_rule = turn variable_of (token (is Identifier))
 
 -- a name that is read
 abbrev pub name_of : Token → Tree
@@ -64,86 +67,155 @@ name_of t = name (place_of_token t) t.word
 abbrev pub integer_of : List (List ℕ) → Token → Tree
 integer_of words t = integer (place_of_token t) (literal_of (word_at words t.word))
 
--- the type that a token is
-abbrev pub int_type_of : Token → Tree
-int_type_of t = int_type (place_of_token t)
+-- a truth value
+abbrev pub boolean_of : Bool → Token → Tree
+boolean_of value t = boolean (place_of_token t) value
 
--- an identifier that is declared or assigned
-unfoldable pub variable_rule : Rule Token Name
-variable_rule = turn variable_of (token (is Identifier))
+-- a `null`
+abbrev pub null_of : Token → Tree
+null_of t = null_literal (place_of_token t)
 
--- expression: identifier | integer
-unfoldable pub expression_rule : List (List ℕ) → Rule Token Tree
-expression_rule words = turn name_of (token (is Identifier)) ∣ turn (integer_of words) (token (is Integer))
+-- operand: identifier | integer | 'true' | 'false' | 'null'
+unfoldable pub operand_rule : List (List ℕ) → Rule Token Tree
+operand_rule words =
+    turn name_of (token (is Identifier)) ∣ turn (integer_of words) (token (is Integer))
+    ∣ turn (boolean_of true) (token (is True)) ∣ turn (boolean_of false) (token (is False)) ∣ turn null_of (token (is Null))
 
--- type: 'int'
+-- an operator where its token stands
+abbrev pub operator_of : OperatorKind → Token → Operator
+operator_of which t = record { kind = which; span = (place_of_token t).span }
+
+-- operator: '+' | '<' | '!='
+unfoldable pub operator_rule : Rule Token Operator
+operator_rule = turn (operator_of operator.Plus) (token (is Plus)) ∣ turn (operator_of operator.Less) (token (is Less)) ∣ turn (operator_of operator.NotEqual) (token (is NotEqual))
+
+-- the tree of an expression, from its parts: one operand is the expression itself
+abbrev pub expression_of : List Token → Tree × Option (Operator × Tree) → Tree
+expression_of read (left, None) = left
+expression_of read (left, (Some (which, right))) = binary (place_over read) which left right
+
+-- expression: operand (operator operand)?. Operands are one node each, so where the right one may lie one deeper than the operator, the left one may too.
+unfoldable pub expression_rule : List (List ℕ) → Below → Rule Token Tree
+expression_rule words d = make expression_of (operand_rule words ▹ maybe (operator_rule ▹ d.operand))
+
+-- the type that `int` is, nullable with a `?` behind it
+abbrev pub int_type_of : List Token → Token × Option Token → Tree
+int_type_of read (word, question) = int_type (place_over read) (is_some question)
+
+-- the type that `bool` is
+abbrev pub bool_type_of : Token → Tree
+bool_type_of t = bool_type (place_of_token t)
+
+-- type: 'int' '?'? | 'bool'
 unfoldable pub type_rule : Rule Token Tree
-type_rule = turn int_type_of (token (is Int))
+type_rule = make int_type_of (token (is Int) ▹ maybe (token (is Question))) ∣ turn bool_type_of (token (is BoolWord))
 
--- the expression behind a `=`, if there is one
-abbrev pub initial_of : Option (Token × Tree) → Part
-initial_of initial = part_of (option_map (λ i. i.1) initial)
+-- what stands behind a token, if both are there
+abbrev pub part_behind : Option (Token × Tree) → Part
+part_behind found = part_of (option_map (λ f. f.1) found)
 
 -- the tree of a declaration, from its parts
 abbrev pub declare_of : List Token → Tree × (Name × (Option (Token × Tree) × Token)) → Tree
-declare_of read (declared, (variable, (initial, semicolon))) = declare (place_over read) declared variable (initial_of initial)
+declare_of read (declared, (variable, (initial, semicolon))) = declare (place_over read) declared variable (part_behind initial)
 
 -- declaration of a local: type identifier ('=' expression)? ';'
-unfoldable pub declare_rule : List (List ℕ) → Rule Token Tree
-declare_rule words = make declare_of (type_rule ▹ variable_rule ▹ maybe (token (is Equals) ▹ expression_rule words) ▹ token (is Semicolon))
+unfoldable pub declare_rule : Below → Rule Token Tree
+declare_rule d = make declare_of (d.written_type ▹ variable_rule ▹ maybe (token (is Equals) ▹ d.expression) ▹ token (is Semicolon))
 
 -- the tree of an assignment, from its parts
 abbrev pub assign_of : List Token → Name × (Token × (Tree × Token)) → Tree
 assign_of read (target, (equals, (value, semicolon))) = assign (place_over read) target value
 
 -- assignment: identifier '=' expression ';'
-unfoldable pub assign_rule : List (List ℕ) → Rule Token Tree
-assign_rule words = make assign_of (variable_rule ▹ token (is Equals) ▹ expression_rule words ▹ token (is Semicolon))
+unfoldable pub assign_rule : Below → Rule Token Tree
+assign_rule d = make assign_of (variable_rule ▹ token (is Equals) ▹ d.expression ▹ token (is Semicolon))
 
 -- the tree of an expression statement, from its parts
 abbrev pub eval_of : List Token → Tree × Token → Tree
 eval_of read (value, semicolon) = eval (place_over read) value
 
 -- expression statement: expression ';'
-unfoldable pub eval_rule : List (List ℕ) → Rule Token Tree
-eval_rule words = make eval_of (expression_rule words ▹ token (is Semicolon))
+unfoldable pub eval_rule : Below → Rule Token Tree
+eval_rule d = make eval_of (d.expression ▹ token (is Semicolon))
+
+-- the tree of an if statement, from its parts
+abbrev pub if_of : List Token → Token × (Token × (Tree × (Token × (Tree × Option (Token × Tree))))) → Tree
+if_of read (word, (opening, (condition, (closing, (then, otherwise))))) = if_statement (place_over read) condition then (part_behind otherwise)
+
+-- if statement: 'if' '(' expression ')' block ('else' block)?
+unfoldable pub if_rule : Below → Rule Token Tree
+if_rule d =
+    make if_of (token (is If) ▹ token (is OpenParenthesis) ▹ d.expression ▹ token (is CloseParenthesis) ▹ d.block ▹ maybe (token (is Else) ▹ d.block))
+
+-- the tree of a while statement, from its parts
+abbrev pub while_of : List Token → Token × (Token × (Tree × (Token × Tree))) → Tree
+while_of read (word, (opening, (condition, (closing, body)))) = while_statement (place_over read) condition body
+
+-- while statement: 'while' '(' expression ')' block
+unfoldable pub while_rule : Below → Rule Token Tree
+while_rule d = make while_of (token (is While) ▹ token (is OpenParenthesis) ▹ d.expression ▹ token (is CloseParenthesis) ▹ d.block)
 
 -- the tree of a print statement, from its parts
 abbrev pub print_of : List Token → Token × (Token × (Tree × (Token × Token))) → Tree
 print_of read (word, (opening, (value, (closing, semicolon)))) = print (place_over read) value
 
 -- print statement: 'print' '(' expression ')' ';'
-unfoldable pub print_rule : List (List ℕ) → Rule Token Tree
-print_rule words = make print_of (token (is Print) ▹ token (is OpenParenthesis) ▹ expression_rule words ▹ token (is CloseParenthesis) ▹ token (is Semicolon))
-
--- statement: declaration of a local | assignment | expression statement | print statement
-unfoldable pub statement_rule : List (List ℕ) → Rule Token Tree
-statement_rule words = declare_rule words ∣ assign_rule words ∣ eval_rule words ∣ print_rule words
+unfoldable pub print_rule : Below → Rule Token Tree
+print_rule d = make print_of (token (is Print) ▹ token (is OpenParenthesis) ▹ d.expression ▹ token (is CloseParenthesis) ▹ token (is Semicolon))
 
 -- the tree of a block, from its parts
 abbrev pub block_of : List Token → Token × (List Tree × Token) → Tree
 block_of read (opening, (statements, closing)) = block (place_over read) (trees_of statements)
 
 -- block: '{' statement* '}'
-unfoldable pub block_rule : List (List ℕ) → Rule Token Tree
-block_rule words = make block_of (token (is OpenBrace) ▹ many (statement_rule words) ▹ token (is CloseBrace))
+unfoldable pub block_rule : Below → Rule Token Tree
+block_rule d = make block_of (token (is OpenBrace) ▹ many d.statement ▹ token (is CloseBrace))
+
+-- statement: block | declaration of a local | assignment | expression statement | if statement | while statement | print statement
+unfoldable pub statement_rule : Below → Rule Token Tree
+statement_rule d = block_rule d ∣ declare_rule d ∣ assign_rule d ∣ eval_rule d ∣ if_rule d ∣ while_rule d ∣ print_rule d
 
 -- the tree of a function, from its parts
 abbrev pub function_of : List Token → Token × (Token × (Token × (Token × Tree))) → Tree
 function_of read (result, (main, (opening, (closing, body)))) = function (place_over read) body
 
 -- declaration: 'void' 'main' '(' ')' block
-unfoldable pub function_rule : List (List ℕ) → Rule Token Tree
-function_rule words = make function_of (token (is Void) ▹ token (is Main) ▹ token (is OpenParenthesis) ▹ token (is CloseParenthesis) ▹ block_rule words)
+unfoldable pub function_rule : Below → Rule Token Tree
+function_rule d = make function_of (token (is Void) ▹ token (is Main) ▹ token (is OpenParenthesis) ▹ token (is CloseParenthesis) ▹ d.block)
 
 -- the tree of a unit, from its one declaration
 abbrev pub unit_of : List Token → Tree → Tree
 unit_of read main = unit (place_over read) main
 
 -- unit: one declaration
-unfoldable pub unit_rule : List (List ℕ) → Rule Token Tree
-unit_rule words = make unit_of (function_rule words)
+unfoldable pub unit_rule : Below → Rule Token Tree
+unit_rule d = make unit_of d.function
+
+-- what the rules read where so many nodes may lie on a way down, the node itself among them
+unfoldable pub below : List (List ℕ) → ℕ → Below
+below words zero = record {
+  operand = λ ts. [];
+  expression = λ ts. [];
+  written_type = λ ts. [];
+  statement = λ ts. [];
+  block = λ ts. [];
+  function = λ ts. [];
+  unit = λ ts. [];
+}
+below words (suc room) = record {
+  operand = operand_rule words;
+  expression = expression_rule words (below words room);
+  written_type = type_rule;
+  statement = statement_rule (below words room);
+  block = block_rule (below words room);
+  function = function_rule (below words room);
+  unit = unit_rule (below words room);
+}
+
+-- how deep a node may lie, where the unit lies at depth 0
+abbrev pub deepest : ℕ
+deepest = 200
 
 -- the tree of a whole text, its nodes numbered in reading order; none where the text is no unit
 abbrev pub tree_of : List ℕ → Option Tree
-tree_of text = option_map (numbered 0) (whole (unit_rule (words_of text) (tokens_of text)))
+tree_of text = option_map (numbered 0) (whole ((below (words_of text) (deepest + 1)).unit (tokens_of text)))

@@ -13,26 +13,33 @@ use Rattle.check_library.specs.Pieces.{Spelled, pieces}
 abbrev pub text_limit : ℕ
 text_limit = 16777216
 
--- words that are no identifiers: the reserved ones, and those that this language has for itself
+-- the reserved words of the whole language that stand in no production of this one
 abbrev pub reserved : List (List ℕ)
 reserved =
-    codes "assert" ∷ codes "bool" ∷ codes "break" ∷ codes "case" ∷ codes "catch" ∷ codes "class" ∷ codes "const" ∷ codes "continue"
-    ∷ codes "default" ∷ codes "do" ∷ codes "else" ∷ codes "enum" ∷ codes "extends" ∷ codes "false" ∷ codes "final" ∷ codes "finally"
-    ∷ codes "for" ∷ codes "if" ∷ codes "in" ∷ codes "is" ∷ codes "new" ∷ codes "null" ∷ codes "rethrow" ∷ codes "return" ∷ codes "super"
-    ∷ codes "switch" ∷ codes "this" ∷ codes "throw" ∷ codes "true" ∷ codes "try" ∷ codes "var" ∷ codes "while" ∷ codes "with" ∷ []
+    codes "assert" ∷ codes "break" ∷ codes "case" ∷ codes "catch" ∷ codes "class" ∷ codes "const" ∷ codes "continue" ∷ codes "default"
+    ∷ codes "do" ∷ codes "enum" ∷ codes "extends" ∷ codes "final" ∷ codes "finally" ∷ codes "for" ∷ codes "in" ∷ codes "is"
+    ∷ codes "new" ∷ codes "rethrow" ∷ codes "return" ∷ codes "super" ∷ codes "switch" ∷ codes "this" ∷ codes "throw" ∷ codes "try"
+    ∷ codes "var" ∷ codes "with" ∷ []
 
 -- the word is one of these
 abbrev pub is_reserved : List ℕ → Bool
 is_reserved word = list_any (bytes_eq word) reserved
 
--- the kind of a word
+-- the kind of a word: neither a word of the grammar nor a reserved one is an identifier
 abbrev pub kind_of_word : List ℕ → Kind
 kind_of_word word =
     if bytes_eq word (codes "void") then kind.Void
     else (if bytes_eq word (codes "main") then kind.Main
     else (if bytes_eq word (codes "int") then kind.Int
+    else (if bytes_eq word (codes "bool") then kind.Bool
     else (if bytes_eq word (codes "print") then kind.Print
-    else (if is_reserved word then kind.Other else kind.Identifier))))
+    else (if bytes_eq word (codes "if") then kind.If
+    else (if bytes_eq word (codes "else") then kind.Else
+    else (if bytes_eq word (codes "while") then kind.While
+    else (if bytes_eq word (codes "true") then kind.True
+    else (if bytes_eq word (codes "false") then kind.False
+    else (if bytes_eq word (codes "null") then kind.Null
+    else (if is_reserved word then kind.Other else kind.Identifier)))))))))))
 
 -- the kind of a mark of punctuation
 abbrev pub kind_of_mark : List ℕ → Kind
@@ -42,7 +49,12 @@ kind_of_mark mark =
     else (if bytes_eq mark (codes "{") then kind.OpenBrace
     else (if bytes_eq mark (codes "}") then kind.CloseBrace
     else (if bytes_eq mark (codes "=") then kind.Equals
-    else (if bytes_eq mark (codes ";") then kind.Semicolon else kind.Other)))))
+    else (if bytes_eq mark (codes ";") then kind.Semicolon
+    else (if bytes_eq mark (codes "?") then kind.Question
+    else (if bytes_eq mark (codes "+") then kind.Plus
+    else (if bytes_eq mark (codes "<") then kind.Less
+    else (if bytes_eq mark (codes "!=") then kind.NotEqual
+    else kind.Other)))))))))
 
 -- the kind of a lexeme, from its class and its bytes
 abbrev pub kind_of : Class → List ℕ → Kind

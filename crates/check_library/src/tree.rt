@@ -1,9 +1,9 @@
 //! The tree of a text.
 
-ghost use Rattle.std.specs.Prelude.{◌≡◌, ◌<◌, ◌≤◌, ◌^◌, length, IfOk, IfSome};
+ghost use Rattle.std.specs.Prelude.{◌≡◌, ◌+◌, ◌<◌, ◌≤◌, ◌^◌, length, IfOk, IfSome};
 ghost use Rattle.dart_tree.specs.Numbers.{nodes_in};
 ghost use Rattle.readings.specs.Readings.{whole};
-ghost use Rattle.check_library.specs.Grammar.{unit_rule, tree_of};
+ghost use Rattle.check_library.specs.Grammar.{below, deepest, tree_of};
 ghost use Rattle.check_library.specs.Tokens.{text_limit};
 
 use crate::parse::{Miss, unit};
@@ -18,7 +18,7 @@ fn whole_unit(
     words: &Words<'_>,
     tokens: &[Token],
 ) -> Result<Option<Unit>, AllocError>
-    ensures unit { IfOk result (λ found. found ≡ whole (unit_rule words.now tokens.now)) }
+    ensures unit { IfOk result (λ found. found ≡ whole ((below words.now (deepest + 1)).unit tokens.now)) }
     ensures few { IfOk result (λ found. IfSome found (λ unit. nodes_in unit ≤ length tokens.now)) }
 {
     match unit(alloc, words, tokens) {

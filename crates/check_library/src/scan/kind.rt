@@ -7,10 +7,9 @@ ghost use Rattle.check_library.specs.Tokens.{is_reserved, kind_of_word, kind_of_
 use crate::scan::piece::Class;
 use crate::token::Kind;
 
-/// The words that are no identifiers, but for those of the grammar.
-const RESERVED: [&[u8]; 33] = [
+/// The words that are no identifiers and stand in no production of the grammar.
+const RESERVED: [&[u8]; 26] = [
     b"assert",
-    b"bool",
     b"break",
     b"case",
     b"catch",
@@ -19,28 +18,22 @@ const RESERVED: [&[u8]; 33] = [
     b"continue",
     b"default",
     b"do",
-    b"else",
     b"enum",
     b"extends",
-    b"false",
     b"final",
     b"finally",
     b"for",
-    b"if",
     b"in",
     b"is",
     b"new",
-    b"null",
     b"rethrow",
     b"return",
     b"super",
     b"switch",
     b"this",
     b"throw",
-    b"true",
     b"try",
     b"var",
-    b"while",
     b"with",
 ];
 
@@ -50,7 +43,7 @@ fn is_among(words: &[&[u8]], word: &[u8]) -> bool
     words.iter().any(|other| word == *other)
 }
 
-/// The word is no identifier, and no word of the grammar.
+/// The word is one of these.
 fn is_reserved(word: &[u8]) -> bool
     ensures { result ≡ is_reserved word.now }
 {
@@ -66,8 +59,22 @@ fn kind_of_word(word: &[u8]) -> Kind
         Kind::Main
     } else if word == b"int".as_slice() {
         Kind::Int
+    } else if word == b"bool".as_slice() {
+        Kind::Bool
     } else if word == b"print".as_slice() {
         Kind::Print
+    } else if word == b"if".as_slice() {
+        Kind::If
+    } else if word == b"else".as_slice() {
+        Kind::Else
+    } else if word == b"while".as_slice() {
+        Kind::While
+    } else if word == b"true".as_slice() {
+        Kind::True
+    } else if word == b"false".as_slice() {
+        Kind::False
+    } else if word == b"null".as_slice() {
+        Kind::Null
     } else if is_reserved(word) {
         Kind::Other
     } else {
@@ -90,6 +97,14 @@ fn kind_of_mark(mark: &[u8]) -> Kind
         Kind::Equals
     } else if mark == b";".as_slice() {
         Kind::Semicolon
+    } else if mark == b"?".as_slice() {
+        Kind::Question
+    } else if mark == b"+".as_slice() {
+        Kind::Plus
+    } else if mark == b"<".as_slice() {
+        Kind::Less
+    } else if mark == b"!=".as_slice() {
+        Kind::NotEqual
     } else {
         Kind::Other
     }
