@@ -1,3 +1,4 @@
+mod Examples
 pub mod CommentLemmas
 pub mod CommentLaws
 pub mod WordsLemmas

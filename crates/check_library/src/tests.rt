@@ -19,7 +19,7 @@ fn is_as_expected(fault: &Fault, expected: &Expected) -> bool {
 
 /// The check of a text gives these diagnostics, in this order.
 fn gives(alloc: Global, text: &str, expected: &[Expected]) -> Result<bool, Fail> {
-    if text.len() > 1000 {
+    if text.len() > 100_000 {
         return Ok(false);
     }
     let checked = check(alloc, "/a.dart", text)?;
@@ -102,7 +102,7 @@ fn units_have_the_diagnostics_of_the_rules(rt: HostRuntime) -> Result<(), Fail> 
 
 #[test]
 fn other_texts_have_one_diagnostic(rt: HostRuntime) -> Result<(), Fail> {
-    let table: [(&str, u32); 18] = [
+    let table: [(&str, u32); 25] = [
         ("", 0),
         ("\n", 1),
         ("void main(){", 12),
@@ -113,7 +113,14 @@ fn other_texts_have_one_diagnostic(rt: HostRuntime) -> Result<(), Fail> {
         ("void main(){int int;}", 21),
         ("void main(){int main;}", 22),
         ("void main(){int if;}", 20),
+        ("void main(){int bool;}", 22),
         ("void main(){print=1;}", 21),
+        ("void main(){null=1;}", 20),
+        ("void main(){bool? x;}", 21),
+        ("void main(){1+2+3;}", 19),
+        ("void main(){if(x)x;}", 20),
+        ("void main(){if(x){}else x;}", 27),
+        ("void main(){else{}}", 19),
         ("void main(){x==1;}", 18),
         ("void main(){1.5;}", 17),
         ("void main(){1e5;}", 17),
@@ -127,6 +134,30 @@ fn other_texts_have_one_diagnostic(rt: HostRuntime) -> Result<(), Fail> {
             gives(rt.alloc(), text, &[(SyntaxError, 0, length)])?,
             "{text}"
         );
+    }
+    Ok(())
+}
+
+/// A unit in which so many blocks lie one in another, the first in that of `main`.
+fn nested_blocks(alloc: Global, count: usize) -> Result<String, Fail> {
+    let mut text = String::new(alloc);
+    text.push_str("void main(){")?;
+    text.push_str(&"{".repeat(alloc, count)?)?;
+    text.push_str(&"}".repeat(alloc, count)?)?;
+    text.push_str("}")?;
+    Ok(text)
+}
+
+#[test]
+fn no_node_lies_deeper_than_200(rt: HostRuntime) -> Result<(), Fail> {
+    let table: [(usize, &[Expected]); 3] = [
+        (198, &[]),
+        (199, &[(SyntaxError, 0, 411)]),
+        (10_000, &[(SyntaxError, 0, 20_013)]),
+    ];
+    for (count, expected) in table {
+        let text = nested_blocks(rt.alloc(), count)?;
+        assert!(rt; gives(rt.alloc(), &text, expected)?, "{count}");
     }
     Ok(())
 }
