@@ -6,19 +6,23 @@ use Rattle.std.specs.declared.cmp.Ordering.{Ordering}
 use Rattle.std.specs.Str.{byte}
 use Rattle.std.specs.Char.{to_ascii_uppercase}
 use Rattle.judgement.specs.declared.DiagnosticCode.{DiagnosticCode}
-use Rattle.judgement.specs.declared.DiagnosticCode.TheVariants.{DuplicateDefinition, IntegerLiteralOutOfRange, InvalidAssignment, ReferencedBeforeDeclaration, SyntaxError, UnassignedRead, UndefinedName}
+use Rattle.judgement.specs.declared.DiagnosticCode.TheVariants.{ArgumentType, ConditionNotBool, DuplicateDefinition, IntegerLiteralOutOfRange, InvalidAssignment, ReferencedBeforeDeclaration, SyntaxError, UnassignedRead, UncheckedNullableUse, UndefinedName, UndefinedOperator}
 use Rattle.proto_json.specs.declared.reply.ErrorKind.{ErrorKind}
 use Rattle.proto_json.specs.declared.reply.ErrorKind.TheVariants.{SyntacticError, CompileTimeError}
 
 -- the name of a code
 abbrev pub name_of : DiagnosticCode → List ℕ
+name_of ArgumentType = codes "argument_type"
+name_of ConditionNotBool = codes "condition_not_bool"
 name_of DuplicateDefinition = codes "duplicate_definition"
 name_of IntegerLiteralOutOfRange = codes "integer_literal_out_of_range"
 name_of InvalidAssignment = codes "invalid_assignment"
 name_of ReferencedBeforeDeclaration = codes "referenced_before_declaration"
 name_of SyntaxError = codes "syntax_error"
 name_of UnassignedRead = codes "unassigned_read"
+name_of UncheckedNullableUse = codes "unchecked_nullable_use"
 name_of UndefinedName = codes "undefined_name"
+name_of UndefinedOperator = codes "undefined_operator"
 
 -- two codes by the bytes of their names: the first byte that differs decides, else the shorter name is less
 abbrev pub name_cmp : DiagnosticCode → DiagnosticCode → Ordering

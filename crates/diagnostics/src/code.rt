@@ -11,13 +11,17 @@ pub fn code_name(code: DiagnosticCode) -> &'static str
     ensures { result.now ≡ name_of code }
 {
     match code {
+        DiagnosticCode::ArgumentType => "argument_type",
+        DiagnosticCode::ConditionNotBool => "condition_not_bool",
         DiagnosticCode::DuplicateDefinition => "duplicate_definition",
         DiagnosticCode::IntegerLiteralOutOfRange => "integer_literal_out_of_range",
         DiagnosticCode::InvalidAssignment => "invalid_assignment",
         DiagnosticCode::ReferencedBeforeDeclaration => "referenced_before_declaration",
         DiagnosticCode::SyntaxError => "syntax_error",
         DiagnosticCode::UnassignedRead => "unassigned_read",
+        DiagnosticCode::UncheckedNullableUse => "unchecked_nullable_use",
         DiagnosticCode::UndefinedName => "undefined_name",
+        DiagnosticCode::UndefinedOperator => "undefined_operator",
     }
 }
 
@@ -27,13 +31,17 @@ pub fn message(code: DiagnosticCode) -> &'static str
     ensures { result.now ≡ message_of code }
 {
     match code {
+        DiagnosticCode::ArgumentType => "Argument type.",
+        DiagnosticCode::ConditionNotBool => "Condition not bool.",
         DiagnosticCode::DuplicateDefinition => "Duplicate definition.",
         DiagnosticCode::IntegerLiteralOutOfRange => "Integer literal out of range.",
         DiagnosticCode::InvalidAssignment => "Invalid assignment.",
         DiagnosticCode::ReferencedBeforeDeclaration => "Referenced before declaration.",
         DiagnosticCode::SyntaxError => "Syntax error.",
         DiagnosticCode::UnassignedRead => "Unassigned read.",
+        DiagnosticCode::UncheckedNullableUse => "Unchecked nullable use.",
         DiagnosticCode::UndefinedName => "Undefined name.",
+        DiagnosticCode::UndefinedOperator => "Undefined operator.",
     }
 }
 

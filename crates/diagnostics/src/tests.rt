@@ -94,6 +94,16 @@ fn a_row_tells_the_fault(rt: HostRuntime) -> Result<(), Fail> {
 fn each_code_has_its_words(rt: HostRuntime) {
     let cases = [
         (
+            DiagnosticCode::ArgumentType,
+            "argument_type",
+            "Argument type.",
+        ),
+        (
+            DiagnosticCode::ConditionNotBool,
+            "condition_not_bool",
+            "Condition not bool.",
+        ),
+        (
             DiagnosticCode::DuplicateDefinition,
             "duplicate_definition",
             "Duplicate definition.",
@@ -120,9 +130,19 @@ fn each_code_has_its_words(rt: HostRuntime) {
             "Unassigned read.",
         ),
         (
+            DiagnosticCode::UncheckedNullableUse,
+            "unchecked_nullable_use",
+            "Unchecked nullable use.",
+        ),
+        (
             DiagnosticCode::UndefinedName,
             "undefined_name",
             "Undefined name.",
+        ),
+        (
+            DiagnosticCode::UndefinedOperator,
+            "undefined_operator",
+            "Undefined operator.",
         ),
     ];
     for (code, name, sentence) in cases {
