@@ -1,6 +1,7 @@
 # `make demo` proves and builds the program, feeds it the session of examples/ and prints its replies.
 # `make test` is the gate: it proves, tries and runs everything.
-.PHONY: demo test
+# `make bench` proves and builds the program, and prints how long checks take, by the size of the text.
+.PHONY: demo test bench
 
 SESSION := $(CURDIR)/examples/session.jsonl
 
@@ -9,3 +10,7 @@ demo:
 
 test:
 	rt ci
+
+bench:
+	@cd crates/dart_serve && mkdir -p out && { rt run -- serve < /dev/null > /dev/null 2> out/bench.log || { cat out/bench.log >&2; exit 1; }; }
+	@python3 bench/check.py crates/dart_serve/out/dart_serve

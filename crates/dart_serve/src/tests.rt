@@ -7,6 +7,8 @@ use plain_text::PlainText;
 use std::alloc::Global;
 use std::test::Fail;
 
+mod programs;
+
 const ADD_CLEAN: &str =
     "{\"id\":\"1\",\"method\":\"analysis.updateContent\",\"params\":{\"files\":{\"/a.dart\":{\"type\":\"add\",\"content\":\"void main() {}\"}}}}\n";
 
@@ -22,6 +24,20 @@ const CLEAN: &str = "{\"id\":\"2\",\"result\":{\"errors\":[]}}\n";
 
 const UNASSIGNED: &str =
     "{\"id\":\"2\",\"result\":{\"errors\":[{\"code\":\"unassigned_read\",\"location\":{\"file\":\"/a.dart\",\"length\":1,\"offset\":25,\"startColumn\":26,\"startLine\":1},\"message\":\"Unassigned read.\",\"severity\":\"ERROR\",\"type\":\"COMPILE_TIME_ERROR\"}]}}\n";
+
+/// A local that is an int in the branch where it isn't null, and no longer behind the branch.
+const ADD_TESTED: &str =
+    "{\"id\":\"1\",\"method\":\"analysis.updateContent\",\"params\":{\"files\":{\"/a.dart\":{\"type\":\"add\",\"content\":\"void main(){int? x;if(x!=null){print(x+1);}print(x+1);}\"}}}}\n";
+
+const TESTED: &str =
+    "{\"id\":\"2\",\"result\":{\"errors\":[{\"code\":\"unchecked_nullable_use\",\"location\":{\"file\":\"/a.dart\",\"length\":1,\"offset\":50,\"startColumn\":51,\"startLine\":1},\"message\":\"Unchecked nullable use.\",\"severity\":\"ERROR\",\"type\":\"COMPILE_TIME_ERROR\"}]}}\n";
+
+/// A local that is an int until a loop that writes it.
+const ADD_LOOPED: &str =
+    "{\"id\":\"1\",\"method\":\"analysis.updateContent\",\"params\":{\"files\":{\"/a.dart\":{\"type\":\"add\",\"content\":\"void main(){int? x=1;while(x!=null){x=null;}print(x+1);}\"}}}}\n";
+
+const LOOPED: &str =
+    "{\"id\":\"2\",\"result\":{\"errors\":[{\"code\":\"unchecked_nullable_use\",\"location\":{\"file\":\"/a.dart\",\"length\":1,\"offset\":51,\"startColumn\":52,\"startLine\":1},\"message\":\"Unchecked nullable use.\",\"severity\":\"ERROR\",\"type\":\"COMPILE_TIME_ERROR\"}]}}\n";
 
 /// A byte order mark, two lines, a character of two code units, and four errors.
 const ADD_FAULTY: &str =
@@ -92,6 +108,8 @@ fn sessions_are_served(rt: HostRuntime) -> Result<(), Fail> {
     assert!(rt; serves(a, &[ADD_CLEAN, GET, "\n"], &[DONE, CLEAN])?);
     assert!(rt; serves(a, &[ADD_CLEAN, GET], &[DONE, CLEAN])?);
     assert!(rt; serves(a, &[ADD_UNASSIGNED, GET], &[DONE, UNASSIGNED])?);
+    assert!(rt; serves(a, &[ADD_TESTED, GET], &[DONE, TESTED])?);
+    assert!(rt; serves(a, &[ADD_LOOPED, GET], &[DONE, LOOPED])?);
     let changed = [ADD_UNASSIGNED, "\n \t\r\n", ADD_CLEAN, GET];
     assert!(rt; serves(a, &changed, &[DONE, DONE, CLEAN])?);
     let early = [GET, "\n", ADD_CLEAN, GET];
