@@ -13,4 +13,4 @@ test:
 
 bench:
 	@cd crates/dart_serve && mkdir -p out && { rt run -- serve < /dev/null > /dev/null 2> out/bench.log || { cat out/bench.log >&2; exit 1; }; }
-	@python3 bench/check.py crates/dart_serve/out/dart_serve
+	@python3 bench/check.py

@@ -1,13 +1,13 @@
 #!/usr/bin/env python3
 """How long a check takes, by the size of the text.
 
-    make bench                        builds the program and measures everything
-    bench/check.py BINARY             measures a program that is built
-    bench/check.py BINARY mixed ..    some of the families alone
-    bench/check.py BINARY --list      the families
-    options: --runs N (3), the best of which counts; --limit SECONDS (300) of a run
+    make bench                     builds the program and measures everything
+    bench/check.py                 measures the program that is built
+    bench/check.py mixed ..        some of the families alone
+    bench/check.py --list          the families
+    options: --binary PATH of another program, --runs N (3), of which the fastest counts, --limit SECONDS (300) of a run
 
-Each run is a session of its own: `BINARY serve` is fed one line that adds a text (analysis.updateContent) and one that
+Each run is a session of its own: `dart_serve serve` is fed one line that adds a text (analysis.updateContent) and one that
 asks for its errors (analysis.getErrors). There is a table for each family of texts, and a line in it for each size:
 
     size    what the family counts, as statements or locals
@@ -16,7 +16,7 @@ asks for its errors (analysis.getErrors). There is a table for each family of te
     read    seconds of a session that only adds the text
     check   seconds that asking for its errors adds to it: checking it, and writing the reply
     whole   seconds of the whole session
-    MB      the most memory that the program held
+    MB      the most memory that the program held; what this script itself holds, some 50, hides less
 
 The seconds are less those of an empty session, which are printed first. Under each table stands the slope of `check`
 and `whole`: the least-squares slope of the logarithm of the time over that of the size. 1 is time in proportion to the
@@ -38,6 +38,10 @@ import time
 from dataclasses import dataclass
 from typing import Callable, List, Optional, Tuple
 
+# Where `rt run` builds the program.
+BINARY = os.path.join(os.path.dirname(os.path.abspath(__file__)), os.pardir, "crates", "dart_serve", "out", "dart_serve")
+
+# The file that each session adds.
 PATH = "/a.dart"
 
 # A time below this many seconds tells nothing of a slope.
@@ -278,7 +282,7 @@ def measure(binary: str, family: Family, start_up: float, runs: int, limit: floa
             right = False
             print(f"{size:>12} {len(text.encode()):>10} WRONG: {wrong}", flush=True)
         elif run.status != 0:
-            print(f"{size:>12} {len(text.encode()):>10} not done in {limit:.0f} seconds", flush=True)
+            print(f"{size:>12} {len(text.encode()):>10} not done in {limit:g} seconds", flush=True)
         else:
             row = Row(size, max(0.0, run.seconds - alone.seconds), max(0.0, run.seconds - start_up))
             rows.append(row)
@@ -290,24 +294,33 @@ def measure(binary: str, family: Family, start_up: float, runs: int, limit: floa
     return right
 
 
-def main() -> int:
+def arguments() -> argparse.Namespace:
+    """The words of the command line."""
     words = argparse.ArgumentParser(description=__doc__.split("\n")[0], epilog="The head of this file says how to read the tables.")
-    words.add_argument("binary", nargs="?", default="crates/dart_serve/out/dart_serve", help="the program, as `rt run` builds it")
     words.add_argument("families", nargs="*", metavar="FAMILY", help="which texts; all, if none are named")
-    words.add_argument("--runs", type=int, default=3, help="sessions a line, of which the fastest counts")
-    words.add_argument("--limit", type=float, default=300.0, help="seconds after which a session is cut off")
+    words.add_argument("--binary", default=BINARY, metavar="PATH", help="the program; else the one that `make bench` builds")
+    words.add_argument("--runs", type=int, default=3, metavar="N", help="sessions a figure, of which the fastest counts")
+    words.add_argument("--limit", type=float, default=300.0, metavar="SECONDS", help="after which a session is cut off")
     words.add_argument("--list", action="store_true", help="the families, and nothing else")
-    given = words.parse_args()
+    given = words.parse_intermixed_args()
+    unknown = [name for name in given.families if name not in [family.name for family in FAMILIES]]
+    if unknown:
+        words.error(f"no such family: {' '.join(unknown)}")
+    if given.runs < 1:
+        words.error("no runs")
+    if not given.list and not os.path.isfile(given.binary):
+        words.error(f"no program at {given.binary}: `make bench` builds it")
+    return given
+
+
+def main() -> int:
+    given = arguments()
     if given.list:
         print("\n".join(f"{family.name}: {family.about}" for family in FAMILIES))
         return 0
-    names = [family.name for family in FAMILIES]
-    unknown = [name for name in given.families if name not in names]
-    if unknown or given.runs < 1 or not os.path.isfile(given.binary):
-        words.error(f"no such family: {' '.join(unknown)}" if unknown else "no runs" if given.runs < 1 else f"no program at {given.binary}")
-    chosen = [family for family in FAMILIES if not given.families or family.name in given.families]
     empty = best(given.binary, b"", 5, given.limit)
     print(f"an empty session: {empty.seconds:.4f} seconds, {empty.bytes_held / 1e6:.0f} MB, status {empty.status}")
+    chosen = [family for family in FAMILIES if not given.families or family.name in given.families]
     right = [measure(given.binary, family, empty.seconds, given.runs, given.limit) for family in chosen]
     return 0 if all(right) and empty.status == 0 else 1
 
