@@ -4,7 +4,8 @@ use Rattle.std.specs.Option.{option_map_or}
 use Rattle.plain_text.specs.Units.{units_in}
 use Rattle.judgement.specs.declared.Fault.{Fault}
 use Rattle.judgement.specs.declared.DiagnosticCode.TheVariants.{SyntaxError}
-use Rattle.judgement.specs.Judgement.{faults_of, no_rows}
+use Rattle.flow_model.specs.Sub.{no_rows}
+use Rattle.judgement.specs.Judgement.{faults_of}
 use Rattle.check_library.specs.Grammar.{tree_of}
 use Rattle.check_library.specs.Order.{sorted_faults}
 

@@ -140,7 +140,7 @@ eval_rule d = make eval_of (d.expression ▹ token (is Semicolon))
 
 -- the tree of an if statement, from its parts
 abbrev pub if_of : List Token → Token × (Token × (Tree × (Token × (Tree × Option (Token × Tree))))) → Tree
-if_of read (word, (opening, (condition, (closing, (then, otherwise))))) = if_statement (place_over read) condition then (part_behind otherwise)
+if_of read (word, (opening, (condition, (closing, (then_block, else_block))))) = if_statement (place_over read) condition then_block (part_behind else_block)
 
 -- if statement: 'if' '(' expression ')' block ('else' block)?
 unfoldable pub if_rule : Below → Rule Token Tree

@@ -170,13 +170,13 @@ fn if_statement<'k>(
     let (_, rest) = token(rest, Kind::OpenParenthesis).ok_or(Miss::NoReading)?;
     let (condition, rest) = expression(alloc, words, room, rest)?;
     let (_, rest) = token(rest, Kind::CloseParenthesis).ok_or(Miss::NoReading)?;
-    let (then, rest) = block(alloc, words, room, rest)?;
-    let (otherwise, rest) = otherwise(alloc, words, room, rest)?;
+    let (then_block, rest) = block(alloc, words, room, rest)?;
+    let (else_block, rest) = otherwise(alloc, words, room, rest)?;
     let node = StmtNode::If {
         at: place_over(tokens, rest),
         condition,
-        then,
-        otherwise: otherwise.map(|(_, block)| block),
+        then_block,
+        else_block: else_block.map(|(_, block)| block),
     };
     Ok((Stmt { node }, rest))
 }
