@@ -1,2 +1,6 @@
 pub mod Ahead
+pub mod Blocks
 pub mod Meanings
+pub mod Operators
+pub mod Shadowing
+pub mod Sizes

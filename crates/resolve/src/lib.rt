@@ -2,15 +2,17 @@
 //!
 //! `judge_unit` gives exactly the diagnostics that the table of the judgement gives for a tree
 //! (`faults_of` of `judgement`), one code function for each row; what a row hands on is one clause
-//! (`specs/Judged.antt`). `BlockNames` has what the names of a block mean. The crate stands on the
-//! trees, the flow models and the judgement, and knows no tokens.
+//! (`specs/Judged.antt`). `NamesInScope` has what names mean at a point of a body. The crate stands
+//! on the trees, the flow models and the judgement, and knows no tokens.
 #![tactic(auto)]
 
 mod judge;
+mod laws;
 mod names;
 
 pub use judge::judge_unit;
-pub use names::BlockNames;
+pub use laws::{a_block_has_the_names_that_it_declares, a_loop_head_forgets_what_its_body_writes};
+pub use names::{NamesInScope, Shadowed};
 
 #[cfg(test)]
 mod tests;

@@ -1,9 +1,10 @@
-//! What the names of a block mean.
+//! What names mean.
 
 ghost use Rattle.std.specs.Prelude.{◌≡◌, IfOk, OnOk};
-ghost use Rattle.std.specs.FinMap.{empty, get, insert};
-ghost use Rattle.dart_tree.specs.Tree.{Trees, more, trees_of};
-ghost use Rattle.judgement.specs.Names.{local_of, locals_of, names_of};
+ghost use Rattle.std.specs.FinMap.{empty, get, insert, remove};
+ghost use Rattle.dart_tree.specs.Tree.{trees_of};
+ghost use Rattle.judgement.specs.Names.{local_of, locals_of, meaning_declared, names_within};
+ghost use Rattle.resolve.specs.Shadows.{restored, undone};
 
 use dart_tree::{Name, Stmt, StmtNode};
 use flow_model::LocalId;
@@ -11,13 +12,23 @@ use std::alloc::{AllocError, Global};
 use std::collections::BTreeMap;
 use std::marker::Model;
 
-/// What the names of a block mean: the local that each word declares.
+/// What names mean at a point of a body: the local of each word that means one.
+///
+/// A body has one table of them. A block puts the names that it declares in where it begins, and
+/// takes them out again where it ends, so no table is copied however deep blocks nest.
 #[derive(Drop)]
-pub struct BlockNames {
+pub struct NamesInScope {
     locals: BTreeMap<u32, LocalId>,
 }
 
-impl Model for BlockNames {
+/// What a declaration hides: the word that it declares, and what that meant before, if anything.
+#[derive(Clone, Copy)]
+pub struct Shadowed {
+    word: u32,
+    before: Option<LocalId>,
+}
+
+impl Model for NamesInScope {
     ghost use Rattle.judgement.specs.Names.{Names};
     ghost use Rattle.std.specs.Coded.{coded_ℕ};
     ghost use Rattle.std.specs.FinMap as map;
@@ -30,54 +41,101 @@ impl Model for BlockNames {
     ghost view = { λ a. map.from_entries a.locals.entries };
 }
 
-impl BlockNames {
-    /// What the names mean that these statements declare: of a word that is declared twice, the
-    /// first declaration.
-    pub fn of(alloc: Global, statements: &[Stmt]) -> Result<BlockNames, AllocError>
-        ensures { IfOk result (λ names. names ≡ names_of (trees_of statements.now)) }
+impl NamesInScope {
+    /// No name means anything.
+    pub fn new(alloc: Global) -> NamesInScope
+        ensures { result ≡ empty }
     {
-        let mut names = BlockNames::new(alloc);
-        for i in (0..statements.len()).rev() {
-            names.declare(&statements[i])?;
+        NamesInScope {
+            locals: BTreeMap::new(alloc),
         }
-        Ok(names)
     }
 
-    /// The local that a word means, if the block declares it. It costs the logarithm of the number
-    /// of words.
+    /// The local that a word means, if it means one. It costs the logarithm of the number of words.
     pub fn meaning(&self, word: u32) -> Option<LocalId>
         ensures { result ≡ get self.now word }
     {
         self.locals.get(&word).copied()
     }
 
-    // What no names mean.
-    fn new(alloc: Global) -> BlockNames
-        ensures { result ≡ empty }
+    /// A block of these statements begins: its names mean what it declares, from its beginning on,
+    /// and of a word that is declared twice the first declaration. The answer is what `leave` wants
+    /// where the block ends. Each declaration costs the logarithm of the number of words.
+    pub fn enter(&mut self, alloc: Global, statements: &[Stmt]) -> Result<Vec<Shadowed>, AllocError>
+        ensures names { OnOk result (self.new ≡ names_within self.old (trees_of statements.now)) }
+        ensures undone { IfOk result (λ shadowed. undone self.new shadowed.items ≡ self.old) }
     {
-        BlockNames {
-            locals: BTreeMap::new(alloc),
+        let mut shadowed = Vec::new(alloc);
+        for i in (0..statements.len()).rev() {
+            self.declare(&statements[i], &mut shadowed)?;
         }
+        Ok(shadowed)
     }
 
-    // A word means this local.
-    fn insert(&mut self, word: u32, local: LocalId) -> Result<(), AllocError>
-        ensures { OnOk result (self.new ≡ insert self.old word local) }
+    /// A block ends, which hid these meanings: they are put back, those that were hidden last first.
+    pub fn leave(&mut self, mut shadowed: Vec<Shadowed>) -> Result<(), AllocError>
+        ensures { OnOk result (self.new ≡ undone self.old shadowed.items) }
     {
-        let _before = self.locals.insert(word, local)?;
+        while let Some(hidden) = shadowed.pop() {
+            self.restore(hidden)?;
+        }
         Ok(())
     }
 
-    // If the names are those of some statements, they become those of this statement before them.
-    fn declare(&mut self, statement: &Stmt) -> Result<(), AllocError>
-        ensures { OnOk result ((rest : Trees) → self.old ≡ names_of rest → self.new ≡ names_of (more statement.now rest)) }
+    // The name that a statement declares means its local; what it meant before is put with what is
+    // hidden.
+    fn declare(&mut self, statement: &Stmt, shadowed: &mut Vec<Shadowed>) -> Result<(), AllocError>
+        ensures names { OnOk result (self.new ≡ meaning_declared statement.now self.old) }
+        ensures undone { OnOk result (undone self.new shadowed.new.items ≡ undone self.old shadowed.old.items) }
     {
         match &statement.node {
-            StmtNode::Declare { name, .. } => self.insert(name.word, declared_local(name)),
+            StmtNode::Declare { name, .. } => {
+                let before = self.insert(name.word, declared_local(name))?;
+                shadowed.push(Shadowed {
+                    word: name.word,
+                    before,
+                })?;
+                Ok(())
+            }
             StmtNode::Assign { .. } => Ok(()),
             StmtNode::Eval { .. } => Ok(()),
             StmtNode::Print { .. } => Ok(()),
+            StmtNode::If { .. } => Ok(()),
+            StmtNode::While { .. } => Ok(()),
+            StmtNode::Block { .. } => Ok(()),
         }
+    }
+
+    // A word means this local; the answer is what it meant before.
+    fn insert(&mut self, word: u32, local: LocalId) -> Result<Option<LocalId>, AllocError>
+        ensures names { OnOk result (self.new ≡ insert self.old word local) }
+        ensures before { IfOk result (λ before. before ≡ get self.old word) }
+    {
+        let before = self.locals.insert(word, local)?;
+        Ok(before)
+    }
+
+    // A word means again what it meant before.
+    fn restore(&mut self, hidden: Shadowed) -> Result<(), AllocError>
+        ensures { OnOk result (self.new ≡ restored self.old hidden) }
+    {
+        match hidden.before {
+            Some(local) => {
+                let _hiding = self.insert(hidden.word, local)?;
+                Ok(())
+            }
+            None => {
+                self.remove(hidden.word);
+                Ok(())
+            }
+        }
+    }
+
+    // A word means nothing.
+    fn remove(&mut self, word: u32)
+        ensures { self.new ≡ remove self.old word }
+    {
+        let _before = self.locals.remove(&word);
     }
 }
 
@@ -88,7 +146,7 @@ fn declared_local(name: &Name) -> LocalId
     LocalId(name.at.node.0)
 }
 
-/// The locals that these statements declare, in the order of the statements.
+/// The locals that these statements themselves declare, in the order of the statements.
 pub fn declared_locals(alloc: Global, statements: &[Stmt]) -> Result<Vec<LocalId>, AllocError>
     ensures { IfOk result (λ locals. locals.items ≡ locals_of (trees_of statements.now)) }
 {

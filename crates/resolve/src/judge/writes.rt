@@ -6,69 +6,72 @@ ghost use Rattle.flow_model.specs.Assign.{assign_facts};
 ghost use Rattle.judgement.specs.Rows as row;
 ghost use Rattle.resolve.specs.Judged.{Gives};
 
+use super::types::fits;
 use super::{Context, Typed, report};
+use crate::names::NamesInScope;
 use dart_tree::{Name, Place};
-use flow_model::{
-    DartType, Flow, LocalDecl, LocalId, Rows, TypeNode, declare_adds_one_local, is_subtype,
-};
+use flow_model::{DartType, Flow, LocalDecl, LocalId, Rows, declare_adds_one_local};
 use judgement::{DiagnosticCode, Fault};
 use std::alloc::{AllocError, Global};
 
 // An assignment writes the local that the name means.
 pub(super) fn assign(
-    alloc: Global,
     context: Context,
+    names: &NamesInScope,
     target: &Name,
     value: &Typed,
     flow: &mut Flow,
     faults: &mut Vec<Fault>,
 ) -> Result<(), AllocError>
-    ensures { OnOk result (Gives faults.old.items faults.new.items flow.new (row.assign_row context.entry.rows.now context.entry.names.now target.now value.now.at value.now.ty flow.old)) }
+    ensures { OnOk result (Gives faults.old.items faults.new.items flow.new (row.assign_row context.entry.rows.now names.now target.now value.now.at value.now.ty flow.old)) }
 {
-    match context.names.meaning(target.word) {
-        Some(var) => write(alloc, context.rows, target.at, var, value, flow, faults),
-        None => report(target.at, DiagnosticCode::UndefinedName, faults),
+    match names.meaning(target.word) {
+        Some(var) => write(context, target.at, var, value, flow, faults),
+        None => report(target.at.span, DiagnosticCode::UndefinedName, faults),
     }
 }
 
 // A local is written, if it is declared before.
 fn write(
-    alloc: Global,
-    rows: &Rows,
+    context: Context,
     target: Place,
     var: LocalId,
     value: &Typed,
     flow: &mut Flow,
     faults: &mut Vec<Fault>,
 ) -> Result<(), AllocError>
-    ensures { OnOk result (Gives faults.old.items faults.new.items flow.new (row.write_row rows.now target value.now.at value.now.ty var (facts_of flow.old var) flow.old)) }
+    ensures { OnOk result (Gives faults.old.items faults.new.items flow.new (row.write_row context.entry.rows.now target value.now.at value.now.ty var (facts_of flow.old var) flow.old)) }
 {
     match flow.declared(var) {
         Some(declared) => {
-            check_fit(rows, value, declared, faults)?;
-            flow.assign(alloc, rows, var, &value.ty)
+            check_fit(context.rows, value, declared, faults)?;
+            flow.assign(context.alloc, context.rows, var, &value.ty)
         }
-        None => report(target, DiagnosticCode::ReferencedBeforeDeclaration, faults),
+        None => report(
+            target.span,
+            DiagnosticCode::ReferencedBeforeDeclaration,
+            faults,
+        ),
     }
 }
 
 // A declaration without initializer: the local comes into scope, unless it is there already.
 pub(super) fn declare(
-    alloc: Global,
     context: Context,
+    names: &NamesInScope,
     name: &Name,
     ty: DartType,
     flow: &mut Flow,
     faults: &mut Vec<Fault>,
 ) -> Result<(), AllocError>
-    ensures { OnOk result (Gives faults.old.items faults.new.items flow.new (row.declare_row context.entry.names.now name.now ty flow.old)) }
+    ensures { OnOk result (Gives faults.old.items faults.new.items flow.new (row.declare_row names.now name.now ty flow.old)) }
 {
-    match context.names.meaning(name.word) {
+    match names.meaning(name.word) {
         Some(var) => {
             if flow.is_in_scope(var) {
-                return report(name.at, DiagnosticCode::DuplicateDefinition, faults);
+                return report(name.at.span, DiagnosticCode::DuplicateDefinition, faults);
             }
-            flow.declare(alloc, &local(var, ty, false))
+            flow.declare(context.alloc, &local(var, ty, false))
         }
         None => Ok(()),
     }
@@ -77,23 +80,23 @@ pub(super) fn declare(
 // A declaration with an initializer, once that is judged: the local comes into scope with its value,
 // unless it is there already.
 pub(super) fn initialize(
-    alloc: Global,
     context: Context,
+    names: &NamesInScope,
     name: &Name,
     ty: DartType,
     value: &Typed,
     flow: &mut Flow,
     faults: &mut Vec<Fault>,
 ) -> Result<(), AllocError>
-    ensures { OnOk result (Gives faults.old.items faults.new.items flow.new (row.initialize_row context.entry.rows.now context.entry.names.now name.now ty value.now.at value.now.ty flow.old)) }
+    ensures { OnOk result (Gives faults.old.items faults.new.items flow.new (row.initialize_row context.entry.rows.now names.now name.now ty value.now.at value.now.ty flow.old)) }
 {
-    match context.names.meaning(name.word) {
+    match names.meaning(name.word) {
         Some(var) => {
             if flow.is_in_scope(var) {
-                return report(name.at, DiagnosticCode::DuplicateDefinition, faults);
+                return report(name.at.span, DiagnosticCode::DuplicateDefinition, faults);
             }
             check_fit(context.rows, value, &ty, faults)?;
-            declare_with_value(alloc, context.rows, &local(var, ty, true), &value.ty, flow)
+            declare_with_value(context, &local(var, ty, true), &value.ty, flow)
         }
         None => Ok(()),
     }
@@ -101,19 +104,18 @@ pub(super) fn initialize(
 
 // A local comes into scope and is written with a value of the type.
 fn declare_with_value(
-    alloc: Global,
-    rows: &Rows,
+    context: Context,
     local: &LocalDecl,
     written: &DartType,
     flow: &mut Flow,
 ) -> Result<(), AllocError>
     requires { IsNone (facts_of flow.old local.now.var) }
-    ensures { OnOk result (flow.new ≡ at_local (declare_of flow.old local.now) local.now.var (assign_facts rows.now written.now)) }
+    ensures { OnOk result (flow.new ≡ at_local (declare_of flow.old local.now) local.now.var (assign_facts context.entry.rows.now written.now)) }
 {
     // Shows that the local is in scope for the write.
     declare_adds_one_local(flow, local, local.var);
-    flow.declare(alloc, local)?;
-    flow.assign(alloc, rows, local.var, written)
+    flow.declare(context.alloc, local)?;
+    flow.assign(context.alloc, context.rows, local.var, written)
 }
 
 // A local as it comes into scope: one that admits null and has no initializer starts as null.
@@ -141,18 +143,5 @@ fn check_fit(
     if fits(rows, &value.ty, declared) {
         return Ok(());
     }
-    report(value.at, DiagnosticCode::InvalidAssignment, faults)
-}
-
-// Whether s may stand where t is wanted. Of a type that has a diagnostic no more is said.
-fn fits(rows: &Rows, s: &DartType, t: &DartType) -> bool
-    ensures { result ≡ row.fits rows.now s.now t.now }
-{
-    is_invalid(s) || is_invalid(t) || is_subtype(rows, s, t)
-}
-
-fn is_invalid(t: &DartType) -> bool
-    ensures { result ≡ row.is_invalid t.now }
-{
-    matches!(&t.bare().node, TypeNode::Invalid)
+    report(value.at.span, DiagnosticCode::InvalidAssignment, faults)
 }

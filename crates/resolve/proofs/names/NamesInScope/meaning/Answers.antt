@@ -1,7 +1,7 @@
 use Rattle.std.proofs.Common.{◌∙◌, ap}
 use Rattle.std.specs.FinMap.{get}
 use Rattle.resolve.proofs.Meanings.{lookup-get}
-use Rattle.resolve.proofs.names.BlockNames.meaning.Goals as goal
+use Rattle.resolve.proofs.names.NamesInScope.meaning.Goals as goal
 
 pub returns : goal.returns
 returns c =

@@ -1,0 +1,81 @@
+-- Operators: which types have them, and what they give once their sides are judged.
+use Rattle.std.proofs.Common.{◌≡◌, List, ◌++◌, Option, refl, sym, ◌∙◌, append_assoc, append-nil}
+use Rattle.dart_tree.specs.declared.places.Place.{Place}
+use Rattle.dart_tree.specs.declared.places.Span.{Span}
+use Rattle.dart_tree.specs.declared.nodes.OperatorKind.{OperatorKind}
+use Rattle.dart_tree.specs.declared.nodes.OperatorKind.TheVariants.{Plus, Less, NotEqual}
+use Rattle.flow_model.specs.Ty.{Ty, invalid, never, null, int, bool, nullable, bare_of, same_type}
+use Rattle.flow_model.specs.Flow.{FlowModel}
+use Rattle.flow_model.specs.declared.locals.LocalId.{LocalId}
+use Rattle.flow_model.specs.declared.subtyping.Rows.{Rows}
+use Rattle.judgement.specs.declared.Fault.{Fault}
+use Rattle.judgement.specs.Rows.{Value, has_operators, operator_row}
+use Rattle.resolve.specs.Judged.{Evaluates, reported}
+use Rattle.resolve.specs.declared.judge.Typed.{Typed}
+
+-- where null has the operators no more than `Never`, a type without its `?` shows it
+pub bare-has_operators : (t : Ty) → same_type (bare_of t) int ≡ has_operators t
+bare-has_operators invalid = refl
+bare-has_operators never = refl
+bare-has_operators null = refl
+bare-has_operators int = refl
+bare-has_operators bool = refl
+bare-has_operators (nullable bare) = bare-has_operators bare
+
+-- what an expression gives is what was found, with its diagnostics
+pub Evaluates-value : {found now : List Fault} {m : FlowModel} {typed : Typed} {at : Place} {value : Value}
+    → Evaluates found now m typed at value → value ≡ record (reported m typed) { faults = value.faults }
+Evaluates-value {value = value} e i = record {
+  ty = sym e.type_is i;
+  after = sym e.after_is i;
+  when_true = sym e.when_true_is i;
+  when_false = sym e.when_false_is i;
+  faults = value.faults;
+}
+
+-- diagnostics that were reported before come before those of the operator
+faults_before : (found left right own : List Fault) → ((found ++ left) ++ right) ++ own ≡ found ++ (left ++ (right ++ own))
+faults_before found left right own = append_assoc (found ++ left) right own ∙ append_assoc found left (right ++ own)
+
+module _ (rows : Rows) (span : Span) (compared : Option LocalId) (found now : List Fault) (m : FlowModel) (left right typed : Typed) (at : Place) where
+  -- an operator whose sides have no diagnostics that aren't reported, and the same behind the diagnostics of its sides
+  operator_behind : (kind : OperatorKind) (left_faults right_faults : List Fault)
+      → Evaluates ((found ++ left_faults) ++ right_faults) now m typed at (operator_row rows kind span right.at compared (reported m left) (reported m right))
+      → Evaluates found now m typed at
+      (operator_row rows kind span right.at compared (record (reported m left) { faults = left_faults }) (record (reported m right) { faults = right_faults }))
+  operator_behind Plus left_faults right_faults e = record {
+    place_is = e.place_is;
+    type_is = e.type_is;
+    after_is = e.after_is;
+    when_true_is = e.when_true_is;
+    when_false_is = e.when_false_is;
+    faults_are = e.faults_are ∙ faults_before found left_faults right_faults _;
+  }
+  operator_behind Less left_faults right_faults e = record {
+    place_is = e.place_is;
+    type_is = e.type_is;
+    after_is = e.after_is;
+    when_true_is = e.when_true_is;
+    when_false_is = e.when_false_is;
+    faults_are = e.faults_are ∙ faults_before found left_faults right_faults _;
+  }
+  operator_behind NotEqual left_faults right_faults e = record {
+    place_is = e.place_is;
+    type_is = e.type_is;
+    after_is = e.after_is;
+    when_true_is = e.when_true_is;
+    when_false_is = e.when_false_is;
+    faults_are = e.faults_are ∙ append-nil _ ∙ append_assoc found left_faults right_faults;
+  }
+
+-- an operator gives what its row says, if its sides were judged one after the other, and then itself
+pub operator_evaluates : (rows : Rows) (kind : OperatorKind) (span : Span) (compared : Option LocalId) (found behind_left behind_right now : List Fault) (m : FlowModel)
+    (left right typed : Typed) (left_at right_at at : Place) (left_value : Value) (right_value : FlowModel → Value)
+    → Evaluates found behind_left m left left_at left_value
+    → Evaluates behind_left behind_right m right right_at (right_value m)
+    → Evaluates behind_right now m typed at (operator_row rows kind span right.at compared (reported m left) (reported m right))
+    → Evaluates found now m typed at (operator_row rows kind span right_at compared left_value (right_value left_value.after))
+operator_evaluates rows kind span compared found behind_left behind_right now m left right typed left_at right_at at left_value right_value l r e =
+    rw (← l.after_is, ← r.place_is, Evaluates-value l, Evaluates-value r)
+    (operator_behind rows span compared found now m left right typed at kind left_value.faults (right_value m).faults
+    (rw (← l.faults_are, ← r.faults_are) e))

@@ -1,0 +1,145 @@
+//! What operators give, once their sides are judged.
+
+ghost use Rattle.std.specs.Prelude.{◌≡◌, ◌++◌, IfOk, OnOk};
+ghost use Rattle.flow_model.specs.Flow.{FlowModel};
+ghost use Rattle.judgement.specs.Rows as row;
+ghost use Rattle.judgement.specs.Judgement as judgement;
+ghost use Rattle.resolve.specs.Judged.{Evaluates, at_branch, reported};
+
+use super::types::{
+    bool_type, fits, has_operators, int_type, invalid_type, is_invalid, is_never, is_null,
+    never_type,
+};
+use super::{Branch, Typed, report};
+use crate::names::NamesInScope;
+use dart_tree::{Expr, ExprNode, Operator, OperatorKind, Place, Span};
+use flow_model::{DartType, LocalId, Rows, is_subtype};
+use judgement::{DiagnosticCode, Fault};
+use std::alloc::AllocError;
+
+// An operator, from its sides and from the local that it compares with `null`.
+pub(super) fn judge_operator(
+    rows: &Rows,
+    at: Place,
+    operator: Operator,
+    compared: Option<LocalId>,
+    left: &Typed,
+    right: &Typed,
+    faults: &mut Vec<Fault>,
+) -> Result<Typed, AllocError>
+    ensures { IfOk result (λ typed. (m : FlowModel) → Evaluates faults.old.items faults.new.items m typed at (row.operator_row rows.now operator.kind operator.span right.now.at compared (reported m left.now) (reported m right.now))) }
+{
+    match operator.kind {
+        OperatorKind::Plus => {
+            let ty = judge_int_operator(rows, operator.span, int_type(), left, right, faults)?;
+            Ok(Typed::of(at, ty))
+        }
+        OperatorKind::Less => {
+            let ty = judge_int_operator(rows, operator.span, bool_type(), left, right, faults)?;
+            Ok(Typed::of(at, ty))
+        }
+        OperatorKind::NotEqual => {
+            let when_true = where_not_null(compared);
+            Ok(Typed {
+                at,
+                ty: bool_type(),
+                when_true,
+                when_false: Branch::Same,
+            })
+        }
+    }
+}
+
+// The type that an operator of int gives, whose result has the type `whole`: the left side must
+// have the operator, and the right side must be an int.
+fn judge_int_operator(
+    rows: &Rows,
+    span: Span,
+    whole: DartType,
+    left: &Typed,
+    right: &Typed,
+    faults: &mut Vec<Fault>,
+) -> Result<DartType, AllocError>
+    ensures ty { IfOk result (λ ty. ty ≡ row.result_type rows.now whole left.now.ty right.now.ty) }
+    ensures faults { OnOk result (faults.new.items ≡ faults.old.items ++ (row.receiver_faults span left.now.ty ++ row.argument_faults rows.now right.now.at left.now.ty right.now.ty)) }
+{
+    check_receiver(span, &left.ty, faults)?;
+    check_argument(rows, &left.ty, right, faults)?;
+    Ok(result_type(rows, whole, &left.ty, &right.ty))
+}
+
+// The type on the left must have the operator, and may not be one that has it null aside.
+fn check_receiver(span: Span, ty: &DartType, faults: &mut Vec<Fault>) -> Result<(), AllocError>
+    ensures { OnOk result (faults.new.items ≡ faults.old.items ++ row.receiver_faults span ty.now) }
+{
+    if ty.admits_null() && (has_operators(ty) || is_null(ty)) {
+        return report(span, DiagnosticCode::UncheckedNullableUse, faults);
+    }
+    if has_operators(ty) || is_invalid(ty) || is_never(ty) {
+        return Ok(());
+    }
+    report(span, DiagnosticCode::UndefinedOperator, faults)
+}
+
+// The right side of an operator that the type on the left has must be an int.
+fn check_argument(
+    rows: &Rows,
+    ty: &DartType,
+    argument: &Typed,
+    faults: &mut Vec<Fault>,
+) -> Result<(), AllocError>
+    ensures { OnOk result (faults.new.items ≡ faults.old.items ++ row.argument_faults rows.now argument.now.at ty.now argument.now.ty) }
+{
+    if !has_operators(ty) || fits(rows, &argument.ty, &int_type()) {
+        return Ok(());
+    }
+    report(argument.at.span, DiagnosticCode::ArgumentType, faults)
+}
+
+// The type of an operator's result: `whole` where both sides are right.
+fn result_type(rows: &Rows, whole: DartType, ty: &DartType, argument: &DartType) -> DartType
+    ensures { result ≡ row.result_type rows.now whole ty.now argument.now }
+{
+    if has_operators(ty) && is_subtype(rows, argument, &int_type()) {
+        return whole;
+    }
+    if is_never(ty) {
+        return never_type();
+    }
+    invalid_type()
+}
+
+// Where a local isn't null: what is known more there, if there is one.
+fn where_not_null(compared: Option<LocalId>) -> Branch
+    ensures { (m : FlowModel) → at_branch m result ≡ row.where_not_null compared m }
+{
+    match compared {
+        None => Branch::Same,
+        Some(var) => Branch::NotNull(var),
+    }
+}
+
+// The local that a comparison of these sides compares with the literal `null`.
+pub(super) fn compared_local(names: &NamesInScope, left: &Expr, right: &Expr) -> Option<LocalId>
+    ensures { result ≡ judgement.compared_local names.now left.now right.now }
+{
+    match &left.node {
+        ExprNode::Name { word, .. } => match &right.node {
+            ExprNode::Null { .. } => names.meaning(*word),
+            ExprNode::Name { .. } => None,
+            ExprNode::Integer { .. } => None,
+            ExprNode::Boolean { .. } => None,
+            ExprNode::Binary { .. } => None,
+        },
+        ExprNode::Null { .. } => match &right.node {
+            ExprNode::Name { word, .. } => names.meaning(*word),
+            ExprNode::Null { .. } => None,
+            ExprNode::Integer { .. } => None,
+            ExprNode::Boolean { .. } => None,
+            ExprNode::Binary { .. } => None,
+        },
+        ExprNode::Integer { .. } => None,
+        ExprNode::Boolean { .. } => None,
+        ExprNode::Binary { .. } => None,
+    }
+}
