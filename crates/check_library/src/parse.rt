@@ -28,6 +28,7 @@ const DEEPEST: u32 = 200;
 pub enum Miss {
     /// The tokens begin with no such part.
     NoReading,
+    /// Want of memory.
     Memory,
 }
 

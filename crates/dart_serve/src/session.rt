@@ -1,10 +1,10 @@
 //! A session: what a client has given, and the replies to its requests.
 
-ghost use Rattle.std.specs.Prelude.{◌≡◌, nat_eq, codes, [], Some, IfOk, option_map, option_copied};
+ghost use Rattle.std.specs.Prelude.{◌≡◌, nat_eq, codes, Some, IfOk, option_map, option_copied};
 ghost use Rattle.std.specs.List.{ends_with};
 ghost use Rattle.serve_loop.specs.Event.{event_of, line as line_event};
 ghost use Rattle.proto_json.specs.Requests.{answer};
-ghost use Rattle.protocol_rules.specs.Turns.{at_start, invalid_turn, update_turn, analyzed, errors_body, errors_turn, asked_turn, request_turn, bytes_of};
+ghost use Rattle.protocol_rules.specs.Turns.{at_start, invalid_turn, update_turn, analyzed, errors_turn, asked_turn, request_turn, bytes_of};
 ghost use Rattle.dart_serve.specs.Said.{Gives, Answered};
 
 use check_library::check;

@@ -22,8 +22,8 @@ use std::alloc::{AllocError, Global};
 
 /// The diagnostics of a unit, in the order in which its statements are judged. A name costs the
 /// logarithm of the names and of the locals in scope. A branch and a loop copy what is known of the
-/// locals; a loop goes through its body once before it is judged, and for each write there through
-/// the locals.
+/// locals; a loop goes through its body once before it is judged, and each write there costs these
+/// logarithms too.
 pub fn judge_unit(alloc: Global, unit: &Unit) -> Result<Vec<Fault>, AllocError>
     ensures { IfOk result (λ faults. faults.items ≡ faults_of no_rows unit.now) }
 {
