@@ -1,0 +1,3 @@
+pub mod Told
+pub mod NoFaults
+pub mod Clauses
