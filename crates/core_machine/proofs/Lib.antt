@@ -1,0 +1,5 @@
+pub mod TypeLemmas
+pub mod SlotLemmas
+pub mod RowLemmas
+pub mod Soundness
+pub mod RunLemmas
