@@ -60,7 +60,8 @@ impl NamesInScope {
 
     /// A block of these statements begins: its names mean what it declares, from its beginning on,
     /// and of a word that is declared twice the first declaration. The answer is what `leave` wants
-    /// where the block ends. Each declaration costs the logarithm of the number of words.
+    /// where the block ends. Each declaration costs the logarithm of the number of words. After an
+    /// `Err` some of its names may be in.
     pub fn enter(&mut self, alloc: Global, statements: &[Stmt]) -> Result<Vec<Shadowed>, AllocError>
         ensures names { OnOk result (self.new ≡ names_within self.old (trees_of statements.now)) }
         ensures undone { IfOk result (λ shadowed. undone self.new shadowed.items ≡ self.old) }
@@ -73,6 +74,7 @@ impl NamesInScope {
     }
 
     /// A block ends, which hid these meanings: they are put back, those that were hidden last first.
+    /// Each costs the logarithm of the number of words. After an `Err` some may not be back.
     pub fn leave(&mut self, mut shadowed: Vec<Shadowed>) -> Result<(), AllocError>
         ensures { OnOk result (self.new ≡ undone self.old shadowed.items) }
     {
