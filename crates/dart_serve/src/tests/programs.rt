@@ -522,7 +522,7 @@ const INTEGERS: [(&str, &str); 9] = [
 ];
 
 /// Texts that are no unit.
-const OTHER_TEXTS: [(&str, &str); 32] = [
+const OTHER_TEXTS: [(&str, &str); 36] = [
     ("void main(){if(true)print(1);}", "syntax_error@0+30"),
     (
         "void main(){if(true){}else if(true){}}",
@@ -548,6 +548,10 @@ const OTHER_TEXTS: [(&str, &str); 32] = [
     ("void main(){int x,y;}", "syntax_error@0+21"),
     ("void main(){int x=y=1;}", "syntax_error@0+23"),
     ("void main(){print();}", "syntax_error@0+21"),
+    ("void main(){int x=print(1);}", "syntax_error@0+28"),
+    ("void main(){if(print(1)){}}", "syntax_error@0+27"),
+    ("void main(){print(print(1));}", "syntax_error@0+29"),
+    ("void main(){void x;}", "syntax_error@0+20"),
     ("void main(){;}", "syntax_error@0+14"),
     ("void main(){{}", "syntax_error@0+14"),
     ("void main(){}}", "syntax_error@0+14"),
