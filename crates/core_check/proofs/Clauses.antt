@@ -5,11 +5,11 @@ use Rattle.std.specs.Prelude.{flat_map, is_some, slice_get}
 use Rattle.flow_model.specs.Ty.{Ty, same_type}
 use Rattle.core_ir.specs.PointFacts.{PointFacts}
 use Rattle.core_ir.specs.Program.{Program}
-use Rattle.core_ir.specs.Values.{declared_of}
+use Rattle.core_ir.specs.Values.{declared_of, declared_at}
 use Rattle.core_ir.specs.declared.facts.SlotFact.{SlotFact}
 use Rattle.core_ir.specs.declared.points.Operand.{Operand}
 use Rattle.core_ir.specs.declared.points.Term.{Term}
-use Rattle.core_check.specs.Known.{declared_at, point_at, facts_at, known_of, is_shared, held_type, operand_type, is_assigned}
+use Rattle.core_check.specs.Known.{point_at, facts_at, known_of, is_shared, held_type, operand_type, is_assigned}
 use Rattle.core_check.specs.Tables.{Stored, Asked, Way, reads, stores, asks, ways}
 use Rattle.core_check.specs.Accepted.{SlotImplies, Leads, IsFine, IsFresh, IsEntry, IsFineAt}
 use Rattle.core_check.specs.Faults.{Fault, SlotPart, of_assigned, of_type, of_shared, unless, unless_below, of_slots, slot_faults, way_faults, next_faults, term_faults, is_fresh, entry_faults, faults_at}

@@ -3,7 +3,8 @@ use Rattle.std.proofs.Common.{◌≡◌, ℕ, zero, suc, ◌<◌, List, [], ◌�
 use Rattle.std.specs.Prelude.{flat_map, Result, Ok, Err, IsErrAnd}
 use Rattle.core_ir.specs.PointFacts.{PointFacts}
 use Rattle.core_ir.specs.Program.{Program}
-use Rattle.core_check.specs.Known.{declared_at, facts_at, known_of}
+use Rattle.core_ir.specs.Values.{declared_at}
+use Rattle.core_check.specs.Known.{facts_at, known_of}
 use Rattle.core_check.specs.Tables.{Way}
 use Rattle.core_check.specs.Faults.{Fault, SlotPart, of_slots, slot_faults, way_faults, unless, is_fresh, entry_faults}
 use Rattle.core_check.specs.declared.misses.Miss.{Miss}

@@ -5,10 +5,10 @@ use Rattle.flow_model.specs.Sub.{sub}
 use Rattle.flow_model.specs.declared.subtyping.Rows.{Rows}
 use Rattle.core_ir.specs.PointFacts.{PointFacts}
 use Rattle.core_ir.specs.Program.{Program}
-use Rattle.core_ir.specs.Values.{declared_of}
+use Rattle.core_ir.specs.Values.{declared_of, declared_at}
 use Rattle.core_ir.specs.declared.facts.SlotFact.{SlotFact}
 use Rattle.core_ir.specs.declared.points.Term.{Term}
-use Rattle.core_check.specs.Known.{declared_at, point_at, facts_at, known_of, is_shared, held_type, operand_type, is_assigned}
+use Rattle.core_check.specs.Known.{point_at, facts_at, known_of, is_shared, held_type, operand_type, is_assigned}
 use Rattle.core_check.specs.Tables.{Way, reads, stores, asks, ways}
 
 -- a part of a clause that fails: the type that it asks for and the one that it finds

@@ -13,10 +13,6 @@ use Rattle.core_ir.specs.declared.points.Operand.{Operand}
 use Rattle.core_ir.specs.declared.points.Operand.TheVariants.{Slot, Constant}
 use Rattle.core_ir.specs.declared.points.Term.TheVariants.{End}
 
--- the declared type of the slot with the number i
-abbrev pub declared_at : Program → ℕ → Ty
-declared_at p i = slice_index_or p.slots i invalid
-
 -- what stands for a point past the last one
 abbrev pub no_point : Point
 no_point = record { source = None; facts = 0; term = End }

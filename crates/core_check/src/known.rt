@@ -2,7 +2,8 @@
 
 ghost use Rattle.std.specs.Prelude.{◌≡◌, ◌<◌, length};
 ghost use Rattle.core_check.specs.WellFormed.{IsOperand, IsTerm, IsWellFormed};
-ghost use Rattle.core_check.specs.Known.{declared_at, facts_at, known_of, point_at, is_assigned, operand_type};
+ghost use Rattle.core_ir.specs.Values.{declared_at};
+ghost use Rattle.core_check.specs.Known.{facts_at, known_of, point_at, is_assigned, operand_type};
 ghost use Rattle.core_check.specs.Checks.{Knows};
 
 use crate::context::Context;

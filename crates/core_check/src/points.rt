@@ -2,7 +2,8 @@
 
 ghost use Rattle.std.specs.Prelude.{◌≡◌, ◌<◌, ℕ, [], nat_eq, if◌then◌else◌, OnOk, IfErr, length};
 ghost use Rattle.core_check.specs.WellFormed.{IsTerm, IsWellFormed};
-ghost use Rattle.core_check.specs.Known.{declared_at, known_of};
+ghost use Rattle.core_ir.specs.Values.{declared_at};
+ghost use Rattle.core_check.specs.Known.{known_of};
 ghost use Rattle.core_check.specs.Accepted.{IsAccepted};
 ghost use Rattle.core_check.specs.Faults.{unless, is_fresh, entry_faults, term_faults, faults_at};
 ghost use Rattle.core_check.specs.Checks.{Tells};

@@ -2,7 +2,8 @@
 
 ghost use Rattle.std.specs.Prelude.{◌≡◌, ◌<◌, map, flat_map, All, length};
 ghost use Rattle.core_check.specs.WellFormed.{IsPoint, IsWellFormed};
-ghost use Rattle.core_check.specs.Known.{declared_at, facts_at, known_of};
+ghost use Rattle.core_ir.specs.Values.{declared_at};
+ghost use Rattle.core_check.specs.Known.{facts_at, known_of};
 ghost use Rattle.core_check.specs.Faults.{slot_faults, way_faults, next_faults, unless};
 ghost use Rattle.core_check.specs.Checks.{Knows, Tells, known_after, way_of, part_of};
 

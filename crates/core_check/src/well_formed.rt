@@ -7,6 +7,9 @@ ghost use Rattle.core_check.specs.WellFormed.{IsSlot, IsOperand, IsPoint, IsTerm
 
 use core_ir::{CoreProgram, Operand, Point, PointId, SlotId, Term};
 
+/// The most points of a program: a point's number has 32 bits.
+const MOST_POINTS: usize = 1 << 32;
+
 // Whether the program has this slot.
 fn is_slot(program: &CoreProgram, slot: SlotId) -> bool
     ensures { IsTrue result ↔ IsSlot program.now slot }
@@ -151,5 +154,5 @@ pub fn is_well_formed(program: &CoreProgram) -> bool
     ensures { IsTrue result ↔ IsWellFormed program.now }
 {
     let count = program.points.len();
-    count > 0 && count <= 4_294_967_296 && facts_are_wide(program) && points_are_in(program)
+    count > 0 && count <= MOST_POINTS && facts_are_wide(program) && points_are_in(program)
 }

@@ -1,5 +1,5 @@
 -- Values and slots, and their types.
-use Rattle.std.specs.Prelude.{Bool, slice_index_or}
+use Rattle.std.specs.Prelude.{ℕ, Bool, slice_index_or}
 use Rattle.flow_model.specs.Ty.{Ty, invalid, null, int, bool}
 use Rattle.flow_model.specs.Sub.{sub}
 use Rattle.flow_model.specs.declared.subtyping.Rows.{Rows}
@@ -18,6 +18,10 @@ type_of (Boolean b) = bool
 abbrev pub has : Rows → Value → Ty → Bool
 has rows v t = sub rows (type_of v) t
 
+-- the declared type of the slot with the number i
+abbrev pub declared_at : Program → ℕ → Ty
+declared_at p i = slice_index_or p.slots i invalid
+
 -- the declared type of a slot
 abbrev pub declared_of : Program → SlotId → Ty
-declared_of p slot = slice_index_or p.slots slot.0 invalid
+declared_of p slot = declared_at p slot.0

@@ -6,11 +6,11 @@ use Rattle.std.proofs.lemmas.List.{get_or-set_same, get_or-set_other, length-set
 use Rattle.flow_model.specs.Ty.{Ty}
 use Rattle.core_ir.specs.PointFacts.{PointFacts}
 use Rattle.core_ir.specs.Program.{Program}
-use Rattle.core_ir.specs.Values.{has, declared_of}
+use Rattle.core_ir.specs.Values.{has, declared_of, declared_at}
 use Rattle.core_ir.specs.declared.facts.SlotFact.{SlotFact}
 use Rattle.core_ir.specs.declared.points.SlotId.{SlotId}
 use Rattle.core_ir.specs.declared.values.Value.{Value}
-use Rattle.core_check.specs.Known.{declared_at, known_of, held_type}
+use Rattle.core_check.specs.Known.{known_of, held_type}
 use Rattle.core_check.specs.Tables.{changed}
 use Rattle.core_check.specs.Accepted.{SlotImplies}
 use Rattle.core_machine.specs.Steps.{Slots}

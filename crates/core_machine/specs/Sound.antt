@@ -3,10 +3,10 @@ use Rattle.std.specs.Prelude.{◌≡◌, ℕ, ◌<◌, IsTrue, All, List, [], �
 use Rattle.flow_model.specs.Ty.{Ty}
 use Rattle.flow_model.specs.declared.subtyping.Rows.{Rows}
 use Rattle.core_ir.specs.Program.{Program}
-use Rattle.core_ir.specs.Values.{has}
+use Rattle.core_ir.specs.Values.{has, declared_at}
 use Rattle.core_ir.specs.declared.facts.SlotFact.{SlotFact}
 use Rattle.core_ir.specs.declared.values.Value.{Value}
-use Rattle.core_check.specs.Known.{declared_at, facts_at, known_of, held_type}
+use Rattle.core_check.specs.Known.{facts_at, known_of, held_type}
 use Rattle.core_machine.specs.Steps.{Slots}
 use Rattle.core_machine.specs.State.{FrameState}
 

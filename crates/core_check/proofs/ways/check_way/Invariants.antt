@@ -1,5 +1,6 @@
 use Rattle.std.proofs.Common.{◌≡◌, []}
-use Rattle.core_check.specs.Known.{declared_at, known_of}
+use Rattle.core_ir.specs.Values.{declared_at}
+use Rattle.core_check.specs.Known.{known_of}
 use Rattle.core_check.specs.Faults.{of_slots, slot_faults}
 use Rattle.core_check.specs.Checks.{known_after, part_of}
 use Rattle.core_check.proofs.ways.check_way.Given as goal
