@@ -2,11 +2,15 @@
 //!
 //! For an expression these are its static type and its diagnostics, for a statement what is known
 //! after it and its diagnostics: one row of a table for each form (`specs/Rows.antt`), and the
-//! recursion over trees that cites them (`specs/Judgement.antt`). The rules are those of the Dart
-//! specification and its null safety, restated in docs/LANGUAGE.md. The crate has these definitions
-//! and the plain types of what they say; it stands on the trees and the flow models, and the checker
-//! proves its code against it.
+//! recursion over trees that cites them (`specs/Judgement.antt`). The typed tree lists what they say
+//! of each node (`specs/Typed.antt`). The rules are those of the Dart specification and its null
+//! safety, restated in docs/LANGUAGE.md. The crate has these definitions and the plain types of what
+//! they say; it stands on the trees and the flow models, and the checker proves its code against it.
 #![tactic(auto)]
+
+mod typed;
+
+pub use typed::{Branch, TypedNode};
 
 use dart_tree::Span;
 
