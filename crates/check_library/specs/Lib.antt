@@ -7,3 +7,4 @@ pub mod Grammar
 pub mod Descents
 pub mod Order
 pub mod Diagnostics
+pub mod Checked

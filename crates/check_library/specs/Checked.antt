@@ -1,0 +1,21 @@
+-- What the check of a text gives.
+use Rattle.std.specs.Prelude.{◌≡◌, ◌≤◌, ℕ, List, [], length}
+use Rattle.std.specs.Option.{option_map_or}
+use Rattle.flow_model.specs.Sub.{no_rows}
+use Rattle.judgement.specs.NodeFacts.{NodeFacts}
+use Rattle.judgement.specs.Typed.{typed_unit}
+use Rattle.check_library.specs.Tokens.{text_limit}
+use Rattle.check_library.specs.Grammar.{tree_of}
+use Rattle.check_library.specs.Diagnostics.{diagnostics}
+use Rattle.check_library.specs.declared.library.Checked.{Checked}
+
+-- the typed tree of a text: none where the text is no unit
+abbrev pub typed_tree : List ℕ → List NodeFacts
+typed_tree text = option_map_or (typed_unit no_rows) (tree_of text) []
+
+-- this is what the check of a text gives: its tree, what is said of each node, and its diagnostics
+pub record IsCheckOf (text : List ℕ) (checked : Checked) : Type 0 where
+  pub short : length text ≤ text_limit
+  pub unit : checked.unit ≡ tree_of text
+  pub typed : checked.typed.items ≡ typed_tree text
+  pub diagnostics : checked.diagnostics ≡ diagnostics text
