@@ -1,0 +1,140 @@
+-- The slots of a program: one for each local, and temporaries for the values of operators.
+use Rattle.std.specs.Prelude.{ℕ, ◌+◌, max, Bool, List, [], ◌∷◌, ◌++◌, map, length, nat_eq}
+use Rattle.std.specs.List.{range_with_len, position_or_len}
+use Rattle.dart_tree.specs.Tree.{Tree, Trees, Part, no_more, more, absent, present, binary, declare, assign, eval, print, if_statement, while_statement, block, function, unit}
+use Rattle.dart_tree.specs.declared.nodes.OperatorKind.{OperatorKind}
+use Rattle.dart_tree.specs.declared.nodes.OperatorKind.TheVariants.{Plus, Less, NotEqual}
+use Rattle.flow_model.specs.Ty.{Ty, int, bool}
+use Rattle.flow_model.specs.declared.locals.LocalId.{LocalId}
+use Rattle.judgement.specs.Names.{local_of}
+use Rattle.judgement.specs.Judgement.{type_of}
+use Rattle.core_ir.specs.declared.points.SlotId.{SlotId}
+
+-- a local and its declared type
+pub record Local : Type 0 where
+  pub var : LocalId
+  pub ty : Ty
+
+-- a temporary: its type, and how many values of other operators are held where it is written
+pub record Temporary : Type 0 where
+  pub ty : Ty
+  pub height : ℕ
+
+-- what a slot is for
+pub data Purpose : Type 0 where
+  of_local : Local → Purpose
+  of_temporary : Temporary → Purpose
+
+-- the locals of a program, and how many values of operators it holds at once at most
+pub record Frame : Type 0 where
+  pub locals : List Local
+  pub height : ℕ
+
+abbrev mutual
+  -- the locals that a tree declares, in reading order
+  pub locals_in : Tree → List Local
+  locals_in (declare at declared variable initial) = record { var = local_of variable; ty = type_of declared } ∷ []
+  locals_in (if_statement at condition then_block else_block) = locals_in then_block ++ locals_in_part else_block
+  locals_in (while_statement at condition body) = locals_in body
+  locals_in (block at statements) = locals_in_all statements
+  locals_in (function at body) = locals_in body
+  locals_in (unit at main) = locals_in main
+  locals_in _ = []
+
+  -- those that trees declare, one after another
+  pub locals_in_all : Trees → List Local
+  locals_in_all no_more = []
+  locals_in_all (more first rest) = locals_in first ++ locals_in_all rest
+
+  -- those that a part declares
+  pub locals_in_part : Part → List Local
+  locals_in_part absent = []
+  locals_in_part (present tree) = locals_in tree
+
+-- how many values an expression leaves held: that of an operator is held in a temporary, that of any other expression isn't
+abbrev pub holds : Tree → ℕ
+holds (binary at operator left right) = 1
+holds _ = 0
+
+-- how many values an expression holds at once at most: the right side is evaluated while that of the left side is held
+abbrev pub value_height : Tree → ℕ
+value_height (binary at operator left right) = max 1 (max (value_height left) (holds left + value_height right))
+value_height _ = 0
+
+-- how many a part holds that is an expression
+abbrev pub initial_height : Part → ℕ
+initial_height absent = 0
+initial_height (present value) = value_height value
+
+abbrev mutual
+  -- how many values a tree holds at once at most
+  pub height_of : Tree → ℕ
+  height_of (declare at declared variable initial) = initial_height initial
+  height_of (assign at target value) = value_height value
+  height_of (eval at value) = value_height value
+  height_of (print at value) = value_height value
+  height_of (if_statement at condition then_block else_block) = max (value_height condition) (max (height_of then_block) (height_of_part else_block))
+  height_of (while_statement at condition body) = max (value_height condition) (height_of body)
+  height_of (block at statements) = height_of_all statements
+  height_of (function at body) = height_of body
+  height_of (unit at main) = height_of main
+  height_of _ = 0
+
+  -- how many trees hold, one after another
+  pub height_of_all : Trees → ℕ
+  height_of_all no_more = 0
+  height_of_all (more first rest) = max (height_of first) (height_of_all rest)
+
+  -- how many a part holds
+  pub height_of_part : Part → ℕ
+  height_of_part absent = 0
+  height_of_part (present tree) = height_of tree
+
+-- the frame of a program
+abbrev pub frame_of : Tree → Frame
+frame_of tree = record { locals = locals_in tree; height = height_of tree }
+
+-- the temporaries of a type, by their heights
+abbrev pub temporaries_of : Ty → ℕ → List Purpose
+temporaries_of ty height = map (λ h. of_temporary (record { ty = ty; height = h })) (range_with_len 0 height)
+
+-- what the slots are for, in their order: the locals, the temporaries of type int, and those of type bool
+abbrev pub purposes : Frame → List Purpose
+purposes frame = map of_local frame.locals ++ (temporaries_of int frame.height ++ temporaries_of bool frame.height)
+
+-- the declared type of a slot
+abbrev pub type_for : Purpose → Ty
+type_for (of_local local) = local.ty
+type_for (of_temporary temporary) = temporary.ty
+
+-- the declared types of the slots
+abbrev pub slot_types : Frame → List Ty
+slot_types frame = map type_for (purposes frame)
+
+-- whether this is the local
+abbrev pub is_local : LocalId → Local → Bool
+is_local var local = nat_eq local.var.0 var.0
+
+-- the slot of a local
+abbrev pub slot_of : Frame → LocalId → SlotId
+slot_of frame var = record { 0 = position_or_len (is_local var) frame.locals }
+
+-- the type of an operator's value
+abbrev pub type_of_result : OperatorKind → Ty
+type_of_result Plus = int
+type_of_result Less = bool
+type_of_result NotEqual = bool
+
+-- the temporary for the value of an operator
+abbrev pub temporary_for : OperatorKind → ℕ → Temporary
+temporary_for operator height = record { ty = type_of_result operator; height = height }
+
+-- how many temporaries stand before those of an operator's type
+abbrev pub temporaries_before : Frame → OperatorKind → ℕ
+temporaries_before frame Plus = 0
+temporaries_before frame Less = frame.height
+temporaries_before frame NotEqual = frame.height
+
+-- the slot for the value of an operator
+abbrev pub slot_for : Frame → OperatorKind → ℕ → SlotId
+slot_for frame operator height = record { 0 = length frame.locals + temporaries_before frame operator + height }

@@ -1,0 +1,6 @@
+-- The core program of a library.
+pub mod Frame
+pub mod Known
+pub mod Layout
+pub mod Elaborated
+pub mod Forms

@@ -1,0 +1,2 @@
+//! Elaboration: from a library without diagnostics to its core program.
+#![tactic(auto)]
