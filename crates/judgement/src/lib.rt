@@ -23,10 +23,14 @@ pub enum DiagnosticCode {
     ConditionNotBool,
     /// A name is declared again in one block.
     DuplicateDefinition,
+    /// The bytes of a file aren't UTF-8.
+    FileNotUtf8,
     /// A decimal literal past 2^63 - 1, or a hexadecimal one past 2^64 - 1.
     IntegerLiteralOutOfRange,
     /// A value hasn't the type of the variable that it is written to.
     InvalidAssignment,
+    /// A file has more than 4,194,304 bytes.
+    ProfileFileLength,
     /// A variable is named before its declaration.
     ReferencedBeforeDeclaration,
     /// The text is no unit of the grammar.
