@@ -1,0 +1,4 @@
+pub mod Claims
+pub mod Contexts
+pub mod Expressions
+pub mod Statements
