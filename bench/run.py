@@ -1,0 +1,129 @@
+#!/usr/bin/env python3
+"""How long runs take, and how much memory the core program of a text.
+
+    make bench                     builds the program and measures everything
+    bench/run.py [--binary PATH] [--runs N]
+
+There are two kinds of tables, with a line for each size and the slope under it, as in bench/check.py.
+
+    making  a text is checked and its core program made, and its steps are spent before the first (`--steps 0`):
+            statements, bytes of the text, seconds, the most memory that the program held, in MB
+    steps   a loop is run: steps, seconds, and steps a second
+
+Each figure is the fastest of some runs. Nothing fails on time. The status is 1 where a run doesn't end as it should.
+"""
+
+import argparse
+import os
+import subprocess
+import sys
+import tempfile
+import time
+from typing import Callable, List, NamedTuple, Tuple
+
+from check import BINARY, body, locals_in_a_block, loop_of_writes, mixed, slope
+
+
+class Ended(NamedTuple):
+    """How a run ended."""
+
+    seconds: float
+    megabytes: float
+    status: int
+    output: bytes
+
+
+def run_once(binary: str, text: str, steps: int) -> Ended:
+    """Runs a text for at most so many steps."""
+    with tempfile.TemporaryDirectory() as folder, tempfile.TemporaryFile() as sink:
+        path = os.path.join(os.path.realpath(folder), "main.dart")
+        with open(path, "w", encoding="utf-8") as file:
+            file.write(text)
+        start = time.perf_counter()
+        child = subprocess.Popen([binary, "run", path, "--steps", str(steps)], stdout=sink)
+        _, status, usage = os.wait4(child.pid, 0)
+        seconds = time.perf_counter() - start
+        child.returncode = os.waitstatus_to_exitcode(status)
+        sink.seek(0)
+        unit = 1 if sys.platform == "darwin" else 1024
+        return Ended(seconds, usage.ru_maxrss * unit / 1e6, child.returncode, sink.read())
+
+
+def best(binary: str, text: str, steps: int, runs: int) -> Ended:
+    """The fastest of some runs."""
+    return min((run_once(binary, text, steps) for _ in range(runs)), key=lambda ended: ended.seconds)
+
+
+def changes(statements: int) -> str:
+    """Assignments to 20 locals in turn, of which each changes what is known of its local."""
+    declared = [f"int? x{i};" for i in range(20)]
+    return body(declared + [f"x{i % 20} = {'null' if (i // 20) % 2 else i};" for i in range(statements - 20)])
+
+
+def counting(passes: int) -> str:
+    """A loop of so many passes, with four steps each."""
+    return body(["int i = 0;", f"while (i < {passes}) {{ i = i + 1; }}"])
+
+
+MAKING: Tuple[Tuple[str, str, Tuple[int, ...], Callable[[int], str]], ...] = (
+    ("mixed", "ifs, whiles, assignments and prints over 20 locals", (25_000, 50_000, 100_000), mixed),
+    ("changes", "assignments to 20 locals, each of which changes what is known", (25_000, 50_000, 100_000), changes),
+    ("loop", "one loop of writes to 20 locals", (25_000, 50_000, 100_000), loop_of_writes),
+    ("locals", "one block of locals, each declared, assigned and read", (500, 1_000, 2_000), locals_in_a_block),
+)
+
+PASSES = (200_000, 400_000, 800_000)
+
+SPENT = b"steps spent\n"
+
+
+def making(binary: str, runs: int) -> bool:
+    """Prints the tables of core programs that are made; false where a run went wrong."""
+    right = True
+    for name, about, sizes, text_of in MAKING:
+        print(f"\nmaking, {name}: {about}\n{'statements':>12} {'bytes':>10} {'seconds':>9} {'MB':>7}")
+        points: List[Tuple[int, float]] = []
+        for size in sizes:
+            text = text_of(size)
+            ended = best(binary, text, 0, runs)
+            if (ended.status, ended.output) == (5, SPENT):
+                points.append((size, ended.seconds))
+                print(f"{size:>12} {len(text):>10} {ended.seconds:>9.3f} {ended.megabytes:>7.0f}", flush=True)
+            else:
+                right = False
+                print(f"{size:>12} {len(text):>10} WRONG: status {ended.status}, {ended.output[:80]!r}", flush=True)
+        print(f"{'slope':>12} {'':>10} {slope(points):>9}", flush=True)
+    return right
+
+
+def stepping(binary: str, runs: int) -> bool:
+    """Prints the table of steps; false where a run went wrong."""
+    right = True
+    print(f"\nsteps: a loop that counts\n{'steps':>12} {'seconds':>9} {'a second':>12}")
+    points: List[Tuple[int, float]] = []
+    for passes in PASSES:
+        steps = 5 * passes + 5
+        ended = best(binary, counting(passes), steps, runs)
+        if ended.status == 0:
+            points.append((steps, ended.seconds))
+            print(f"{steps:>12} {ended.seconds:>9.3f} {steps / ended.seconds:>12.0f}", flush=True)
+        else:
+            right = False
+            print(f"{steps:>12} WRONG: status {ended.status}, {ended.output[:80]!r}", flush=True)
+    print(f"{'slope':>12} {slope(points):>9}", flush=True)
+    return right
+
+
+def main() -> int:
+    words = argparse.ArgumentParser(description=__doc__.split("\n")[0])
+    words.add_argument("--binary", default=BINARY, metavar="PATH", help="the program; else the one that `make bench` builds")
+    words.add_argument("--runs", type=int, default=3, metavar="N", help="runs a figure, of which the fastest counts")
+    given = words.parse_args()
+    if not os.path.isfile(given.binary):
+        words.error(f"no program at {given.binary}: `make bench` builds it")
+    right = [making(given.binary, given.runs), stepping(given.binary, given.runs)]
+    return 0 if all(right) else 1
+
+
+if __name__ == "__main__":
+    sys.exit(main())
