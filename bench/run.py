@@ -61,7 +61,7 @@ def changes(statements: int) -> str:
 
 
 def counting(passes: int) -> str:
-    """A loop of so many passes, with four steps each."""
+    """A loop of so many passes, with five steps each."""
     return body(["int i = 0;", f"while (i < {passes}) {{ i = i + 1; }}"])
 
 
