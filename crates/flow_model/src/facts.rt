@@ -1,6 +1,6 @@
 //! What is read of the facts of one local, and what writes and tests do to them.
 
-ghost use Rattle.std.specs.Prelude.{◌≡◌, ◌++◌, ◌∷◌, [], false, ◌&&◌, IfOk, OnOk, OnErr, MatchOption, filter};
+ghost use Rattle.std.specs.Prelude.{◌≡◌, ◌++◌, ◌∷◌, [], false, ◌&&◌, IfOk, OnOk, OnErr, MatchOption, IsTrue, ◌↔◌, filter};
 ghost use Rattle.std.specs.List.{list_all};
 ghost use Rattle.flow_model.specs.Sub.{sub, proper_sub};
 ghost use Rattle.flow_model.specs.Flow.{current_of, last_or, fresh_facts};
@@ -41,6 +41,19 @@ impl Facts {
             unassigned: self.unassigned,
             captured: self.captured,
         })
+    }
+
+    /// Whether both are the same facts.
+    pub(crate) fn is_same(&self, other: &Facts) -> bool
+        ensures { IsTrue result ↔ (self.now ≡ other.now) }
+    {
+        self.var == other.var
+            && self.ty.is_same(&other.ty)
+            && self.chain.is_same(&other.chain)
+            && self.tested.is_same(&other.tested)
+            && self.assigned == other.assigned
+            && self.unassigned == other.unassigned
+            && self.captured == other.captured
     }
 
     /// The current type: the last that the local was promoted to, else the declared one.

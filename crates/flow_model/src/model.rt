@@ -1,6 +1,6 @@
 //! Flow models and the calls that change them.
 
-ghost use Rattle.std.specs.Prelude.{◌≡◌, ◌∷◌, [], false, IfOk, IfErr, OnOk, OnErr, IsSome, IsNone, is_some};
+ghost use Rattle.std.specs.Prelude.{◌≡◌, ◌∷◌, [], false, IfOk, IfErr, OnOk, OnErr, IsSome, IsNone, IsTrue, ◌↔◌, is_some};
 ghost use Rattle.std.specs.Option.{option_copied, option_map, option_map_or};
 ghost use Rattle.flow_model.specs.Flow.{at_local, current_of, facts_of, declare_of, start_of, end_of, AreDistinct, IsInOrder};
 ghost use Rattle.flow_model.specs.Assign.{assign_facts};
@@ -259,6 +259,13 @@ impl Flow {
         })
     }
 
+    /// Whether both are the same model. It compares what is known of each local.
+    pub fn is_same(&self, other: &Flow) -> bool
+        ensures { IsTrue result ↔ (self.now ≡ other.now) }
+    {
+        self.reachable == other.reachable && have_same_facts(&self.locals, &other.locals)
+    }
+
     // Forgets what code that writes the local could change.
     fn forget_written(&mut self, var: LocalId)
         ensures { self.new ≡ conservative_of self.old (var ∷ []) [] }
@@ -297,4 +304,19 @@ impl Flow {
         self.locals
             .binary_search_by_key(&var.0, |facts| facts.var.0)
     }
+}
+
+// Whether both lists have the same facts, in the same order.
+fn have_same_facts(locals: &[Facts], others: &[Facts]) -> bool
+    ensures { IsTrue result ↔ (locals.now ≡ others.now) }
+{
+    if locals.len() != others.len() {
+        return false;
+    }
+    for i in 0..locals.len() {
+        if !locals[i].is_same(&others[i]) {
+            return false;
+        }
+    }
+    true
 }

@@ -72,7 +72,9 @@ fn writes_promote_and_demote(rt: HostRuntime) -> Result<(), Fail> {
     flow.declare(alloc, &other)?;
     let mut after = flow.copy(alloc)?;
     assert!(rt; after.is_in_scope(x));
+    assert!(rt; after.is_same(&flow));
     after.assign(alloc, &rows, x, &plain(TypeNode::Null))?;
+    assert!(rt; !after.is_same(&flow));
     let demoted = after.current(x).ok_or("not in scope")?;
     assert!(rt; demoted.is_same(&maybe_int(alloc)?));
     let kept = flow.current(x).ok_or("not in scope")?;

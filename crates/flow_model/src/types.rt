@@ -208,6 +208,13 @@ impl TypeList {
         false
     }
 
+    /// Whether both are lists of the same types, in the same order.
+    pub fn is_same(&self, other: &TypeList) -> bool
+        ensures { IsTrue result ↔ (self.now ≡ other.now) }
+    {
+        have_same_types(&self.items, &other.items)
+    }
+
     /// A second list of the same types.
     pub fn copy(&self, alloc: Global) -> Result<TypeList, AllocError>
         ensures { IfOk result (λ copied. copied ≡ self.now) }
@@ -218,4 +225,19 @@ impl TypeList {
         }
         Ok(TypeList { items: copies })
     }
+}
+
+// Whether both have the same types, in the same order.
+fn have_same_types(types: &[DartType], others: &[DartType]) -> bool
+    ensures { IsTrue result ↔ (types.now ≡ others.now) }
+{
+    if types.len() != others.len() {
+        return false;
+    }
+    for i in 0..types.len() {
+        if !types[i].is_same(&others[i]) {
+            return false;
+        }
+    }
+    true
 }
