@@ -1,5 +1,6 @@
 pub mod Ahead
 pub mod Blocks
+pub mod Ends
 pub mod Meanings
 pub mod Operators
 pub mod Shadowing

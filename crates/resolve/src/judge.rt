@@ -1,6 +1,7 @@
-//! The judge: the diagnostics of a unit, one function for each row of the judgement.
+//! The judge: what the judgement says of a unit, one function for each row of the judgement.
 
 mod expressions;
+mod models;
 mod operators;
 mod statements;
 mod types;
@@ -11,51 +12,68 @@ ghost use Rattle.std.specs.Prelude.{◌≡◌, ◌++◌, IfOk, OnOk};
 ghost use Rattle.flow_model.specs.Sub.{no_rows};
 ghost use Rattle.judgement.specs.Rows.{fault_over};
 ghost use Rattle.judgement.specs.Judgement.{faults_of};
-ghost use Rattle.resolve.specs.Judged.{at_branch};
+ghost use Rattle.judgement.specs.Typed.{typed_unit};
 
 use crate::names::NamesInScope;
 use dart_tree::{Block, Function, Place, Span, Unit};
-use flow_model::{DartType, Flow, LocalId, Rows};
-use judgement::{DiagnosticCode, Fault};
+use flow_model::{DartType, Flow, Rows};
+use judgement::{Branch, DiagnosticCode, Fault, TypedNode};
 use statements::judge_block;
 use std::alloc::{AllocError, Global};
+use std::rc::Rc;
 
-/// The diagnostics of a unit, in the order in which its statements are judged. A name costs the
-/// logarithm of the names and of the locals in scope. A branch and a loop copy what is known of the
-/// locals; a loop goes through its body once before it is judged, and each write there costs these
-/// logarithms too.
-pub fn judge_unit(alloc: Global, unit: &Unit) -> Result<Vec<Fault>, AllocError>
-    ensures { IfOk result (λ faults. faults.items ≡ faults_of no_rows unit.now) }
-{
-    let faults = judge_main(alloc, &unit.main)?;
-    Ok(faults)
+/// What the judgement says of a unit.
+#[derive(Drop)]
+pub struct Judged {
+    /// Its diagnostics, in the order in which its statements are judged.
+    pub faults: Vec<Fault>,
+    /// Its typed tree: the nodes of its function's body, those in a node before it.
+    pub nodes: Vec<TypedNode>,
 }
 
-// The diagnostics of the function of a unit.
-fn judge_main(alloc: Global, main: &Function) -> Result<Vec<Fault>, AllocError>
-    ensures { IfOk result (λ faults. faults.items ≡ faults_of no_rows main.now) }
+/// The diagnostics of a unit and its typed tree. A name costs the logarithm of the names and of the
+/// locals in scope. What changes what is known of the locals copies it, once; what leaves it as it
+/// was shares it. A loop goes through its body once before it is judged, and each write there costs
+/// these logarithms too.
+pub fn judge_unit(alloc: Global, unit: &Unit) -> Result<Judged, AllocError>
+    ensures faults { IfOk result (λ judged. judged.faults.items ≡ faults_of no_rows unit.now) }
+    ensures nodes { IfOk result (λ judged. judged.nodes.items ≡ typed_unit no_rows unit.now) }
 {
-    let faults = judge_body(alloc, &main.body)?;
-    Ok(faults)
+    let judged = judge_main(alloc, &unit.main)?;
+    Ok(judged)
 }
 
-// The diagnostics of its body, where no name means anything yet and nothing is known.
-fn judge_body(alloc: Global, body: &Block) -> Result<Vec<Fault>, AllocError>
-    ensures { IfOk result (λ faults. faults.items ≡ faults_of no_rows body.now) }
+// What is said of the function of a unit.
+fn judge_main(alloc: Global, main: &Function) -> Result<Judged, AllocError>
+    ensures faults { IfOk result (λ judged. judged.faults.items ≡ faults_of no_rows main.now) }
+    ensures nodes { IfOk result (λ judged. judged.nodes.items ≡ typed_unit no_rows main.now) }
+{
+    let judged = judge_body(alloc, &main.body)?;
+    Ok(judged)
+}
+
+// What is said of its body, where no name means anything yet and nothing is known.
+fn judge_body(alloc: Global, body: &Block) -> Result<Judged, AllocError>
+    ensures faults { IfOk result (λ judged. judged.faults.items ≡ faults_of no_rows body.now) }
+    ensures nodes { IfOk result (λ judged. judged.nodes.items ≡ typed_unit no_rows body.now) }
 {
     let rows = Rows::new();
     let context = Context { alloc, rows: &rows };
     let mut names = NamesInScope::new(alloc);
-    let mut flow = Flow::start(alloc, &[])?;
-    let mut faults = Vec::new(alloc);
+    let flow = Flow::start(alloc, &[])?;
+    let start = Rc::new(alloc, flow)?;
+    let faults = Vec::new(alloc);
+    let nodes = Vec::new(alloc);
+    let mut judged = Judged { faults, nodes };
     judge_block(
         context,
         &mut names,
+        body.at,
         &body.statements,
-        &mut flow,
-        &mut faults,
+        &start,
+        &mut judged,
     )?;
-    Ok(faults)
+    Ok(judged)
 }
 
 /// What all of a unit is judged with: the allocator, and the classes of the program.
@@ -65,51 +83,26 @@ struct Context<'a> {
     rows: &'a Rows,
 }
 
-/// What is known more where an expression is true, or where it is false, than after it.
-#[derive(Clone, Copy)]
-enum Branch {
-    /// Nothing.
-    Same,
-    /// That it is never so: nothing is reached there.
-    Unreached,
-    /// That this local isn't null.
-    NotNull(LocalId),
-}
-
-impl Branch {
-    // Takes the model after the expression to where the branch begins.
-    fn begin(self, alloc: Global, flow: &mut Flow) -> Result<(), AllocError>
-        ensures { OnOk result (flow.new ≡ at_branch flow.old self) }
-    {
-        match self {
-            Branch::Same => Ok(()),
-            Branch::Unreached => {
-                flow.exit();
-                Ok(())
-            }
-            Branch::NotNull(var) => flow.non_null(alloc, var),
-        }
-    }
-}
-
-/// An expression that was judged: where it stands, its static type, and what is known more where it
-/// is true and where it is false.
+/// An expression that was judged: where it stands, its static type, what is known after it, and what
+/// is known more where it is true and where it is false.
 #[derive(Drop)]
 struct Typed {
     at: Place,
     ty: DartType,
+    after: Rc<Flow>,
     when_true: Branch,
     when_false: Branch,
 }
 
 impl Typed {
     // An expression of the type, which says no more where it is true or false.
-    fn of(at: Place, ty: DartType) -> Typed
-        ensures { result ≡ record { at = at; ty = ty; when_true = Branch.Same; when_false = Branch.Same } }
+    fn of(at: Place, ty: DartType, after: Rc<Flow>) -> Typed
+        ensures { result ≡ record { at = at; ty = ty; after = after; when_true = Branch.Same; when_false = Branch.Same } }
     {
         Typed {
             at,
             ty,
+            after,
             when_true: Branch::Same,
             when_false: Branch::Same,
         }

@@ -2,47 +2,68 @@
 
 ghost use Rattle.std.specs.Prelude.{◌≡◌, IfOk};
 ghost use Rattle.dart_tree.specs.Places.{place_of};
-ghost use Rattle.flow_model.specs.Flow.{FlowModel, facts_of};
+ghost use Rattle.flow_model.specs.Flow.{facts_of};
 ghost use Rattle.judgement.specs.Rows as row;
 ghost use Rattle.judgement.specs.Judgement.{evaluate};
-ghost use Rattle.resolve.specs.Judged.{Evaluates, as_condition, reported};
+ghost use Rattle.judgement.specs.Typed.{named_by, said_of_value, typed_expression};
+ghost use Rattle.resolve.specs.Judged.{Evaluates, RowEvaluates, as_condition, reported, typed_operands};
 
 use super::operators::{compared_local, judge_operator};
 use super::types::{bool_type, fits, int_type, invalid_type, null_type};
-use super::{Branch, Context, Typed, report};
+use super::{Context, Judged, Typed, report};
 use crate::names::NamesInScope;
 use dart_tree::{Expr, ExprNode, IntegerLiteral, Place, Radix};
 use flow_model::{Flow, LocalId};
-use judgement::{DiagnosticCode, Fault};
+use judgement::{Branch, DiagnosticCode, Fault, TypedNode};
 use std::alloc::{AllocError, Global};
+use std::rc::Rc;
 
-// The type of an expression, what it says where it is true and false, and its diagnostics. No form
-// of an expression changes the model yet.
+// The type of an expression, what is known after it, and what it says where it is true and false; its
+// diagnostics, and what is said of its nodes.
+#[cycle(expression)]
 pub(super) fn judge_expression(
     context: Context,
     names: &NamesInScope,
     expression: &Expr,
-    flow: &Flow,
-    faults: &mut Vec<Fault>,
+    before: &Rc<Flow>,
+    found: &mut Judged,
 ) -> Result<Typed, AllocError>
-    ensures { IfOk result (λ typed. Evaluates faults.old.items faults.new.items flow.now typed (place_of expression.now) (evaluate context.entry.rows.now names.now expression.now flow.now)) }
+    ensures { IfOk result (λ typed. Evaluates found.old found.new typed (place_of expression.now) (evaluate context.entry.rows.now names.now expression.now before.now.value) (typed_expression context.entry.rows.now names.now expression.now before.now.value)) }
+{
+    let typed = judge_form(context, names, expression, before, found)?;
+    let said = said_of_expression(context.alloc, names, expression, before, &typed)?;
+    found.nodes.push(said)?;
+    Ok(typed)
+}
+
+// The same, but of its nodes only those in it. No form of an expression changes the model yet.
+#[cycle(expression)]
+fn judge_form(
+    context: Context,
+    names: &NamesInScope,
+    expression: &Expr,
+    before: &Rc<Flow>,
+    found: &mut Judged,
+) -> Result<Typed, AllocError>
+    ensures { IfOk result (λ typed. Evaluates found.old found.new typed (place_of expression.now) (evaluate context.entry.rows.now names.now expression.now before.now.value) (typed_operands context.entry.rows.now names.now expression.now before.now.value)) }
 {
     match &expression.node {
-        ExprNode::Name { at, word } => read_name(context.alloc, names, *at, *word, flow, faults),
-        ExprNode::Integer { at, literal } => {
-            let typed = judge_integer(*at, *literal, faults)?;
-            Ok(typed)
+        ExprNode::Name { at, word } => {
+            read_name(context.alloc, names, *at, *word, before, &mut found.faults)
         }
-        ExprNode::Boolean { at, value } => Ok(judge_boolean(*at, *value)),
-        ExprNode::Null { at } => Ok(Typed::of(*at, null_type())),
+        ExprNode::Integer { at, literal } => {
+            judge_integer(*at, *literal, before, &mut found.faults)
+        }
+        ExprNode::Boolean { at, value } => judge_boolean(*at, *value, before),
+        ExprNode::Null { at } => Ok(Typed::of(*at, null_type(), before.clone()?)),
         ExprNode::Binary {
             at,
             operator,
             left,
             right,
         } => {
-            let first = judge_expression(context, names, left, flow, faults)?;
-            let second = judge_expression(context, names, right, flow, faults)?;
+            let first = judge_expression(context, names, left, before, found)?;
+            let second = judge_expression(context, names, right, &first.after, found)?;
             let compared = compared_local(names, left, right);
             let typed = judge_operator(
                 context.rows,
@@ -51,10 +72,44 @@ pub(super) fn judge_expression(
                 compared,
                 &first,
                 &second,
-                faults,
+                &mut found.faults,
             )?;
             Ok(typed)
         }
+    }
+}
+
+// What is said of an expression that was judged from the model before it.
+fn said_of_expression(
+    alloc: Global,
+    names: &NamesInScope,
+    expression: &Expr,
+    before: &Rc<Flow>,
+    typed: &Typed,
+) -> Result<TypedNode, AllocError>
+    ensures { IfOk result (λ said. said ≡ said_of_value expression.now (named_by names.now expression.now) before.now.value (reported typed.now)) }
+{
+    Ok(TypedNode {
+        node: expression.place().node,
+        ty: Some(typed.ty.copy(alloc)?),
+        element: named_local(names, expression),
+        before: before.clone()?,
+        after: typed.after.clone()?,
+        when_true: typed.when_true,
+        when_false: typed.when_false,
+    })
+}
+
+// The local that an expression names.
+fn named_local(names: &NamesInScope, expression: &Expr) -> Option<LocalId>
+    ensures { result ≡ named_by names.now expression.now }
+{
+    match &expression.node {
+        ExprNode::Name { word, .. } => names.meaning(*word),
+        ExprNode::Integer { .. } => None,
+        ExprNode::Boolean { .. } => None,
+        ExprNode::Null { .. } => None,
+        ExprNode::Binary { .. } => None,
     }
 }
 
@@ -63,32 +118,41 @@ pub(super) fn judge_condition(
     context: Context,
     names: &NamesInScope,
     condition: &Expr,
-    flow: &Flow,
-    faults: &mut Vec<Fault>,
+    before: &Rc<Flow>,
+    found: &mut Judged,
 ) -> Result<Typed, AllocError>
-    ensures { IfOk result (λ typed. Evaluates faults.old.items faults.new.items flow.now typed (place_of condition.now) (as_condition context.entry.rows.now (place_of condition.now) (evaluate context.entry.rows.now names.now condition.now flow.now))) }
+    ensures { IfOk result (λ typed. Evaluates found.old found.new typed (place_of condition.now) (as_condition context.entry.rows.now (place_of condition.now) (evaluate context.entry.rows.now names.now condition.now before.now.value)) (typed_expression context.entry.rows.now names.now condition.now before.now.value)) }
 {
-    let typed = judge_expression(context, names, condition, flow, faults)?;
+    let typed = judge_expression(context, names, condition, before, found)?;
     if fits(context.rows, &typed.ty, &bool_type()) {
         return Ok(typed);
     }
-    report(typed.at.span, DiagnosticCode::ConditionNotBool, faults)?;
+    report(
+        typed.at.span,
+        DiagnosticCode::ConditionNotBool,
+        &mut found.faults,
+    )?;
     Ok(typed)
 }
 
-// An integer literal is an int, if its value is in range, whatever is known.
+// An integer literal is an int, if its value is in range.
 fn judge_integer(
     at: Place,
     literal: IntegerLiteral,
+    before: &Rc<Flow>,
     faults: &mut Vec<Fault>,
 ) -> Result<Typed, AllocError>
-    ensures { IfOk result (λ typed. (m : FlowModel) → Evaluates faults.old.items faults.new.items m typed at (row.integer_row at literal m)) }
+    ensures { IfOk result (λ typed. RowEvaluates faults.old.items faults.new.items typed at (row.integer_row at literal before.now.value)) }
 {
     if is_in_range(literal) {
-        return Ok(Typed::of(at, int_type()));
+        return Ok(Typed::of(at, int_type(), before.clone()?));
     }
-    let typed = faulty(at, DiagnosticCode::IntegerLiteralOutOfRange, faults)?;
-    Ok(typed)
+    faulty(
+        at,
+        DiagnosticCode::IntegerLiteralOutOfRange,
+        before,
+        faults,
+    )
 }
 
 // Whether a literal has a value: a hexadecimal one has 64 bits, and a decimal one 63.
@@ -105,24 +169,27 @@ fn is_in_range(literal: IntegerLiteral) -> bool
 }
 
 // `true` and `false` are bools, and nothing is reached where one would be the other.
-fn judge_boolean(at: Place, value: bool) -> Typed
-    ensures place { result.at ≡ at }
-    ensures row { (m : FlowModel) → reported m result ≡ row.boolean_row value m }
+fn judge_boolean(at: Place, value: bool, before: &Rc<Flow>) -> Result<Typed, AllocError>
+    ensures place { IfOk result (λ typed. typed.at ≡ at) }
+    ensures row { IfOk result (λ typed. reported typed ≡ row.boolean_row value before.now.value) }
 {
+    let after = before.clone()?;
     if value {
-        return Typed {
+        return Ok(Typed {
             at,
             ty: bool_type(),
+            after,
             when_true: Branch::Same,
             when_false: Branch::Unreached,
-        };
+        });
     }
-    Typed {
+    Ok(Typed {
         at,
         ty: bool_type(),
+        after,
         when_true: Branch::Unreached,
         when_false: Branch::Same,
-    }
+    })
 }
 
 // A name is read as the local that it means.
@@ -131,14 +198,14 @@ fn read_name(
     names: &NamesInScope,
     at: Place,
     word: u32,
-    flow: &Flow,
+    before: &Rc<Flow>,
     faults: &mut Vec<Fault>,
 ) -> Result<Typed, AllocError>
-    ensures { IfOk result (λ typed. Evaluates faults.old.items faults.new.items flow.now typed at (row.name_row names.now at word flow.now)) }
+    ensures { IfOk result (λ typed. RowEvaluates faults.old.items faults.new.items typed at (row.name_row names.now at word before.now.value)) }
 {
     match names.meaning(word) {
-        Some(var) => read_local(alloc, at, var, flow, faults),
-        None => faulty(at, DiagnosticCode::UndefinedName, faults),
+        Some(var) => read_local(alloc, at, var, before, faults),
+        None => faulty(at, DiagnosticCode::UndefinedName, before, faults),
     }
 }
 
@@ -147,26 +214,36 @@ fn read_local(
     alloc: Global,
     at: Place,
     var: LocalId,
-    flow: &Flow,
+    before: &Rc<Flow>,
     faults: &mut Vec<Fault>,
 ) -> Result<Typed, AllocError>
-    ensures { IfOk result (λ typed. Evaluates faults.old.items faults.new.items flow.now typed at (row.read_row at (facts_of flow.now var) flow.now)) }
+    ensures { IfOk result (λ typed. RowEvaluates faults.old.items faults.new.items typed at (row.read_row at (facts_of before.now.value var) before.now.value)) }
 {
-    match flow.current(var) {
+    match before.current(var) {
         Some(ty) => {
-            if flow.is_assigned(var) {
-                return Ok(Typed::of(at, ty.copy(alloc)?));
+            if before.is_assigned(var) {
+                return Ok(Typed::of(at, ty.copy(alloc)?, before.clone()?));
             }
-            faulty(at, DiagnosticCode::UnassignedRead, faults)
+            faulty(at, DiagnosticCode::UnassignedRead, before, faults)
         }
-        None => faulty(at, DiagnosticCode::ReferencedBeforeDeclaration, faults),
+        None => faulty(
+            at,
+            DiagnosticCode::ReferencedBeforeDeclaration,
+            before,
+            faults,
+        ),
     }
 }
 
 // What has a diagnostic has the type Invalid.
-fn faulty(at: Place, code: DiagnosticCode, faults: &mut Vec<Fault>) -> Result<Typed, AllocError>
-    ensures { IfOk result (λ typed. (m : FlowModel) → Evaluates faults.old.items faults.new.items m typed at (row.faulty at code m)) }
+fn faulty(
+    at: Place,
+    code: DiagnosticCode,
+    before: &Rc<Flow>,
+    faults: &mut Vec<Fault>,
+) -> Result<Typed, AllocError>
+    ensures { IfOk result (λ typed. RowEvaluates faults.old.items faults.new.items typed at (row.faulty at code before.now.value)) }
 {
     report(at.span, code, faults)?;
-    Ok(Typed::of(at, invalid_type()))
+    Ok(Typed::of(at, invalid_type(), before.clone()?))
 }

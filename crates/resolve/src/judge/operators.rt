@@ -4,17 +4,18 @@ ghost use Rattle.std.specs.Prelude.{◌≡◌, ◌++◌, IfOk, OnOk};
 ghost use Rattle.flow_model.specs.Flow.{FlowModel};
 ghost use Rattle.judgement.specs.Rows as row;
 ghost use Rattle.judgement.specs.Judgement as judgement;
-ghost use Rattle.resolve.specs.Judged.{Evaluates, at_branch, reported};
+ghost use Rattle.judgement.specs.NodeFacts.{at_branch};
+ghost use Rattle.resolve.specs.Judged.{RowEvaluates, reported};
 
 use super::types::{
     bool_type, fits, has_operators, int_type, invalid_type, is_invalid, is_never, is_null,
     never_type,
 };
-use super::{Branch, Typed, report};
+use super::{Typed, report};
 use crate::names::NamesInScope;
 use dart_tree::{Expr, ExprNode, Operator, OperatorKind, Place, Span};
 use flow_model::{DartType, LocalId, Rows, is_subtype};
-use judgement::{DiagnosticCode, Fault};
+use judgement::{Branch, DiagnosticCode, Fault};
 use std::alloc::AllocError;
 
 // An operator, from its sides and from the local that it compares with `null`.
@@ -27,22 +28,23 @@ pub(super) fn judge_operator(
     right: &Typed,
     faults: &mut Vec<Fault>,
 ) -> Result<Typed, AllocError>
-    ensures { IfOk result (λ typed. (m : FlowModel) → Evaluates faults.old.items faults.new.items m typed at (row.operator_row rows.now operator.kind operator.span right.now.at compared (reported m left.now) (reported m right.now))) }
+    ensures { IfOk result (λ typed. RowEvaluates faults.old.items faults.new.items typed at (row.operator_row rows.now operator.kind operator.span right.now.at compared (reported left.now) (reported right.now))) }
 {
     match operator.kind {
         OperatorKind::Plus => {
             let ty = judge_int_operator(rows, operator.span, int_type(), left, right, faults)?;
-            Ok(Typed::of(at, ty))
+            Ok(Typed::of(at, ty, right.after.clone()?))
         }
         OperatorKind::Less => {
             let ty = judge_int_operator(rows, operator.span, bool_type(), left, right, faults)?;
-            Ok(Typed::of(at, ty))
+            Ok(Typed::of(at, ty, right.after.clone()?))
         }
         OperatorKind::NotEqual => {
             let when_true = where_not_null(compared);
             Ok(Typed {
                 at,
                 ty: bool_type(),
+                after: right.after.clone()?,
                 when_true,
                 when_false: Branch::Same,
             })

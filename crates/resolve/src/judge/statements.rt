@@ -1,23 +1,23 @@
 //! What statements give.
 
-ghost use Rattle.std.specs.Prelude.{◌≡◌, IfOk, OnOk};
-ghost use Rattle.dart_tree.specs.Tree.{part_of, trees_of};
-ghost use Rattle.dart_tree.specs.Places.{place_of};
-ghost use Rattle.judgement.specs.Written.{written_in};
-ghost use Rattle.judgement.specs.Rows.{if_row, loop_head, while_row};
-ghost use Rattle.judgement.specs.Judgement.{declare_local, evaluate, run, run_all, run_part, type_of};
-ghost use Rattle.resolve.specs.Judged.{Gives, run_block};
+ghost use Rattle.std.specs.Prelude.{◌≡◌, ◌++◌, ◌∷◌, [], IfOk, OnOk};
+ghost use Rattle.dart_tree.specs.Tree.{assign, block, declare, eval, if_statement, part_of, print, trees_of, while_statement};
+ghost use Rattle.dart_tree.specs.declared.places.Place.{Place};
+ghost use Rattle.judgement.specs.Judgement.{declare_local, run, run_all, run_part, type_of};
+ghost use Rattle.judgement.specs.Typed.{typed_initializer, typed_part, typed_statement, typed_statements};
+ghost use Rattle.resolve.specs.Judged.{Gives, said_at};
 
-use super::Context;
 use super::expressions::{judge_condition, judge_expression};
+use super::models::{behind_block, branch_start, head_of_loop, shared};
 use super::types::{bool_type, int_type};
 use super::writes::{assign, declare, initialize};
-use super::written::add_written_in_block;
-use crate::names::{NamesInScope, declared_locals};
-use dart_tree::{Block, Expr, Name, Stmt, StmtNode, WrittenType, WrittenTypeNode};
-use flow_model::{DartType, Flow};
-use judgement::Fault;
+use super::{Context, Judged};
+use crate::names::NamesInScope;
+use dart_tree::{Block, Expr, Name, Place, Stmt, StmtNode, WrittenType, WrittenTypeNode};
+use flow_model::{DartType, Flow, LocalId};
+use judgement::{Branch, TypedNode};
 use std::alloc::{AllocError, Global};
+use std::rc::Rc;
 
 // A block: its names mean what it declares, and its locals end with it. As with each of these
 // functions, the names are afterwards what they were.
@@ -25,18 +25,20 @@ use std::alloc::{AllocError, Global};
 pub(super) fn judge_block(
     context: Context,
     names: &mut NamesInScope,
+    at: Place,
     statements: &[Stmt],
-    flow: &mut Flow,
-    faults: &mut Vec<Fault>,
-) -> Result<(), AllocError>
-    ensures gives { OnOk result (Gives faults.old.items faults.new.items flow.new (run_block context.entry.rows.now names.old (trees_of statements.now) flow.old)) }
+    before: &Rc<Flow>,
+    found: &mut Judged,
+) -> Result<Rc<Flow>, AllocError>
+    ensures gives { IfOk result (λ after. Gives found.old found.new after.value (run context.entry.rows.now names.old (block at (trees_of statements.now)) before.now.value) (typed_statement context.entry.rows.now names.old (block at (trees_of statements.now)) before.now.value)) }
     ensures names { OnOk result (names.new ≡ names.old) }
 {
     let shadowed = names.enter(context.alloc, statements)?;
-    judge_statements(context, names, statements, flow, faults)?;
+    let inside = judge_statements(context, names, statements, before, found)?;
     names.leave(shadowed)?;
-    flow.end(&declared_locals(context.alloc, statements)?);
-    Ok(())
+    let after = behind_block(context.alloc, statements, before, &inside)?;
+    say(at, None, before, &after, found)?;
+    Ok(after)
 }
 
 // Statements, one after another.
@@ -45,64 +47,58 @@ fn judge_statements(
     context: Context,
     names: &mut NamesInScope,
     statements: &[Stmt],
-    flow: &mut Flow,
-    faults: &mut Vec<Fault>,
-) -> Result<(), AllocError>
-    ensures gives { OnOk result (Gives faults.old.items faults.new.items flow.new (run_all context.entry.rows.now names.old (trees_of statements.now) flow.old)) }
+    before: &Rc<Flow>,
+    found: &mut Judged,
+) -> Result<Rc<Flow>, AllocError>
+    ensures gives { IfOk result (λ after. Gives found.old found.new after.value (run_all context.entry.rows.now names.old (trees_of statements.now) before.now.value) (typed_statements context.entry.rows.now names.old (trees_of statements.now) before.now.value)) }
     ensures names { OnOk result (names.new ≡ names.old) }
 {
+    let mut after = before.clone()?;
     for statement in statements {
-        judge_statement(context, names, statement, flow, faults)?;
+        after = judge_statement(context, names, statement, &after, found)?;
     }
-    Ok(())
+    Ok(after)
 }
 
-// What is known after a statement, and its diagnostics.
+// What is known after a statement, its diagnostics, and what is said of its nodes.
 #[cycle(judge)]
 fn judge_statement(
     context: Context,
     names: &mut NamesInScope,
     statement: &Stmt,
-    flow: &mut Flow,
-    faults: &mut Vec<Fault>,
-) -> Result<(), AllocError>
-    ensures gives { OnOk result (Gives faults.old.items faults.new.items flow.new (run context.entry.rows.now names.old statement.now flow.old)) }
+    before: &Rc<Flow>,
+    found: &mut Judged,
+) -> Result<Rc<Flow>, AllocError>
+    ensures gives { IfOk result (λ after. Gives found.old found.new after.value (run context.entry.rows.now names.old statement.now before.now.value) (typed_statement context.entry.rows.now names.old statement.now before.now.value)) }
     ensures names { OnOk result (names.new ≡ names.old) }
 {
     match &statement.node {
         StmtNode::Declare {
+            at,
             declared,
             name,
             initial,
-            ..
-        } => judge_declaration(context, names, declared, name, initial, flow, faults),
-        StmtNode::Assign { target, value, .. } => {
-            let written = judge_expression(context, names, value, flow, faults)?;
-            assign(context, names, target, &written, flow, faults)
+        } => judge_declaration(context, names, *at, declared, name, initial, before, found),
+        StmtNode::Assign { at, target, value } => {
+            judge_assignment(context, names, *at, target, value, before, found)
         }
-        StmtNode::Eval { value, .. } => {
-            let _value = judge_expression(context, names, value, flow, faults)?;
-            Ok(())
-        }
-        StmtNode::Print { value, .. } => {
-            let _value = judge_expression(context, names, value, flow, faults)?;
-            Ok(())
-        }
+        StmtNode::Eval { at, value } => judge_value(context, names, *at, value, before, found),
+        StmtNode::Print { at, value } => judge_value(context, names, *at, value, before, found),
         StmtNode::If {
+            at,
             condition,
             then_block,
             else_block,
-            ..
         } => judge_if(
-            context, names, condition, then_block, else_block, flow, faults,
+            context, names, *at, condition, then_block, else_block, before, found,
         ),
         StmtNode::While {
+            at,
             condition,
             body,
-            ..
-        } => judge_while(context, names, condition, body, flow, faults),
-        StmtNode::Block { statements, .. } => {
-            judge_block(context, names, statements, flow, faults)
+        } => judge_while(context, names, *at, condition, body, before, found),
+        StmtNode::Block { at, statements } => {
+            judge_block(context, names, *at, statements, before, found)
         }
     }
 }
@@ -113,23 +109,33 @@ fn judge_statement(
 fn judge_if(
     context: Context,
     names: &mut NamesInScope,
+    at: Place,
     condition: &Expr,
     then_block: &Block,
     else_block: &Option<Block>,
-    flow: &mut Flow,
-    faults: &mut Vec<Fault>,
-) -> Result<(), AllocError>
-    ensures gives { OnOk result (Gives faults.old.items faults.new.items flow.new (if_row context.entry.rows.now (place_of condition.now) (evaluate context.entry.rows.now names.old condition.now flow.old) (run context.entry.rows.now names.old then_block.now) (run_part context.entry.rows.now names.old (part_of else_block.now)))) }
+    before: &Rc<Flow>,
+    found: &mut Judged,
+) -> Result<Rc<Flow>, AllocError>
+    ensures gives { IfOk result (λ after. Gives found.old found.new after.value (run context.entry.rows.now names.old (if_statement at condition.now then_block.now (part_of else_block.now)) before.now.value) (typed_statement context.entry.rows.now names.old (if_statement at condition.now then_block.now (part_of else_block.now)) before.now.value)) }
     ensures names { OnOk result (names.new ≡ names.old) }
 {
-    let condition = judge_condition(context, names, condition, flow, faults)?;
-    let mut other = flow.copy(context.alloc)?;
-    condition.when_true.begin(context.alloc, flow)?;
-    condition.when_false.begin(context.alloc, &mut other)?;
-    judge_block(context, names, &then_block.statements, flow, faults)?;
-    judge_else(context, names, else_block, &mut other, faults)?;
-    *flow = Flow::join(context.alloc, flow, &other)?;
-    Ok(())
+    let alloc = context.alloc;
+    let tested = judge_condition(context, names, condition, before, found)?;
+    let holds = branch_start(alloc, &tested.after, tested.when_true)?;
+    let then_block = judge_block(
+        context,
+        names,
+        then_block.at,
+        &then_block.statements,
+        &holds,
+        found,
+    )?;
+    let fails = branch_start(alloc, &tested.after, tested.when_false)?;
+    let else_block = judge_else(context, names, else_block, &fails, found)?;
+    let joined = Flow::join(alloc, &then_block, &else_block)?;
+    let after = shared(alloc, before, joined)?;
+    say(at, None, before, &after, found)?;
+    Ok(after)
 }
 
 // The block of an `else`, if there is one.
@@ -138,15 +144,15 @@ fn judge_else(
     context: Context,
     names: &mut NamesInScope,
     else_block: &Option<Block>,
-    flow: &mut Flow,
-    faults: &mut Vec<Fault>,
-) -> Result<(), AllocError>
-    ensures gives { OnOk result (Gives faults.old.items faults.new.items flow.new (run_part context.entry.rows.now names.old (part_of else_block.now) flow.old)) }
+    before: &Rc<Flow>,
+    found: &mut Judged,
+) -> Result<Rc<Flow>, AllocError>
+    ensures gives { IfOk result (λ after. Gives found.old found.new after.value (run_part context.entry.rows.now names.old (part_of else_block.now) before.now.value) (typed_part context.entry.rows.now names.old (part_of else_block.now) before.now.value)) }
     ensures names { OnOk result (names.new ≡ names.old) }
 {
     match else_block {
-        None => Ok(()),
-        Some(block) => judge_block(context, names, &block.statements, flow, faults),
+        None => before.clone(),
+        Some(block) => judge_block(context, names, block.at, &block.statements, before, found),
     }
 }
 
@@ -156,58 +162,121 @@ fn judge_else(
 fn judge_while(
     context: Context,
     names: &mut NamesInScope,
+    at: Place,
     condition: &Expr,
     body: &Block,
-    flow: &mut Flow,
-    faults: &mut Vec<Fault>,
-) -> Result<(), AllocError>
-    ensures gives { OnOk result (Gives faults.old.items faults.new.items flow.new (while_row context.entry.rows.now (place_of condition.now) (evaluate context.entry.rows.now names.old condition.now (loop_head flow.old (written_in names.old body.now))) (run context.entry.rows.now names.old body.now))) }
+    before: &Rc<Flow>,
+    found: &mut Judged,
+) -> Result<Rc<Flow>, AllocError>
+    ensures gives { IfOk result (λ after. Gives found.old found.new after.value (run context.entry.rows.now names.old (while_statement at condition.now body.now) before.now.value) (typed_statement context.entry.rows.now names.old (while_statement at condition.now body.now) before.now.value)) }
     ensures names { OnOk result (names.new ≡ names.old) }
 {
-    forget_written(context.alloc, names, body, flow)?;
-    let condition = judge_condition(context, names, condition, flow, faults)?;
-    let mut inside = flow.copy(context.alloc)?;
-    condition.when_true.begin(context.alloc, &mut inside)?;
-    judge_block(context, names, &body.statements, &mut inside, faults)?;
-    condition.when_false.begin(context.alloc, flow)
-}
-
-// Takes the model before a loop to the loop's head: what the body writes is forgotten.
-fn forget_written(
-    alloc: Global,
-    names: &mut NamesInScope,
-    body: &Block,
-    flow: &mut Flow,
-) -> Result<(), AllocError>
-    ensures flow { OnOk result (flow.new ≡ loop_head flow.old (written_in names.old body.now)) }
-    ensures names { OnOk result (names.new ≡ names.old) }
-{
-    let mut written = Vec::new(alloc);
-    add_written_in_block(alloc, names, &body.statements, &mut written)?;
-    flow.conservative_join(&written, &[]);
-    Ok(())
+    let alloc = context.alloc;
+    let head = head_of_loop(alloc, names, body, before)?;
+    let tested = judge_condition(context, names, condition, &head, found)?;
+    let holds = branch_start(alloc, &tested.after, tested.when_true)?;
+    judge_block(context, names, body.at, &body.statements, &holds, found)?;
+    let after = branch_start(alloc, &tested.after, tested.when_false)?;
+    say(at, None, before, &after, found)?;
+    Ok(after)
 }
 
 // A declaration: its initializer is judged before the local comes into scope.
 fn judge_declaration(
     context: Context,
     names: &NamesInScope,
+    at: Place,
     declared: &WrittenType,
     name: &Name,
     initial: &Option<Expr>,
-    flow: &mut Flow,
-    faults: &mut Vec<Fault>,
-) -> Result<(), AllocError>
-    ensures { OnOk result (Gives faults.old.items faults.new.items flow.new (declare_local context.entry.rows.now names.now name.now (type_of declared.now) (part_of initial.now) flow.old)) }
+    before: &Rc<Flow>,
+    found: &mut Judged,
+) -> Result<Rc<Flow>, AllocError>
+    ensures { IfOk result (λ after. Gives found.old found.new after.value (run context.entry.rows.now names.now (declare at declared.now name.now (part_of initial.now)) before.now.value) (typed_statement context.entry.rows.now names.now (declare at declared.now name.now (part_of initial.now)) before.now.value)) }
 {
     let ty = declared_type(context.alloc, declared)?;
+    let after = declare_local(context, names, name, ty, initial, before, found)?;
+    say(at, names.meaning(name.word), before, &after, found)?;
+    Ok(after)
+}
+
+// A local of the type comes into scope, once its initializer is judged.
+fn declare_local(
+    context: Context,
+    names: &NamesInScope,
+    name: &Name,
+    ty: DartType,
+    initial: &Option<Expr>,
+    before: &Rc<Flow>,
+    found: &mut Judged,
+) -> Result<Rc<Flow>, AllocError>
+    ensures { IfOk result (λ after. Gives found.old found.new after.value (declare_local context.entry.rows.now names.now name.now ty (part_of initial.now) before.now.value) (typed_initializer context.entry.rows.now names.now (part_of initial.now) before.now.value)) }
+{
     match initial {
-        None => declare(context, names, name, ty, flow, faults),
+        None => declare(context, names, name, ty, before, &mut found.faults),
         Some(initializer) => {
-            let value = judge_expression(context, names, initializer, flow, faults)?;
-            initialize(context, names, name, ty, &value, flow, faults)
+            let value = judge_expression(context, names, initializer, before, found)?;
+            initialize(context, names, name, ty, &value, &mut found.faults)
         }
     }
+}
+
+// An assignment: its value is judged before the local is written.
+fn judge_assignment(
+    context: Context,
+    names: &NamesInScope,
+    at: Place,
+    target: &Name,
+    value: &Expr,
+    before: &Rc<Flow>,
+    found: &mut Judged,
+) -> Result<Rc<Flow>, AllocError>
+    ensures { IfOk result (λ after. Gives found.old found.new after.value (run context.entry.rows.now names.now (assign at target.now value.now) before.now.value) (typed_statement context.entry.rows.now names.now (assign at target.now value.now) before.now.value)) }
+{
+    let written = judge_expression(context, names, value, before, found)?;
+    let after = assign(context, names, target, &written, &mut found.faults)?;
+    say(at, names.meaning(target.word), before, &after, found)?;
+    Ok(after)
+}
+
+// A value that is only evaluated, or printed.
+fn judge_value(
+    context: Context,
+    names: &NamesInScope,
+    at: Place,
+    value: &Expr,
+    before: &Rc<Flow>,
+    found: &mut Judged,
+) -> Result<Rc<Flow>, AllocError>
+    ensures evaluated { IfOk result (λ after. Gives found.old found.new after.value (run context.entry.rows.now names.now (eval at value.now) before.now.value) (typed_statement context.entry.rows.now names.now (eval at value.now) before.now.value)) }
+    ensures printed { IfOk result (λ after. Gives found.old found.new after.value (run context.entry.rows.now names.now (print at value.now) before.now.value) (typed_statement context.entry.rows.now names.now (print at value.now) before.now.value)) }
+{
+    let judged = judge_expression(context, names, value, before, found)?;
+    say(at, None, before, &judged.after, found)?;
+    Ok(judged.after)
+}
+
+// Adds what is said of a statement or a block to what is said of the nodes before it.
+fn say(
+    at: Place,
+    element: Option<LocalId>,
+    before: &Rc<Flow>,
+    after: &Rc<Flow>,
+    found: &mut Judged,
+) -> Result<(), AllocError>
+    ensures faults { OnOk result (found.new.faults.items ≡ found.old.faults.items) }
+    ensures nodes { OnOk result (found.new.nodes.items ≡ found.old.nodes.items ++ said_at at element before.now.value after.now.value ∷ []) }
+{
+    found.nodes.push(TypedNode {
+        node: at.node,
+        ty: None,
+        element,
+        before: before.clone()?,
+        after: after.clone()?,
+        when_true: Branch::Same,
+        when_false: Branch::Same,
+    })?;
+    Ok(())
 }
 
 // The type that a written type is.

@@ -1,18 +1,20 @@
 //! What declarations and assignments do with a local.
 
-ghost use Rattle.std.specs.Prelude.{◌≡◌, ◌++◌, IsNone, OnOk};
+ghost use Rattle.std.specs.Prelude.{◌≡◌, ◌++◌, IfOk, IsNone, OnOk};
 ghost use Rattle.flow_model.specs.Flow.{at_local, declare_of, facts_of};
 ghost use Rattle.flow_model.specs.Assign.{assign_facts};
 ghost use Rattle.judgement.specs.Rows as row;
-ghost use Rattle.resolve.specs.Judged.{Gives};
+ghost use Rattle.resolve.specs.Judged.{RowGives};
 
+use super::models::shared;
 use super::types::fits;
 use super::{Context, Typed, report};
 use crate::names::NamesInScope;
 use dart_tree::{Name, Place};
 use flow_model::{DartType, Flow, LocalDecl, LocalId, Rows, declare_adds_one_local};
 use judgement::{DiagnosticCode, Fault};
-use std::alloc::{AllocError, Global};
+use std::alloc::AllocError;
+use std::rc::Rc;
 
 // An assignment writes the local that the name means.
 pub(super) fn assign(
@@ -20,14 +22,16 @@ pub(super) fn assign(
     names: &NamesInScope,
     target: &Name,
     value: &Typed,
-    flow: &mut Flow,
     faults: &mut Vec<Fault>,
-) -> Result<(), AllocError>
-    ensures { OnOk result (Gives faults.old.items faults.new.items flow.new (row.assign_row context.entry.rows.now names.now target.now value.now.at value.now.ty flow.old)) }
+) -> Result<Rc<Flow>, AllocError>
+    ensures { IfOk result (λ after. RowGives faults.old.items faults.new.items after.value (row.assign_row context.entry.rows.now names.now target.now value.now.at value.now.ty value.now.after.value)) }
 {
     match names.meaning(target.word) {
-        Some(var) => write(context, target.at, var, value, flow, faults),
-        None => report(target.at.span, DiagnosticCode::UndefinedName, faults),
+        Some(var) => write(context, target.at, var, value, faults),
+        None => {
+            report(target.at.span, DiagnosticCode::UndefinedName, faults)?;
+            value.after.clone()
+        }
     }
 }
 
@@ -37,21 +41,25 @@ fn write(
     target: Place,
     var: LocalId,
     value: &Typed,
-    flow: &mut Flow,
     faults: &mut Vec<Fault>,
-) -> Result<(), AllocError>
-    ensures { OnOk result (Gives faults.old.items faults.new.items flow.new (row.write_row context.entry.rows.now target value.now.at value.now.ty var (facts_of flow.old var) flow.old)) }
+) -> Result<Rc<Flow>, AllocError>
+    ensures { IfOk result (λ after. RowGives faults.old.items faults.new.items after.value (row.write_row context.entry.rows.now target value.now.at value.now.ty var (facts_of value.now.after.value var) value.now.after.value)) }
 {
-    match flow.declared(var) {
+    match value.after.declared(var) {
         Some(declared) => {
             check_fit(context.rows, value, declared, faults)?;
-            flow.assign(context.alloc, context.rows, var, &value.ty)
+            let mut written = value.after.copy(context.alloc)?;
+            written.assign(context.alloc, context.rows, var, &value.ty)?;
+            shared(context.alloc, &value.after, written)
         }
-        None => report(
-            target.span,
-            DiagnosticCode::ReferencedBeforeDeclaration,
-            faults,
-        ),
+        None => {
+            report(
+                target.span,
+                DiagnosticCode::ReferencedBeforeDeclaration,
+                faults,
+            )?;
+            value.after.clone()
+        }
     }
 }
 
@@ -61,19 +69,22 @@ pub(super) fn declare(
     names: &NamesInScope,
     name: &Name,
     ty: DartType,
-    flow: &mut Flow,
+    before: &Rc<Flow>,
     faults: &mut Vec<Fault>,
-) -> Result<(), AllocError>
-    ensures { OnOk result (Gives faults.old.items faults.new.items flow.new (row.declare_row names.now name.now ty flow.old)) }
+) -> Result<Rc<Flow>, AllocError>
+    ensures { IfOk result (λ after. RowGives faults.old.items faults.new.items after.value (row.declare_row names.now name.now ty before.now.value)) }
 {
     match names.meaning(name.word) {
         Some(var) => {
-            if flow.is_in_scope(var) {
-                return report(name.at.span, DiagnosticCode::DuplicateDefinition, faults);
+            if before.is_in_scope(var) {
+                report(name.at.span, DiagnosticCode::DuplicateDefinition, faults)?;
+                return before.clone();
             }
-            flow.declare(context.alloc, &local(var, ty, false))
+            let mut declared = before.copy(context.alloc)?;
+            declared.declare(context.alloc, &local(var, ty, false))?;
+            Ok(Rc::new(context.alloc, declared)?)
         }
-        None => Ok(()),
+        None => before.clone(),
     }
 }
 
@@ -85,20 +96,22 @@ pub(super) fn initialize(
     name: &Name,
     ty: DartType,
     value: &Typed,
-    flow: &mut Flow,
     faults: &mut Vec<Fault>,
-) -> Result<(), AllocError>
-    ensures { OnOk result (Gives faults.old.items faults.new.items flow.new (row.initialize_row context.entry.rows.now names.now name.now ty value.now.at value.now.ty flow.old)) }
+) -> Result<Rc<Flow>, AllocError>
+    ensures { IfOk result (λ after. RowGives faults.old.items faults.new.items after.value (row.initialize_row context.entry.rows.now names.now name.now ty value.now.at value.now.ty value.now.after.value)) }
 {
     match names.meaning(name.word) {
         Some(var) => {
-            if flow.is_in_scope(var) {
-                return report(name.at.span, DiagnosticCode::DuplicateDefinition, faults);
+            if value.after.is_in_scope(var) {
+                report(name.at.span, DiagnosticCode::DuplicateDefinition, faults)?;
+                return value.after.clone();
             }
             check_fit(context.rows, value, &ty, faults)?;
-            declare_with_value(context, &local(var, ty, true), &value.ty, flow)
+            let mut declared = value.after.copy(context.alloc)?;
+            declare_with_value(context, &local(var, ty, true), &value.ty, &mut declared)?;
+            Ok(Rc::new(context.alloc, declared)?)
         }
-        None => Ok(()),
+        None => value.after.clone(),
     }
 }
 

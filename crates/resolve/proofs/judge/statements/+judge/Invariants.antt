@@ -2,6 +2,7 @@ use Rattle.std.proofs.Common.{◌≡◌, ◌+◌, ◌*◌, drop}
 use Rattle.dart_tree.specs.Tree.{trees_of, part_of}
 use Rattle.dart_tree.specs.Numbers.{nodes_in, nodes_in_all, nodes_in_part}
 use Rattle.judgement.specs.Judgement.{run_all}
+use Rattle.judgement.specs.Typed.{typed_statements}
 use Rattle.resolve.proofs.Ahead.{Ahead}
 use Rattle.resolve.proofs.judge.statements.+judge.Given as goal
 
@@ -27,6 +28,8 @@ decreases-judge_statements l = 4 * nodes_in_all (trees_of l.statements.now) + 1
 abbrev pub invariant-judge_statements-loop-statement : goal.invariant-judge_statements-loop-statement
 invariant-judge_statements-loop-statement l =
     (l.names ≡ l.initial.names)
-    × Ahead l.initial.faults.items l.faults.items
-    (run_all l.context.rows.now l.initial.names (trees_of l.statements) l.initial.flow)
-    (run_all l.context.rows.now l.initial.names (trees_of (drop l.statement-index l.statements)) l.flow)
+    × Ahead l.initial.found l.found
+    (run_all l.context.rows.now l.initial.names (trees_of l.statements) l.before.value)
+    (run_all l.context.rows.now l.initial.names (trees_of (drop l.statement-index l.statements)) l.after.value)
+    (typed_statements l.context.rows.now l.initial.names (trees_of l.statements) l.before.value)
+    (typed_statements l.context.rows.now l.initial.names (trees_of (drop l.statement-index l.statements)) l.after.value)

@@ -1,0 +1,9 @@
+use Rattle.std.proofs.Common.{◌+◌, ◌*◌}
+use Rattle.dart_tree.specs.Numbers.{nodes_in}
+use Rattle.resolve.proofs.judge.expressions.+expression.Given as goal
+
+abbrev pub decreases-judge_expression : goal.decreases-judge_expression
+decreases-judge_expression l = 2 * nodes_in l.expression.now + 1
+
+abbrev pub decreases-judge_form : goal.decreases-judge_form
+decreases-judge_form l = 2 * nodes_in l.expression.now
