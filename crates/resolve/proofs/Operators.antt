@@ -81,9 +81,9 @@ pub operator_evaluates : (rows : Rows) (kind : OperatorKind) (span : Span) (comp
     → Evaluates found now typed at (operator_row rows kind span right_at compared left_value (right_value left_value.after)) (left_nodes ++ right_nodes left_value.after)
 operator_evaluates rows kind span compared found behind_left behind_right now left right typed left_at right_at at left_value right_value left_nodes right_nodes l r e same =
     let row : RowEvaluates found.faults.items now.faults.items typed at (operator_row rows kind span right_at compared left_value (right_value left_value.after)) =
-      rw (← l.after_is, ← r.place_is, Evaluates-value l, Evaluates-value r)
-      (operator_behind rows span compared found.faults.items now.faults.items left right typed at kind left_value.faults (right_value left.after.value).faults
-      (rw (← l.faults_are, ← r.faults_are) e))
+    rw (← l.after_is, ← r.place_is, Evaluates-value l, Evaluates-value r)
+    (operator_behind rows span compared found.faults.items now.faults.items left right typed at kind left_value.faults (right_value left.after.value).faults
+    (rw (← l.faults_are, ← r.faults_are) e))
     in
     record {
       place_is = row.place_is;

@@ -1,6 +1,8 @@
 //! Units that are built by hand, and their diagnostics.
 
-use crate::{NamesInScope, judge_unit};
+mod typed;
+
+use crate::{Judged, NamesInScope, judge_unit};
 use dart_tree::{
     Block, Expr, ExprNode, Function, IntegerLiteral, Name, NodeId, Operator, OperatorKind, Place,
     Radix, Span, Stmt, StmtNode, Unit, WrittenType, WrittenTypeNode,
@@ -140,14 +142,20 @@ fn block_of(alloc: Global, start: u16, statement: Stmt) -> Result<Block, AllocEr
     Ok(block(start, statements))
 }
 
-/// The diagnostics of a unit of these statements.
-fn judged(alloc: Global, statements: Vec<Stmt>) -> Result<Vec<Fault>, AllocError> {
+/// What is said of a unit of these statements.
+fn judged_unit(alloc: Global, statements: Vec<Stmt>) -> Result<Judged, AllocError> {
     let main = Function {
         at: at(0),
         body: block(0, statements),
     };
     let unit = Unit { at: at(0), main };
     judge_unit(alloc, &unit)
+}
+
+/// The diagnostics of a unit of these statements.
+fn judged(alloc: Global, statements: Vec<Stmt>) -> Result<Vec<Fault>, AllocError> {
+    let judged = judged_unit(alloc, statements)?;
+    Ok(judged.faults)
 }
 
 /// `x; int x; x; int x; y;`
@@ -278,17 +286,23 @@ fn a_test_for_null_promotes_in_its_branch_alone(rt: HostRuntime) -> Result<(), F
     Ok(())
 }
 
+/// `x = value;`, whose value stands behind the start.
+fn write_x(start: u8, value: Side) -> Stmt {
+    let start = u16::from(start);
+    Stmt {
+        node: StmtNode::Assign {
+            at: at(start),
+            target: name_x(start),
+            value: expression(start + 1, value),
+        },
+    }
+}
+
 /// `while (1) { x + 1; x = null; }`
 fn loop_with_a_write(alloc: Global) -> Result<Stmt, AllocError> {
     let mut statements = Vec::new(alloc);
     statements.push(add_one(alloc, 40)?)?;
-    statements.push(Stmt {
-        node: StmtNode::Assign {
-            at: at(50),
-            target: name_x(50),
-            value: expression(51, Side::Null),
-        },
-    })?;
+    statements.push(write_x(50, Side::Null))?;
     Ok(Stmt {
         node: StmtNode::While {
             at: at(30),

@@ -147,12 +147,7 @@ fn judge_integer(
     if is_in_range(literal) {
         return Ok(Typed::of(at, int_type(), before.clone()?));
     }
-    faulty(
-        at,
-        DiagnosticCode::IntegerLiteralOutOfRange,
-        before,
-        faults,
-    )
+    faulty(at, DiagnosticCode::IntegerLiteralOutOfRange, before, faults)
 }
 
 // Whether a literal has a value: a hexadecimal one has 64 bits, and a decimal one 63.
