@@ -2,7 +2,7 @@
 use Rattle.std.proofs.Common.{◌≡◌, List, [], ◌∷◌, ◌++◌, refl, ap, subst, ◌∙◌, Contains, AllPairs, inl, inr}
 use Rattle.std.proofs.lemmas.Map.Keys.{Less-from_sorted}
 use Rattle.std.specs.List.Sorted.{IsStrictlySortedBy}
-use Rattle.std.specs.Ordering.{ordering_then, is_eq, nat_cmp}
+use Rattle.std.specs.Ordering.{ordering_then, is_eq, match_ordering, nat_cmp}
 use Rattle.std.specs.declared.cmp.Ordering.{Ordering}
 use Rattle.std.specs.declared.cmp.Ordering.TheVariants.{Less, Equal, Greater}
 use Rattle.std.specs.BTreeSet.{insert_key}
@@ -77,3 +77,20 @@ found (fault ∷ faults) q c = elim (contains-from_insert_key fault_cmp tied fau
   | inl is ↦ subst (Contains (fault ∷ faults)) is (contains_first fault faults)
   | inr there ↦ contains_later fault faults q (found faults q there)
 ]
+
+-- where a diagnostic was put at its place, there is one
+some_inserted : (faults : List Fault) (fault : Fault) → insert_key fault_cmp faults fault ≡ [] → fault ∷ faults ≡ []
+some_inserted [] fault none = none
+some_inserted (first ∷ rest) fault none =
+    elim (fault_cmp fault first) as (λ r. match_ordering r (fault ∷ first ∷ rest) (first ∷ rest) (first ∷ insert_key fault_cmp rest fault) ≡ [] → fault ∷ first ∷ rest ≡ []) [
+      | Less ↦ λ none. cc
+      | Equal ↦ λ none. cc
+      | Greater ↦ λ none. cc
+    ] none
+
+-- an empty report is one of no diagnostics
+pub none_found : (faults : List Fault) → sorted_faults faults ≡ [] → faults ≡ []
+none_found [] none = refl
+none_found (fault ∷ faults) none =
+    let some : fault ∷ sorted_faults faults ≡ [] = some_inserted (sorted_faults faults) fault none in
+    cc

@@ -2,6 +2,7 @@
 
 ghost use Rattle.std.specs.Prelude.{◌≡◌, ◌<◌, ◌≤◌, ℕ, [], ◌++◌, length, take, drop, codes, All, IsTrue, IfSome, Some, slice_index_or};
 ghost use Rattle.std.specs.List.{flat_map};
+ghost use Rattle.check_library.specs.Diagnostics.{diagnostics, faults_in};
 ghost use Rattle.check_library.specs.Pieces.{begins, IsComment, comment_size, marks, pieces, word_size, integer_size, double_size, mark_size, lexeme_at};
 
 /// The pieces of a text cover it, one after another without overlap, and none is empty.
@@ -26,4 +27,9 @@ pub fn a_lexeme_is_the_longest(_text: &[u8])
 pub fn a_comment_is_as_its_grammar_says(_text: &[u8], _comment: &[u8])
     ensures sound { IfSome (comment_size _text.now) (λ size. IsComment (take size (codes "/*" ++ _text.now))) }
     ensures complete { IsComment _comment.now → comment_size (drop 2 (_comment.now ++ _text.now)) ≡ Some (length _comment.now) }
+{}
+
+/// A text of which nothing is reported has nothing wrong with it: the report leaves out repeats alone.
+pub fn no_diagnostics_means_no_faults(_text: &[u8])
+    ensures { diagnostics _text.now ≡ [] → faults_in _text.now ≡ [] }
 {}

@@ -162,6 +162,40 @@ fn no_node_lies_deeper_than_200(rt: HostRuntime) -> Result<(), Fail> {
     Ok(())
 }
 
+/// Whether a text has a tree, and the numbers of the nodes of its typed tree, in their order.
+fn typed(alloc: Global, text: &str) -> Result<(bool, Vec<u32>), Fail> {
+    let mut numbers = Vec::new(alloc);
+    if text.len() > 100_000 {
+        return Ok((false, numbers));
+    }
+    let checked = check(alloc, "/a.dart", text)?;
+    for node in &checked.typed {
+        numbers.push(node.node.0)?;
+    }
+    Ok((checked.unit.is_some(), numbers))
+}
+
+/// Nodes are numbered in reading order: the unit has 0, its function 1 and the body 2.
+#[test]
+fn a_typed_tree_has_the_parts_of_a_node_before_it(rt: HostRuntime) -> Result<(), Fail> {
+    let table: [(&str, bool, &[u32]); 4] = [
+        ("void main(){}", true, &[2]),
+        ("void main(){int x;x=1;}", true, &[3, 8, 6, 2]),
+        (
+            "void main(){if(true){}else{1;}}",
+            true,
+            &[4, 5, 8, 7, 6, 3, 2],
+        ),
+        ("void main(){", false, &[]),
+    ];
+    for (text, is_unit, expected) in table {
+        let (has_tree, numbers) = typed(rt.alloc(), text)?;
+        assert_eq!(rt; has_tree, is_unit);
+        assert_eq!(rt; numbers.as_slice(), expected);
+    }
+    Ok(())
+}
+
 #[test]
 fn diagnostics_are_listed_by_place_and_code_and_once(rt: HostRuntime) -> Result<(), Fail> {
     let fault = |start: u16, length: u16, code| Fault {

@@ -4,7 +4,7 @@ ghost use Rattle.std.specs.Prelude.{◌≡◌, ◌+◌, ◌<◌, ◌≤◌, ◌^
 ghost use Rattle.dart_tree.specs.Numbers.{nodes_in};
 ghost use Rattle.readings.specs.Readings.{whole};
 ghost use Rattle.check_library.specs.Grammar.{below, deepest, tree_of};
-ghost use Rattle.check_library.specs.Tokens.{text_limit};
+ghost use Rattle.check_library.specs.Tokens.{text_limit, tokens_of};
 
 use crate::parse::{Miss, unit};
 use crate::scan::{Words, scan};
@@ -35,10 +35,11 @@ fn whole_unit(
 }
 
 /// The tree of a text of at most 16,777,216 bytes, its nodes numbered in reading order; None where
-/// the text is no unit of the grammar.
+/// the text is no unit of the grammar. It has no more nodes than the text has tokens.
 pub fn tree(alloc: Global, text: &[u8]) -> Result<Option<Unit>, AllocError>
     requires { length text.now ≤ text_limit }
-    ensures { IfOk result (λ found. found ≡ tree_of text.now) }
+    ensures tree { IfOk result (λ found. found ≡ tree_of text.now) }
+    ensures few { IfOk result (λ found. IfSome found (λ unit. nodes_in unit ≤ length (tokens_of text.now))) }
 {
     let scanned = scan(alloc, text)?;
     let Some(mut unit) = whole_unit(alloc, &scanned.words, &scanned.tokens)? else {
