@@ -13,10 +13,14 @@ pub record FlowModel : Type 0 where
   pub reachable : Bool
   pub locals : List Facts
 
+-- how what is known of one local is stored
+abbrev pub facts_code : Coded Facts
+facts_code = facts.the_row.coded
+
 -- how a flow model is stored
 abbrev pub flow_code : Coded FlowModel
 flow_code =
-    code_by (Bool × List Facts) (coded× coded_bool (coded_list facts.the_row.coded)) (λ m. (m.reachable, m.locals)) (λ p. record { reachable = p.0; locals = p.1 }) (λ _. refl)
+    code_by (Bool × List Facts) (coded× coded_bool (coded_list facts_code)) (λ m. (m.reachable, m.locals)) (λ p. record { reachable = p.0; locals = p.1 }) (λ _. refl)
 
 -- each local has a smaller number than those behind it
 abbrev pub IsInOrder : List Facts → Type 0

@@ -4,12 +4,14 @@
 //! which `specs/Sub.antt` states as a relation. A `Flow` is a flow model: whether a point can be
 //! reached, and for each local in scope what is known of it. Each of its calls is one equation over
 //! the model, by the definitions of `specs/Flow.antt`, `specs/Assign.antt`, `specs/Join.antt` and
-//! `specs/Steps.antt`. The crate stands on std alone.
+//! `specs/Steps.antt`. A copy of a model shares what is known of each local, so it costs no more than
+//! a list of them. The crate stands on std alone.
 #![tactic(auto)]
 
 mod facts;
 mod join;
 mod laws;
+mod local;
 mod locals;
 mod model;
 mod subtyping;

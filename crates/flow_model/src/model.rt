@@ -9,6 +9,7 @@ ghost use Rattle.flow_model.specs.Steps.{conservative_of, exit_of, non_null_fact
 ghost use Rattle.flow_model.specs.Place.{StandsAt, WouldStandAt};
 
 use crate::join::join_locals;
+use crate::local::Local;
 use crate::locals::{Facts, LocalDecl, LocalId};
 use crate::subtyping::Rows;
 use crate::types::DartType;
@@ -17,11 +18,12 @@ use std::marker::Model;
 
 /// What is known of the locals at a point of a body.
 ///
-/// The locals in scope stand in the order of their numbers, so one is found by a binary search.
+/// The locals in scope stand in the order of their numbers, so one is found by a binary search. A
+/// copy of a model shares what is known of each local, until one of the two changes it.
 #[derive(Drop)]
 pub struct Flow {
     reachable: bool,
-    locals: Vec<Facts>,
+    locals: Vec<Local>,
 }
 
 impl Model for Flow {
@@ -62,11 +64,11 @@ impl Flow {
         ensures ok { OnOk result (self.new ≡ declare_of self.old var.now) }
         ensures err { OnErr result (self.new ≡ self.old) }
     {
-        let facts = Facts::fresh(alloc, var)?;
+        let local = Local::fresh(alloc, var)?;
         match self.search(var.var) {
             Ok(_) => unreachable!(),
             Err(place) => {
-                self.locals.insert(place, facts)?;
+                self.locals.insert(place, local)?;
                 Ok(())
             }
         }
@@ -179,7 +181,8 @@ impl Flow {
     {
         match self.search(var) {
             Ok(place) => {
-                self.locals[place].assign(alloc, rows, written)?;
+                let changed = self.locals[place].assign(alloc, rows, written)?;
+                self.locals[place] = changed;
                 Ok(())
             }
             Err(_) => unreachable!(),
@@ -203,7 +206,8 @@ impl Flow {
     {
         match self.search(var) {
             Ok(place) => {
-                self.locals[place].non_null(alloc)?;
+                let changed = self.locals[place].non_null(alloc)?;
+                self.locals[place] = changed;
                 Ok(())
             }
             Err(_) => Ok(()),
@@ -232,26 +236,36 @@ impl Flow {
 
     /// Forgets what code that may run any number of times, or at a later time, could change: of
     /// the locals that it writes or captures, what they are promoted to and that they have no
-    /// value. Those that it captures are captured from now on. It takes no memory, and costs a
-    /// binary search for each entry of both lists.
-    pub fn conservative_join(&mut self, written: &[LocalId], captured: &[LocalId])
-        ensures { self.new ≡ conservative_of self.old written.now captured.now }
+    /// value. Those that it captures are captured from now on. It costs a copy of the model, and a
+    /// binary search for each entry of both lists. After an `Err` the model is as before.
+    pub fn conservative_join(
+        &mut self,
+        alloc: Global,
+        written: &[LocalId],
+        captured: &[LocalId],
+    ) -> Result<(), AllocError>
+        ensures ok { OnOk result (self.new ≡ conservative_of self.old written.now captured.now) }
+        ensures err { OnErr result (self.new ≡ self.old) }
     {
+        let mut forgotten = self.copy(alloc)?;
         for var in written {
-            self.forget_written(*var);
+            forgotten.forget_written(alloc, *var)?;
         }
         for var in captured {
-            self.forget_captured(*var);
+            forgotten.forget_captured(alloc, *var)?;
         }
+        *self = forgotten;
+        Ok(())
     }
 
-    /// A second value of the same model.
+    /// A second value of the same model. It shares what is known of each local, and has room for
+    /// one more.
     pub fn copy(&self, alloc: Global) -> Result<Flow, AllocError>
         ensures { IfOk result (λ copied. copied ≡ self.now) }
     {
-        let mut locals = Vec::new(alloc);
-        for facts in &self.locals {
-            locals.push(facts.copy(alloc)?)?;
+        let mut locals = Vec::with_capacity(alloc, self.locals.len().saturating_add(1))?;
+        for local in &self.locals {
+            locals.push(local.share()?)?;
         }
         Ok(Flow {
             reachable: self.reachable,
@@ -267,23 +281,25 @@ impl Flow {
     }
 
     // Forgets what code that writes the local could change.
-    fn forget_written(&mut self, var: LocalId)
-        ensures { self.new ≡ conservative_of self.old (var ∷ []) [] }
+    fn forget_written(&mut self, alloc: Global, var: LocalId) -> Result<(), AllocError>
+        ensures { OnOk result (self.new ≡ conservative_of self.old (var ∷ []) []) }
     {
         if let Ok(place) = self.search(var) {
-            self.locals[place].forget();
+            let changed = self.locals[place].forget(alloc)?;
+            self.locals[place] = changed;
         }
+        Ok(())
     }
 
     // Forgets what code that captures the local could change; it is captured from now on.
-    fn forget_captured(&mut self, var: LocalId)
-        ensures { self.new ≡ conservative_of self.old [] (var ∷ []) }
+    fn forget_captured(&mut self, alloc: Global, var: LocalId) -> Result<(), AllocError>
+        ensures { OnOk result (self.new ≡ conservative_of self.old [] (var ∷ [])) }
     {
         if let Ok(place) = self.search(var) {
-            let facts = &mut self.locals[place];
-            facts.forget();
-            facts.captured = true;
+            let changed = self.locals[place].capture(alloc)?;
+            self.locals[place] = changed;
         }
+        Ok(())
     }
 
     // What is known of a local.
@@ -291,7 +307,7 @@ impl Flow {
         ensures { option_copied result ≡ facts_of self.now var }
     {
         match self.search(var) {
-            Ok(place) => Some(&self.locals[place]),
+            Ok(place) => Some(self.locals[place].facts()),
             Err(_) => None,
         }
     }
@@ -302,12 +318,12 @@ impl Flow {
         ensures absent { IfErr result (WouldStandAt self.now.locals var) }
     {
         self.locals
-            .binary_search_by_key(&var.0, |facts| facts.var.0)
+            .binary_search_by_key(&var.0, |local| local.facts().var.0)
     }
 }
 
 // Whether both lists have the same facts, in the same order.
-fn have_same_facts(locals: &[Facts], others: &[Facts]) -> bool
+fn have_same_facts(locals: &[Local], others: &[Local]) -> bool
     ensures { IsTrue result ↔ (locals.now ≡ others.now) }
 {
     if locals.len() != others.len() {

@@ -133,7 +133,10 @@ fn paths_meet(rt: HostRuntime) -> Result<(), Fail> {
     types.clear();
     assert!(rt; types.as_slice().is_empty());
 
-    narrowed.conservative_join(&[x], &[y]);
+    let kept = narrowed.copy(alloc)?;
+    narrowed.conservative_join(alloc, &[x], &[y])?;
+    assert!(rt; kept.current(x).ok_or("not in scope")?.is_same(&int));
+    assert!(rt; !kept.is_captured(y));
     assert!(rt; narrowed.current(x).ok_or("not in scope")?.admits_null());
     assert!(rt; narrowed.is_captured(y));
     assert!(rt; !narrowed.is_unassigned(y));

@@ -16,7 +16,7 @@ pub returns-clause-ok : goal.returns-clause-ok
 returns-clause-ok c =
     let same = ap (λ (m : FlowModel). m.locals) c.self.view_is in
     let change = assign_facts c.args.rows.now c.args.written.now in
-    let there = map_there c.self.inside.locals.items c.self.invariant c.args.var c.in-Ok.place (rw same c.in-Ok.ensures.found) change c.index_mut.result.now in
-    let made = c.in_ok-assign-in-Ok.ensures.ok in
-    let written = ap (λ (l : Facts). set c.self.inside.locals.items c.in-Ok.place (change l)) c.index_mut.ensures.value in
-    rw (← c.self.view_is) (ap (with_locals c.self.inside.reachable) (ap (λ (l : Facts). set c.self.inside.locals.items c.in-Ok.place l) made ∙ (written ∙ sym there)))
+    let there = map_there c.self.inside.locals.items c.self.invariant c.args.var c.in-Ok.place (rw same c.in-Ok.ensures.found) change c.index.result.now in
+    let made = c.in_ok-changed-in-Ok.ensures in
+    let read = ap (λ (l : Facts). set c.self.inside.locals.items c.in-Ok.place (change l)) c.index.ensures in
+    rw (← c.self.view_is) (ap (with_locals c.self.inside.reachable) (ap (λ (l : Facts). set c.self.inside.locals.items c.in-Ok.place l) made ∙ (read ∙ sym there)))

@@ -9,7 +9,7 @@ pub returns-in-Ok : goal.returns-in-Ok
 returns-in-Ok c =
     let same = ap (λ (m : FlowModel). m.locals) c.self.view_is in
     let there = find_there c.self.inside.locals.items c.self.invariant c.args.var c.in-Ok.place (rw same c.in-Ok.ensures.found) c.index.result.now in
-    rw (← c.self.view_is) (ap (λ (l : Facts). Some l) c.index.ensures ∙ sym there)
+    rw (← c.self.view_is) (ap (λ (l : Facts). Some l) (c.facts.ensures ∙ c.index.ensures) ∙ sym there)
 
 -- the local stands nowhere
 pub returns-in-Err : goal.returns-in-Err

@@ -7,13 +7,13 @@ use Rattle.flow_model.proofs.Scopes.{with_locals}
 use Rattle.flow_model.proofs.model.Flow.non_null.Goals as goal
 
 -- the change at its place is the change of the local
-pub returns-in_ok-non_null-in-Ok-clause-ok : goal.returns-in_ok-non_null-in-Ok-clause-ok
-returns-in_ok-non_null-in-Ok-clause-ok c =
+pub returns-in_ok-changed-in-Ok-clause-ok : goal.returns-in_ok-changed-in-Ok-clause-ok
+returns-in_ok-changed-in-Ok-clause-ok c =
     let same = ap (λ (m : FlowModel). m.locals) c.self.view_is in
-    let there = map_there c.self.inside.locals.items c.self.invariant c.args.var c.in-Ok.place (rw same c.in-Ok.ensures.found) non_null_facts c.index_mut.result.now in
-    let made = c.in_ok-non_null-in-Ok.ensures.ok in
-    let written = ap (λ (l : Facts). set c.self.inside.locals.items c.in-Ok.place (non_null_facts l)) c.index_mut.ensures.value in
-    rw (← c.self.view_is) (ap (with_locals c.self.inside.reachable) (ap (λ (l : Facts). set c.self.inside.locals.items c.in-Ok.place l) made ∙ (written ∙ sym there)))
+    let there = map_there c.self.inside.locals.items c.self.invariant c.args.var c.in-Ok.place (rw same c.in-Ok.ensures.found) non_null_facts c.index.result.now in
+    let made = c.in_ok-changed-in-Ok.ensures in
+    let read = ap (λ (l : Facts). set c.self.inside.locals.items c.in-Ok.place (non_null_facts l)) c.index.ensures in
+    rw (← c.self.view_is) (ap (with_locals c.self.inside.reachable) (ap (λ (l : Facts). set c.self.inside.locals.items c.in-Ok.place l) made ∙ (read ∙ sym there)))
 
 -- a local that stands nowhere is passed over
 pub returns-in-Err-clause-ok : goal.returns-in-Err-clause-ok
