@@ -8,7 +8,7 @@ use Rattle.judgement.specs.NodeFacts.{NodeFacts}
 use Rattle.judgement.specs.Typed.{typed_unit}
 use Rattle.check_library.specs.Tokens.{text_limit, tokens_of}
 use Rattle.check_library.specs.Grammar.{tree_of}
-use Rattle.check_library.specs.Diagnostics.{diagnostics}
+use Rattle.check_library.specs.Diagnostics.{faults_in, diagnostics}
 use Rattle.check_library.specs.declared.library.Checked.{Checked}
 
 -- the typed tree of a text: none where the text is no unit
@@ -22,3 +22,9 @@ pub record IsCheckOf (text : List ℕ) (checked : Checked) : Type 0 where
   pub few : (t : Tree) → checked.unit ≡ Some t → nodes_in t ≤ length (tokens_of text)
   pub typed : checked.typed.items ≡ typed_tree text
   pub diagnostics : checked.diagnostics ≡ diagnostics text
+
+-- a library that was checked, and in whose text nothing is wrong
+pub record IsFaultless (checked : Checked) : Type 0 where
+  pub text : List ℕ
+  pub check : IsCheckOf text checked
+  pub none : faults_in text ≡ []
