@@ -62,7 +62,7 @@ pub(super) fn head_of_loop(
     let mut written = Vec::new(alloc);
     add_written_in_block(alloc, names, &body.statements, &mut written)?;
     let mut head = before.copy(alloc)?;
-    head.conservative_join(&written, &[]);
+    head.conservative_join(alloc, &written, &[])?;
     shared(alloc, before, head)
 }
 
