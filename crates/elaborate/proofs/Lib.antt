@@ -1,4 +1,5 @@
 pub mod Claims
+pub mod Shapes
 pub mod Contexts
 pub mod Expressions
 pub mod Statements
