@@ -1,5 +1,6 @@
 pub mod Claims
 pub mod Shapes
+pub mod Models
 pub mod Contexts
 pub mod Expressions
 pub mod Statements

@@ -1,13 +1,11 @@
 -- What a step does to a local of one of the shapes: a case for each shape.
-use Rattle.std.proofs.Common.{◌≡◌, true, false, arith, refl, sym, ap, ◌∙◌}
-use Rattle.std.specs.Prelude.{Bool, IsTrue, List, [], ◌∷◌, ◌++◌, if◌then◌else◌, not, ◌&&◌}
+use Rattle.std.proofs.Common.{◌≡◌, false, arith, refl}
+use Rattle.std.specs.Prelude.{Bool, IsTrue, List, [], ◌∷◌, ◌++◌}
 use Rattle.flow_model.specs.Ty.{Ty, invalid, never, null, int, bool, nullable, same_type, non_null_of}
 use Rattle.flow_model.specs.Sub.{no_rows, sub}
-use Rattle.flow_model.specs.Flow.{last_or, current_of}
+use Rattle.flow_model.specs.Flow.{last_or}
 use Rattle.flow_model.specs.Assign.{chain_after}
 use Rattle.flow_model.specs.Join.{common_of}
-use Rattle.flow_model.specs.Steps.{non_null_facts}
-use Rattle.flow_model.specs.declared.locals.Facts.{Facts}
 use Rattle.flow_model.proofs.SubLaws.{transitive, related_from_sub, sub_from_related}
 use Rattle.elaborate.proofs.Claims.{is_shape}
 
@@ -125,29 +123,9 @@ written_shape int int_for_now = refl
 written_shape bool int_for_now = refl
 written_shape (nullable u) shape = nullable_written u shape
 
--- what is left of a chain where the local isn't null
-abbrev pub chain_not_null : Ty → List Ty → Bool → List Ty
-chain_not_null ty chain captured =
-    (non_null_facts (record {
-      var = record { 0 = 0 };
-      ty = ty;
-      chain = chain;
-      tested = [];
-      assigned = false;
-      unassigned = false;
-      captured = captured;
-    })).chain
-
--- a local that isn't null has a shape
-pub not_null_shape : {ty : Ty} {chain : List Ty} → Shape ty chain → IsTrue (is_shape ty (chain_not_null ty chain false))
-not_null_shape an_int = refl
-not_null_shape a_bool = refl
-not_null_shape int_or_null = refl
-not_null_shape int_for_now = refl
-
--- and a subtype of the type that it had
-pub not_null_below : {ty : Ty} {chain : List Ty} → Shape ty chain → IsTrue (sub no_rows (last_or ty (chain_not_null ty chain false)) (last_or ty chain))
-not_null_below an_int = refl
-not_null_below a_bool = refl
-not_null_below int_or_null = refl
-not_null_below int_for_now = refl
+-- a local that a test finds not to be null, where that says more than was known, has a shape, and a subtype of the type that it had
+pub not_null_shape : {ty : Ty} {chain : List Ty} → Shape ty chain → same_type (non_null_of (last_or ty chain)) (last_or ty chain) ≡ false → IsTrue (is_shape ty (chain ++ non_null_of (last_or ty chain) ∷ [])) × IsTrue (sub no_rows (last_or ty (chain ++ non_null_of (last_or ty chain) ∷ [])) (last_or ty chain))
+not_null_shape an_int more = cc
+not_null_shape a_bool more = cc
+not_null_shape int_or_null more = (refl, refl)
+not_null_shape int_for_now more = cc
