@@ -1,6 +1,7 @@
 pub mod Claims
 pub mod Shapes
 pub mod Models
+pub mod Meetings
 pub mod Contexts
 pub mod Expressions
 pub mod Statements

@@ -140,6 +140,14 @@ carries_through frame ws vs us m n o parts first second = record {
   keeps = keeps_through ws vs us m n o parts first.keeps second.keeps;
 }
 
+-- a step that may write more
+pub carries_more : (frame : Frame) (ws us : List LocalId) (m n : FlowModel) → ((var : LocalId) → is_listed us var ≡ false → is_listed ws var ≡ false) → Carries frame ws m n → Carries frame us m n
+carries_more frame ws us m n parts step = record {
+  good = step.good;
+  scope = step.scope;
+  keeps = keeps_through [] ws us m m n (λ var unlisted. (refl, parts var unlisted)) (keeps_itself [] m) step.keeps;
+}
+
 -- what is known of one local after a step
 pub record Moves (frame : Frame) (written : Bool) (l l' : Facts) : Type 0 where
   pub fits : Fits frame l'
