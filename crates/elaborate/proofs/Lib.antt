@@ -2,6 +2,8 @@ pub mod Claims
 pub mod Shapes
 pub mod Models
 pub mod Meetings
+pub mod Branches
+pub mod Implications
 pub mod Contexts
 pub mod Expressions
 pub mod Statements

@@ -20,7 +20,7 @@ use Rattle.flow_model.proofs.SameScope.{local_of as scoped, scope-join_of}
 use Rattle.flow_model.proofs.JoinLaws.{find-join}
 use Rattle.elaborate.specs.Frame.{Frame, Local, is_local}
 use Rattle.elaborate.proofs.Claims.{is_shape, Fits, IsGood}
-use Rattle.elaborate.proofs.Shapes.{Shape, shape_of, joined_shape, joined_below}
+use Rattle.elaborate.proofs.Shapes.{Shape, shape_of, joined_shape, joined_above_first, joined_above_second, joined_below}
 use Rattle.elaborate.proofs.Models.{IsLater, Keeps, Carries, carries_more, var_found, present_at, later_itself, write_carries}
 
 -- the two facts known of a local where two paths meet, one for each
@@ -59,6 +59,14 @@ module _ (frame : Frame) (a b : Facts) (fits_a : Fits frame a) (fits_b : Fits fr
         rw (joined_chain, first.ty) (joined_below now_a now_b (shape_of l.ty l.chain fits.shape) below_a below_b);
   }
 
+  -- what is known on the first path implies what is known after both
+  pub joined_above_a : IsTrue (sub no_rows (current_of a) (current_of (join_facts a b)))
+  joined_above_a = rw joined_chain (joined_above_first shape_a shape_b)
+
+  -- and so does what is known on the second
+  pub joined_above_b : IsTrue (sub no_rows (current_of b) (current_of (join_facts a b)))
+  joined_above_b = rw (joined_chain, ty) (joined_above_second shape_a shape_b)
+
 -- what both paths know of a local, and what is known of it where they meet
 pub record Joined (a b : FlowModel) (var : LocalId) (l : Facts) : Type 0 where
   pub first : Facts
@@ -73,7 +81,7 @@ abbrev pub met : FlowModel → FlowModel → FlowModel
 met a b = record { reachable = true; locals = join_locals a.locals b.locals }
 
 -- its scope
-scope_of-met : (a b : FlowModel) → HaveSameScope a b → scope_of (met a b) ≡ scope_of a
+pub scope_of-met : (a b : FlowModel) → HaveSameScope a b → scope_of (met a b) ≡ scope_of a
 scope_of-met a b same =
     scope-join_of (record { reachable = true; locals = a.locals }) (record { reachable = true; locals = b.locals }) same
 

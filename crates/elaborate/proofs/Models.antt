@@ -67,7 +67,7 @@ none_before f None is = refl
 none_before f (Some x) is = cc
 
 -- something is found where something comes of it
-some_before : {X Y : Type 0} (f : X → Y) (found : Option X) (y : Y) → option_map f found ≡ Some y → (x : X) × (found ≡ Some x) × (f x ≡ y)
+pub some_before : {X Y : Type 0} (f : X → Y) (found : Option X) (y : Y) → option_map f found ≡ Some y → (x : X) × (found ≡ Some x) × (f x ≡ y)
 some_before f None y is = cc
 some_before f (Some x) y is = (x, refl, cc)
 
@@ -231,6 +231,13 @@ write_carries frame m var written good =
       later = record { ty = refl; assigned = λ h. refl; narrower = λ unwritten. cc };
     })
     (λ other. record { fits = fits; later = later_itself (is_listed (var ∷ []) l.var) l }))
+
+-- what is known of a local at the head of a loop
+pub facts_of-loop : (m : FlowModel) (written : List LocalId) (var : LocalId) → facts_of (conservative_of m written []) var ≡ option_map (conservative_facts written []) (facts_of m var)
+facts_of-loop m written var =
+    found-map (is_of var) (is_of var) (conservative_facts written [])
+    (λ l. ap (λ (local : LocalId × Ty). nat_eq local.0.0 var.0) (local-conservative written [] l))
+    m.locals
 
 -- what code could change
 pub loop_carries : (frame : Frame) (m : FlowModel) (written : List LocalId) → IsGood frame m → Carries frame written m (conservative_of m written [])
