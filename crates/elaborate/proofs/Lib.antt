@@ -4,6 +4,7 @@ pub mod Models
 pub mod Meetings
 pub mod Branches
 pub mod Implications
+pub mod Ahead
 pub mod Contexts
 pub mod Expressions
 pub mod Statements
