@@ -70,7 +70,7 @@ implied_itself frame m good =
     subst (λ (facts : Facts). IsImplied l facts) (same_value (facts_of m var) l l' is is') (record { assigned = λ h. h; narrower = sub-refl no_rows (current_of l); own_before = fits.own; own_after = fits.own }))
 
 -- the local of a frame that is contained in it is found, where each stands once
-contained_found : (locals : List Local) → AllPairs (λ a b. a.var.0 ≢ b.var.0) locals → (local : Local) → Contains locals local → find (is_local local.var) locals ≡ Some local
+pub contained_found : (locals : List Local) → AllPairs (λ a b. a.var.0 ≢ b.var.0) locals → (local : Local) → Contains locals local → find (is_local local.var) locals ≡ Some local
 contained_found locals distinct local within =
     let is : get_or locals within.0 local ≡ local = within.2 in
     let here : is_local local.var (get_or locals within.0 local) ≡ true = rw is (eq-eqb local.var.0 local.var.0 refl) in
@@ -94,7 +94,7 @@ joined_implies frame a b fits_a fits_b ty = (
     narrower = joined_above_b frame a b fits_a fits_b ty;
     own_before = fits_b.own;
     own_after = rw (fits_a.own, fits_b.own) refl;
-  }
+  },
 )
 
 -- where two paths of a scope meet
@@ -103,17 +103,17 @@ module _ (frame : Frame) (a b : FlowModel) (good_a : IsGood frame a) (good_b : I
   met_implied : Implies frame a (met a b) × Implies frame b (met a b)
   met_implied = (
     implied frame a (met a b) (sym (scope_of-met a b same)) (λ h. refl)
-    (λ var l l' is is' ty.
-    let joined = joined_local a b same var l' is' in
-    let first = same_value (facts_of a var) joined.first l joined.is_first is in
-    let both = joined_implies frame joined.first joined.second (good_a.fits var joined.first joined.is_first) (good_b.fits var joined.second joined.is_second) joined.ty in
-    subst (λ (before : Facts). IsImplied before l') first (subst (λ (after : Facts). IsImplied joined.first after) joined.is both.0)),
+        (λ var l l' is is' ty.
+        let joined = joined_local a b same var l' is' in
+        let first = same_value (facts_of a var) joined.first l joined.is_first is in
+        let both = joined_implies frame joined.first joined.second (good_a.fits var joined.first joined.is_first) (good_b.fits var joined.second joined.is_second) joined.ty in
+        subst (λ (before : Facts). IsImplied before l') first (subst (λ (after : Facts). IsImplied joined.first after) joined.is both.0)),
     implied frame b (met a b) (sym (scope_of-met a b same ∙ same)) (λ h. refl)
-    (λ var l l' is is' ty.
-    let joined = joined_local a b same var l' is' in
-    let second = same_value (facts_of b var) joined.second l joined.is_second is in
-    let both = joined_implies frame joined.first joined.second (good_a.fits var joined.first joined.is_first) (good_b.fits var joined.second joined.is_second) joined.ty in
-    subst (λ (before : Facts). IsImplied before l') second (subst (λ (after : Facts). IsImplied joined.second after) joined.is both.1))
+        (λ var l l' is is' ty.
+        let joined = joined_local a b same var l' is' in
+        let second = same_value (facts_of b var) joined.second l joined.is_second is in
+        let both = joined_implies frame joined.first joined.second (good_a.fits var joined.first joined.is_first) (good_b.fits var joined.second joined.is_second) joined.ty in
+        subst (λ (before : Facts). IsImplied before l') second (subst (λ (after : Facts). IsImplied joined.second after) joined.is both.1)),
   )
 
   -- what is known on the first path implies what is known where they meet

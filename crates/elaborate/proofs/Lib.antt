@@ -5,6 +5,7 @@ pub mod Meetings
 pub mod Branches
 pub mod Implications
 pub mod Ahead
+pub mod Meant
 pub mod Contexts
 pub mod Expressions
 pub mod Statements

@@ -120,12 +120,11 @@ module _ (frame : Frame) (ws vs us : List LocalId) (parts : (var : LocalId) → 
     keeps = record {
       each = λ var l is.
           let on_a = first.keeps.each var l is in
-          let on_b = second.keeps.each var l is in
-          (
+          let on_b = second.keeps.each var l is in (
             join_facts on_a.0 on_b.0,
             find-join var a.locals b.locals paths_scope on_a.0 on_b.0 on_a.1 on_b.1,
             joined_later frame on_a.0 on_b.0 (first.good.fits var on_a.0 on_a.1) (second.good.fits var on_b.0 on_b.1) (on_b.2.ty ∙ sym on_a.2.ty) (is_listed ws var) (is_listed vs var) (is_listed us var) l
-            (good.fits var l is) (parts var) on_a.2 on_b.2
+                (good.fits var l is) (parts var) on_a.2 on_b.2,
           );
     };
   }
