@@ -1,14 +1,13 @@
 -- The locals that trees are still to declare.
-use Rattle.std.proofs.Common.{◌≡◌, ◌≢◌, ℕ, zero, suc, ◌<◌, Bool, true, false, nat_eq, List, [], ◌∷◌, ◌++◌, length, get_or, Option, Some, None, IsTrue, refl, sym, ap, subst, ◌∙◌, arith}
-use Rattle.std.specs.Prelude.{◌||◌, All, AllPairs, find}
+use Rattle.std.proofs.Common.{◌≡◌, ◌≢◌, suc, Bool, true, false, nat_eq, List, [], ◌∷◌, ◌++◌, get_or, Some, None, refl, sym, ◌∙◌, arith}
+use Rattle.std.specs.Prelude.{All, AllPairs, find}
 use Rattle.std.proofs.lemmas.Bool.{or_from, ne_eqb}
 use Rattle.std.proofs.lemmas.List.Elements.{All-nil, All-cons, All-head, All-tail}
 use Rattle.std.proofs.lemmas.List.Kept.{AllPairs-cons}
 use Rattle.std.proofs.lemmas.List.Folds.{list_any-append}
 use Rattle.dart_tree.specs.Tree.{Tree, Trees, Part, no_more, more, absent, present, declare}
-use Rattle.flow_model.specs.Ty.{Ty}
-use Rattle.flow_model.specs.Flow.{FlowModel, is_listed, facts_of, declare_of, end_of}
-use Rattle.flow_model.specs.Join.{HaveSameScope, scope_of}
+use Rattle.flow_model.specs.Flow.{FlowModel, is_listed, facts_of, declare_of}
+use Rattle.flow_model.specs.Join.{HaveSameScope}
 use Rattle.flow_model.specs.declared.locals.LocalId.{LocalId}
 use Rattle.flow_model.specs.declared.locals.Facts.{Facts}
 use Rattle.flow_model.proofs.Scopes.{facts_of-declare_other}

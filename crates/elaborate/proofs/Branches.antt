@@ -1,10 +1,10 @@
 -- What an expression leaves of what is known: nothing changes, but for a local that a test finds not to be null, and what is never reached.
 use Rattle.std.proofs.Common.{◌≡◌, Bool, true, false, Option, Some, None, IsTrue, refl, sym, subst, ◌∙◌}
-use Rattle.std.specs.Prelude.{ℕ, []}
+use Rattle.std.specs.Prelude.{[]}
 use Rattle.std.specs.Option.{option_map_or}
 use Rattle.std.specs.FinMap.{get}
 use Rattle.std.proofs.lemmas.Bool.{cond_both}
-use Rattle.dart_tree.specs.Tree.{Tree, Part, name, integer, boolean, null_literal, binary}
+use Rattle.dart_tree.specs.Tree.{Tree, name, integer, boolean, binary}
 use Rattle.dart_tree.specs.Places.{place_of}
 use Rattle.dart_tree.specs.declared.places.Place.{Place}
 use Rattle.dart_tree.specs.declared.places.Span.{Span}

@@ -1,9 +1,9 @@
 -- What is known where statements stand in which nothing is wrong.
-use Rattle.std.proofs.Common.{◌≡◌, ◌≢◌, ℕ, Bool, true, false, ◌&&◌, List, [], ◌∷◌, ◌++◌, if◌then◌else◌, Option, Some, None, IsTrue, refl, sym, ap, subst, ◌∙◌, inl, inr, ⊎_elim, arith, get_or}
-use Rattle.std.specs.Prelude.{◌⊎◌, All, AllPairs, find, is_some}
+use Rattle.std.proofs.Common.{◌≡◌, ◌≢◌, true, false, ◌&&◌, List, [], ◌∷◌, ◌++◌, if◌then◌else◌, Option, Some, None, IsTrue, refl, sym, ap, subst, ◌∙◌, inl, inr, arith, get_or}
+use Rattle.std.specs.Prelude.{All, AllPairs, find, is_some}
 use Rattle.std.specs.Option.{option_map_or}
 use Rattle.std.specs.FinMap.{empty, get}
-use Rattle.std.proofs.lemmas.Bool.{and_parts, cases_Bool, cond_both}
+use Rattle.std.proofs.lemmas.Bool.{and_parts, cond_both}
 use Rattle.std.proofs.lemmas.List.Elements.{All-head, Contains-get_or}
 use Rattle.dart_tree.specs.Tree.{Tree, Trees, Part, no_more, more, absent, present, int_type, bool_type, declare, assign, eval, print, if_statement, while_statement, block}
 use Rattle.dart_tree.specs.Places.{place_of}
@@ -11,28 +11,27 @@ use Rattle.dart_tree.specs.declared.places.Place.{Place}
 use Rattle.dart_tree.specs.declared.nodes.Name.{Name}
 use Rattle.flow_model.specs.Ty.{Ty}
 use Rattle.flow_model.specs.Sub.{no_rows}
-use Rattle.flow_model.specs.Flow.{FlowModel, IsInOrder, facts_of, at_local, is_listed, declare_of, end_of, start_of}
+use Rattle.flow_model.specs.Flow.{FlowModel, IsInOrder, facts_of, at_local, declare_of, end_of, start_of}
 use Rattle.flow_model.specs.Assign.{assign_facts}
 use Rattle.flow_model.specs.Join.{HaveSameScope, scope_of, join_of}
-use Rattle.flow_model.specs.Steps.{conservative_of}
 use Rattle.flow_model.specs.declared.locals.LocalId.{LocalId}
 use Rattle.flow_model.specs.declared.locals.Facts.{Facts}
 use Rattle.flow_model.proofs.Scopes.{end_of-none, end_of-cons, end_of-declare_of}
-use Rattle.flow_model.proofs.SameScope.{same-end, scope-at_local}
-use Rattle.judgement.specs.declared.DiagnosticCode.TheVariants.{DuplicateDefinition, ReferencedBeforeDeclaration, UndefinedName}
+use Rattle.flow_model.proofs.SameScope.{same-end}
+use Rattle.judgement.specs.declared.DiagnosticCode.TheVariants.{DuplicateDefinition, UndefinedName}
 use Rattle.judgement.specs.Names.{Names, names_within, local_of, declared_by, locals_of}
 use Rattle.judgement.specs.Written.{written_in, written_in_all, written_in_part}
-use Rattle.judgement.specs.Rows.{Outcome, just, complains, condition_faults, fit_faults, write_row, assign_row, declared_local, declare_row, initialize_row, loop_head}
+use Rattle.judgement.specs.Rows.{Outcome, just, complains, condition_faults, fit_faults, write_row, assign_row, declared_local, initialize_row, loop_head}
 use Rattle.judgement.specs.Judgement.{type_of, evaluate, run, run_all, run_part}
 use Rattle.elaborate.specs.Frame.{Local, Frame, frame_of, is_local, locals_in, locals_in_all, locals_in_part}
 use Rattle.elaborate.specs.Forms.{is_expression, is_expression_part, is_written_type, is_block, is_statement, are_statements, is_block_part}
 use Rattle.elaborate.proofs.Claims.{is_shape, IsGood, Implies}
-use Rattle.elaborate.proofs.Models.{Keeps, Carries, keeps_itself, keeps_through, unlisted_parts, carries_itself, carries_through, carries_more, write_carries, loop_carries}
+use Rattle.elaborate.proofs.Models.{Keeps, Carries, keeps_itself, keeps_through, unlisted_parts, carries_itself, carries_through, write_carries, loop_carries}
 use Rattle.elaborate.proofs.Meetings.{met, join_carries, order_kept, order_declared, facts_of-end_kept, end_good, declare_good, declare_keeps, initialize_keeps}
 use Rattle.elaborate.proofs.Branches.{Branch, value_leaves, branch_carries, branch_reached}
 use Rattle.elaborate.proofs.Implications.{contained_found, first_implied, second_implied, loop_implied, back_to_head, scope_ends}
-use Rattle.elaborate.proofs.Ahead.{AreAhead, IsListed, IsFresh, Differ, ahead_front, ahead_back, ahead_at, ahead_after, is_present, scope_after, undeclared}
-use Rattle.elaborate.proofs.Meant.{IsTaken, IsMeant, IsReady, AreReady, ready_within, ready_first, ready_rest}
+use Rattle.elaborate.proofs.Ahead.{AreAhead, IsListed, IsFresh, ahead_front, ahead_back, ahead_at, ahead_after, is_present, scope_after, undeclared}
+use Rattle.elaborate.proofs.Meant.{IsMeant, IsReady, AreReady, ready_within, ready_first, ready_rest}
 
 -- where a statement stands: a good model whose locals are in order, in which none of the locals is in scope that the tree is to declare, and these are the frame's; a word that it declares itself means its local, or one in scope
 pub record Context (frame : Frame) (names : Names) (tree : Tree) (m : FlowModel) : Type 0 where
@@ -62,15 +61,23 @@ pub both_empty : {X : Type 0} (xs ys : List X) → xs ++ ys ≡ [] → (xs ≡ [
 both_empty [] ys none = (refl, none)
 both_empty (x ∷ xs) ys none = cc
 
--- where a program begins
-pub context_start : (at : Place) (statements : Trees) → IsTrue (are_statements statements) → AllPairs (λ a b. a.var.0 ≢ b.var.0) (locals_in_all statements) → Context (frame_of (block at statements)) empty (block at statements) (start_of [])
-context_start at statements form distinct = record {
-  form = form;
-  good = record { fits = λ var l is. cc };
-  order = λ i j d lt within. absurd (omega arith);
-  ahead = record { listed = λ k d within. contained_found (locals_in_all statements) distinct (get_or (locals_in_all statements) k d) (Contains-get_or (locals_in_all statements) k d within); fresh = λ k d within. refl; distinct = distinct };
-  ready = tt;
-}
+-- where the body of a program begins: nothing is known, and no name means anything
+pub context_start : (frame : Frame) (at : Place) (statements : Trees) → IsTrue (are_statements statements) → frame ≡ frame_of (block at statements) → AllPairs (λ a b. a.var.0 ≢ b.var.0) frame.locals → Context frame empty (block at statements) (start_of [])
+context_start frame at statements form same distinct =
+    let locals = locals_in_all statements in
+    let of_frame : frame.locals ≡ locals = ap (λ (f : Frame). f.locals) same in
+    let apart : AllPairs (λ a b. a.var.0 ≢ b.var.0) locals = subst (λ (ls : List Local). AllPairs (λ a b. a.var.0 ≢ b.var.0) ls) of_frame distinct in
+    record {
+      form = form;
+      good = record { fits = λ var l is. cc };
+      order = λ i j d lt within. absurd (omega arith);
+      ahead = record {
+        listed = λ k d within. rw of_frame (contained_found locals apart (get_or locals k d) (Contains-get_or locals k d within));
+        fresh = λ k d within. refl;
+        distinct = apart;
+      };
+      ready = tt;
+    }
 
 pub context_block : (frame : Frame) (names : Names) (at : Place) (statements : Trees) (m : FlowModel) → Context frame names (block at statements) m → ContextAll frame (names_within names statements) statements m
 context_block frame names at statements m context = record {

@@ -1,7 +1,7 @@
 -- What is known in one model implies what is known in another.
-use Rattle.std.proofs.Common.{◌≡◌, ◌≢◌, ℕ, ◌<◌, Bool, true, false, ◌&&◌, cond, if◌then◌else◌, length, get_or, Option, Some, None, IsTrue, refl, sym, ap, subst, ◌∙◌, ⊎_elim, arith}
-use Rattle.std.specs.Prelude.{◌||◌, AllPairs, Contains, List, [], ◌∷◌, find, nat_eq, slice_index_or}
-use Rattle.std.specs.Option.{option_map, option_map_or}
+use Rattle.std.proofs.Common.{◌≡◌, ◌≢◌, true, false, if◌then◌else◌, get_or, Option, Some, None, IsTrue, refl, sym, ap, subst, ◌∙◌, ⊎_elim}
+use Rattle.std.specs.Prelude.{◌||◌, AllPairs, Contains, List, [], find}
+use Rattle.std.specs.Option.{option_map_or}
 use Rattle.std.proofs.lemmas.Bool.{and_parts, cases_Bool, cond_both, cond-true, or_left, eq-eqb, ne_eqb}
 use Rattle.std.proofs.lemmas.List.{get_or_default}
 use Rattle.flow_model.specs.Ty.{Ty}
@@ -14,8 +14,8 @@ use Rattle.flow_model.specs.declared.locals.LocalId.{LocalId}
 use Rattle.flow_model.proofs.SubLaws.{sub-refl}
 use Rattle.flow_model.proofs.ListTests.{find_at}
 use Rattle.core_check.specs.Accepted.{SlotImplies}
-use Rattle.elaborate.specs.Frame.{Local, of_local, Frame, is_local}
-use Rattle.elaborate.specs.Known.{fact_in_scope, fact_of_none, fact_for}
+use Rattle.elaborate.specs.Frame.{Local, Frame, is_local}
+use Rattle.elaborate.specs.Known.{fact_in_scope, fact_of_none}
 use Rattle.elaborate.proofs.Claims.{Fits, IsGood, Implies}
 use Rattle.elaborate.proofs.Shapes.{shape_of, current_below}
 use Rattle.elaborate.proofs.Models.{IsLater, Carries, absent_at, present_at, some_before, var_found, facts_of-loop, loop_carries}

@@ -1,10 +1,10 @@
 -- What is known where two paths meet, where a local comes into scope, and where locals go out of it.
-use Rattle.std.proofs.Common.{◌≡◌, ◌≢◌, ℕ, zero, suc, ◌<◌, Bool, true, false, ◌&&◌, not, nat_eq, nat_lt, map, List, [], ◌∷◌, ◌++◌, length, get_or, if◌then◌else◌, Option, Some, None, IsTrue, refl, sym, ap, subst, ◌∙◌, inl, inr, ⊎_elim, arith}
-use Rattle.std.specs.Prelude.{◌||◌, find, filter, All, AllPairs}
-use Rattle.std.proofs.lemmas.Bool.{and_parts, and_from, both_ways, cases_eq, cases_Bool, cond-true, cond-false, ltb-true}
+use Rattle.std.proofs.Common.{◌≡◌, ◌≢◌, ℕ, zero, suc, ◌<◌, Bool, true, false, not, nat_lt, map, List, [], ◌∷◌, ◌++◌, length, get_or, if◌then◌else◌, Some, None, IsTrue, refl, sym, ap, subst, ◌∙◌, ⊎_elim, arith}
+use Rattle.std.specs.Prelude.{find, filter, All, AllPairs}
+use Rattle.std.proofs.lemmas.Bool.{and_from, cases_eq, cases_Bool, cond-true, cond-false, ltb-true}
 use Rattle.std.proofs.lemmas.Bool.Decides.{nat_tests}
 use Rattle.std.proofs.lemmas.List.{length-map}
-use Rattle.std.proofs.lemmas.List.Elements.{All-append, All-cons, All-filter, All-weaker, filter_passes}
+use Rattle.std.proofs.lemmas.List.Elements.{All-append, All-cons, All-weaker, filter_passes}
 use Rattle.std.proofs.lemmas.List.Kept.{AllPairs-filter, AllPairs-cons}
 use Rattle.flow_model.specs.Ty.{Ty}
 use Rattle.flow_model.specs.Sub.{no_rows, sub}
@@ -18,10 +18,10 @@ use Rattle.flow_model.proofs.ListTests.{find-filter_kept, find-filter_left}
 use Rattle.flow_model.proofs.Scopes.{facts_of-declare_other, facts_of-declare_same, facts_of-at_local_other}
 use Rattle.flow_model.proofs.SameScope.{local_of as scoped, scope-join_of}
 use Rattle.flow_model.proofs.JoinLaws.{find-join}
-use Rattle.elaborate.specs.Frame.{Frame, Local, is_local}
+use Rattle.elaborate.specs.Frame.{Frame, is_local}
 use Rattle.elaborate.proofs.Claims.{is_shape, Fits, IsGood}
 use Rattle.elaborate.proofs.Shapes.{Shape, shape_of, joined_shape, joined_above_first, joined_above_second, joined_below}
-use Rattle.elaborate.proofs.Models.{IsLater, Keeps, Carries, carries_more, var_found, present_at, later_itself, write_carries}
+use Rattle.elaborate.proofs.Models.{IsLater, Keeps, Carries, carries_more, present_at, later_itself}
 
 -- the two facts known of a local where two paths meet, one for each
 module _ (frame : Frame) (a b : Facts) (fits_a : Fits frame a) (fits_b : Fits frame b) (ty : b.ty ≡ a.ty) where

@@ -1,13 +1,13 @@
 -- What a step leaves of what is known of the locals in scope.
-use Rattle.std.proofs.Common.{◌≡◌, ◌≢◌, ℕ, Bool, true, false, ◌&&◌, cond, nat_eq, map, List, [], ◌∷◌, ◌++◌, if◌then◌else◌, Option, Some, None, IsTrue, refl, sym, ap, subst, ◌∙◌, inl, inr, ⊎_elim, arith}
+use Rattle.std.proofs.Common.{◌≡◌, ℕ, Bool, true, false, nat_eq, map, List, [], ◌∷◌, ◌++◌, if◌then◌else◌, Option, Some, None, IsTrue, refl, sym, ap, subst, ◌∙◌, arith}
 use Rattle.std.specs.Prelude.{◌||◌, find}
 use Rattle.std.specs.Option.{option_map}
-use Rattle.std.proofs.lemmas.Bool.{and_parts, or_parts, cond_both, both_ways, eq-eqb, cases_eq}
+use Rattle.std.proofs.lemmas.Bool.{or_parts, cond_both}
 use Rattle.std.proofs.lemmas.Bool.Decides.{nat_tests}
 use Rattle.std.proofs.lemmas.List.Folds.{list_any-append}
 use Rattle.flow_model.specs.Ty.{Ty, same_type, non_null_of}
 use Rattle.flow_model.specs.Sub.{no_rows, sub}
-use Rattle.flow_model.specs.Flow.{FlowModel, is_of, is_listed, facts_of, at_local, current_of, last_or}
+use Rattle.flow_model.specs.Flow.{FlowModel, is_of, is_listed, facts_of, at_local, current_of}
 use Rattle.flow_model.specs.Assign.{assign_facts}
 use Rattle.flow_model.specs.Join.{HaveSameScope, scope_of}
 use Rattle.flow_model.specs.Steps.{exit_of, non_null_facts, conservative_facts, conservative_of}
@@ -17,7 +17,7 @@ use Rattle.flow_model.proofs.SubLaws.{sub-refl}
 use Rattle.flow_model.proofs.SameScope.{local_of as scoped, scope-map, local-non_null, local-conservative}
 use Rattle.elaborate.specs.Frame.{Frame}
 use Rattle.elaborate.proofs.Claims.{Fits, IsGood}
-use Rattle.elaborate.proofs.Shapes.{Shape, shape_of, sub_through, forgotten_shape, current_below, written_shape, not_null_shape}
+use Rattle.elaborate.proofs.Shapes.{shape_of, sub_through, forgotten_shape, written_shape, not_null_shape}
 
 module _ {X : Type 0} (p : X → Bool) where
   -- the step of the next lemma
