@@ -62,19 +62,17 @@ both_empty [] ys none = (refl, none)
 both_empty (x ∷ xs) ys none = cc
 
 -- where the body of a program begins: nothing is known, and no name means anything
-pub context_start : (frame : Frame) (at : Place) (statements : Trees) → IsTrue (are_statements statements) → frame ≡ frame_of (block at statements) → AllPairs (λ a b. a.var.0 ≢ b.var.0) frame.locals → Context frame empty (block at statements) (start_of [])
-context_start frame at statements form same distinct =
+pub context_start : (at : Place) (statements : Trees) → IsTrue (are_statements statements) → AllPairs (λ a b. a.var.0 ≢ b.var.0) (locals_in_all statements) → Context (frame_of (block at statements)) empty (block at statements) (start_of [])
+context_start at statements form distinct =
     let locals = locals_in_all statements in
-    let of_frame : frame.locals ≡ locals = ap (λ (f : Frame). f.locals) same in
-    let apart : AllPairs (λ a b. a.var.0 ≢ b.var.0) locals = subst (λ (ls : List Local). AllPairs (λ a b. a.var.0 ≢ b.var.0) ls) of_frame distinct in
     record {
       form = form;
       good = record { fits = λ var l is. cc };
       order = λ i j d lt within. absurd (omega arith);
       ahead = record {
-        listed = λ k d within. rw of_frame (contained_found locals apart (get_or locals k d) (Contains-get_or locals k d within));
+        listed = λ k d within. contained_found locals distinct (get_or locals k d) (Contains-get_or locals k d within);
         fresh = λ k d within. refl;
-        distinct = apart;
+        distinct = distinct;
       };
       ready = tt;
     }
