@@ -77,6 +77,7 @@ context_start at statements form distinct =
       ready = tt;
     }
 
+-- the statements of a block stand where it does
 pub context_block : (frame : Frame) (names : Names) (at : Place) (statements : Trees) (m : FlowModel) → Context frame names (block at statements) m → ContextAll frame (names_within names statements) statements m
 context_block frame names at statements m context = record {
   form = context.form;
@@ -86,6 +87,7 @@ context_block frame names at statements m context = record {
   ready = ready_within names statements m;
 }
 
+-- the first of statements stands where they do
 pub context_first : (frame : Frame) (names : Names) (first : Tree) (rest : Trees) (m : FlowModel) → ContextAll frame names (more first rest) m → Context frame names first m
 context_first frame names first rest m context = record {
   form = (and_parts (is_statement first) (are_statements rest) context.form).0;
@@ -105,7 +107,7 @@ block_scope : (tree : Tree) (m : FlowModel) → IsTrue (is_block tree) → scope
 block_scope (block at statements) m form = refl
 block_scope _ m form = cc
 
--- where the condition of an `if` is true or false the model is carried, and so is the order
+-- a step that carries the model keeps the order of the locals
 branch_order : (frame : Frame) (m n : FlowModel) (written : List LocalId) → IsInOrder m.locals → Carries frame written m n → IsInOrder n.locals
 branch_order frame m n written order carries = order_kept n m carries.scope order
 
@@ -122,6 +124,7 @@ while_form c b form =
     let second = and_parts (is_expression c && is_block b) (is_statement b) form in
     ((and_parts (is_expression c) (is_block b) second.0).1, second.1)
 
+-- the first block of an `if` stands where the condition is true
 pub context_then : (frame : Frame) (names : Names) (at : Place) (c t : Tree) (e : Part) (m : FlowModel) → Context frame names (if_statement at c t e) m
     → (evaluate no_rows names c m).faults ≡ [] → Context frame names t (evaluate no_rows names c m).when_true
 context_then frame names at c t e m context clean =
@@ -136,7 +139,7 @@ context_then frame names at c t e m context clean =
       ready = block_ready names t n forms.0;
     }
 
--- where the condition of an `if` is false
+-- where the second block of an `if` stands, if there is one
 context_otherwise : (frame : Frame) (names : Names) (at : Place) (c t : Tree) (e : Part) (m : FlowModel) → Context frame names (if_statement at c t e) m → ContextPart frame e (evaluate no_rows names c m).when_false
 context_otherwise frame names at c t e m context =
     let n = (evaluate no_rows names c m).when_false in
@@ -160,15 +163,17 @@ context_present frame names tree m context =
       ready = block_ready names tree m forms.0;
     }
 
+-- and the second where it is false
 pub context_else : (frame : Frame) (names : Names) (at : Place) (c t e : Tree) (m : FlowModel) → Context frame names (if_statement at c t (present e)) m
     → (evaluate no_rows names c m).faults ≡ [] → Context frame names e (evaluate no_rows names c m).when_false
 context_else frame names at c t e m context clean =
     context_present frame names e (evaluate no_rows names c m).when_false (context_otherwise frame names at c t (present e) m context)
 
--- the head of a loop
+-- what is known at the head of a loop is good
 pub good_head : (frame : Frame) (names : Names) (at : Place) (c b : Tree) (m : FlowModel) → Context frame names (while_statement at c b) m → IsGood frame (loop_head m (written_in names b))
 good_head frame names at c b m context = (loop_carries frame m (written_in names b) context.good).good
 
+-- the body of a loop stands where its condition is true at the head
 pub context_body : (frame : Frame) (names : Names) (at : Place) (c b : Tree) (m : FlowModel) → Context frame names (while_statement at c b) m
     → (evaluate no_rows names c (loop_head m (written_in names b))).faults ≡ [] → Context frame names b (evaluate no_rows names c (loop_head m (written_in names b))).when_true
 context_body frame names at c b m context clean =
@@ -445,12 +450,14 @@ mutual
       block_carries frame names tree m (run no_rows names tree m).after (and_parts (is_block tree) (is_statement tree) context.form).0
       (runs frame tree names m (context_present frame names tree m context) clean)
 
+-- behind a statement in which nothing is wrong the rest of the block stands
 pub context_rest : (frame : Frame) (names : Names) (first : Tree) (rest : Trees) (m : FlowModel) → ContextAll frame names (more first rest) m
     → IsTrue (is_statement first) → (run no_rows names first m).faults ≡ [] → ContextAll frame names rest (run no_rows names first m).after
 context_rest frame names first rest m context form clean =
     rest_after frame names first rest m (run no_rows names first m).after context
     (runs frame first names m (context_first frame names first rest m context) clean)
 
+-- a statement in which nothing is wrong goes from a good model to a good one
 pub good_after : (frame : Frame) (names : Names) (tree : Tree) (m : FlowModel) → Context frame names tree m → IsTrue (is_statement tree) → (run no_rows names tree m).faults ≡ [] → IsGood frame (run no_rows names tree m).after
 good_after frame names tree m context form clean = (runs frame tree names m context clean).good
 
@@ -553,6 +560,7 @@ if_paths frame names at c t e m context clean =
     (runs frame t names value.when_true (context_then frame names at c t e m context value_clean) cleans.0)
     (runs_part frame e names value.when_false (context_otherwise frame names at c t e m context) cleans.1)
 
+-- what is known after the first block of an `if` implies what is known after the `if`
 pub then_joins : (frame : Frame) (names : Names) (at : Place) (c t : Tree) (e : Part) (m : FlowModel) → Context frame names (if_statement at c t e) m
     → IsTrue (is_statement (if_statement at c t e)) → (run no_rows names (if_statement at c t e) m).faults ≡ []
     → IsTrue (run no_rows names t (evaluate no_rows names c m).when_true).after.reachable
@@ -562,6 +570,7 @@ then_joins frame names at c t e m context form clean reached =
     let paths = if_paths frame names at c t e m context clean in
     first_implied frame (run no_rows names t value.when_true).after (run_part no_rows names e value.when_false).after paths.first.good paths.second.good (paths.first.scope ∙ sym paths.second.scope) reached
 
+-- and so does what is known after the second
 pub else_joins : (frame : Frame) (names : Names) (at : Place) (c t : Tree) (e : Part) (m : FlowModel) → Context frame names (if_statement at c t e) m
     → IsTrue (is_statement (if_statement at c t e)) → (run no_rows names (if_statement at c t e) m).faults ≡ []
     → IsTrue (run_part no_rows names e (evaluate no_rows names c m).when_false).after.reachable
