@@ -7,6 +7,8 @@ pub mod Implications
 pub mod Ahead
 pub mod Meant
 pub mod Contexts
+pub mod TypeLaws
+pub mod Slots
 pub mod Expressions
 pub mod Statements
 mod Examples
