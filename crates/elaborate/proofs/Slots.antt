@@ -1,5 +1,5 @@
 -- What the slots of a frame are for, by their places.
-use Rattle.std.proofs.Common.{◌≡◌, ◌≢◌, ◌⊎◌, ℕ, zero, suc, ◌+◌, ◌<◌, ◌≤◌, Bool, true, false, not, cond, List, [], ◌∷◌, ◌++◌, length, map, Option, Some, None, find, refl, sym, ap, subst, ◌∙◌, inl, inr, arith, zero-add, suc-add, add-zero, one-add}
+use Rattle.std.proofs.Common.{◌≡◌, ◌≢◌, ◌⊎◌, ℕ, zero, suc, ◌+◌, ◌<◌, ◌≤◌, Bool, true, false, not, cond, List, [], ◌∷◌, ◌++◌, length, map, Option, Some, None, find, refl, sym, ap, subst, ◌∙◌, inl, inr, arith, zero-add, suc-add, add-zero, one-add, eqb-true}
 use Rattle.std.specs.Prelude.{slice_get, slice_index_or, nat_eq, IsTrue, ◌&&◌}
 use Rattle.std.specs.List.{range_with_len, position_or_len}
 use Rattle.std.proofs.lemmas.List.{length-map}
@@ -7,7 +7,7 @@ use Rattle.std.proofs.lemmas.Option.{slice_get-map, slice_get_within, slice_get-
 use Rattle.std.proofs.lemmas.Bool.{and_parts, cases_lt}
 use Rattle.dart_tree.specs.declared.nodes.OperatorKind.{OperatorKind}
 use Rattle.dart_tree.specs.declared.nodes.OperatorKind.TheVariants.{Plus, Less, NotEqual}
-use Rattle.flow_model.specs.Ty.{Ty, int, bool, same_type}
+use Rattle.flow_model.specs.Ty.{Ty, invalid, int, bool, same_type}
 use Rattle.flow_model.specs.Flow.{FlowModel}
 use Rattle.flow_model.specs.declared.locals.LocalId.{LocalId}
 use Rattle.flow_model.proofs.SameType.{equal_from_same_type}
@@ -58,6 +58,10 @@ get-range_back a zero i x at = absurd cc
 get-range_back a (suc n) zero x at = (omega arith, (let same : a ≡ x = cc in omega arith))
 get-range_back a (suc n) (suc i) x at = let rest = get-range_back (a + 1) n i x at in (omega arith, omega arith)
 
+length-range : (a n : ℕ) → length (range_with_len a n) ≡ n
+length-range a zero = refl
+length-range a (suc n) = ap suc (length-range (a + 1) n)
+
 -- the slot with the number i is for this
 abbrev pub IsAt : Frame → ℕ → Purpose → Type 0
 IsAt frame i q = slice_get (purposes frame) i ≡ Some q
@@ -74,3 +78,121 @@ find_place var (first ∷ rest) local found = at (is_local var first) refl found
     at : (b : Bool) → is_local var first ≡ b → cond (is_local var first) (Some first) (find (is_local var) rest) ≡ Some local → (find (is_local var) rest ≡ Some local → slice_get rest (position_or_len (is_local var) rest) ≡ Some local) → slice_get (first ∷ rest) (cond (not (is_local var first)) (1 + position_or_len (is_local var) rest) 0) ≡ Some local
     at true is found more = rw is (rw is at found)
     at false is found more = rw is (rw one-add (more (rw is at found)))
+
+-- the slot of a local that the frame has
+pub slot_of_local : (frame : Frame) (var : LocalId) (local : Local) → find (is_local var) frame.locals ≡ Some local → IsAt frame (slot_of frame var).0 (of_local local)
+slot_of_local frame var local found = get-append_left (map of_local frame.locals) _ _ (of_local local) (get-map of_local frame.locals _ local (find_place var frame.locals local found))
+
+-- the local of a slot stands at its place among the locals
+temporaries_apart : (ty : Ty) (n j : ℕ) (local : Local) → slice_get (temporaries_of ty n) j ≡ Some (of_local local) → ⊥
+temporaries_apart ty n j local at = let made = get-map_back (λ h. of_temporary (record { ty = ty; height = h })) (range_with_len 0 n) j (of_local local) at in let same = made.2 in cc
+
+local_place : (frame : Frame) (i : ℕ) (local : Local) → IsAt frame i (of_local local) → slice_get frame.locals i ≡ Some local
+local_place frame i local at = elim (get-append_cases (map of_local frame.locals) (temporaries_of int frame.height ++ temporaries_of bool frame.height) i (of_local local) at) [
+  | inl here ↦ (let made = get-map_back of_local frame.locals i (of_local local) here in let same = made.2 in let is : made.0 ≡ local = cc in made.1 ∙ ap (λ (l : Local). Some l) is)
+  | inr there ↦ elim (get-append_cases (temporaries_of int frame.height) (temporaries_of bool frame.height) there.0 (of_local local) there.2) [
+    | inl front ↦ absurd (temporaries_apart int frame.height there.0 local front)
+    | inr back ↦ absurd (temporaries_apart bool frame.height back.0 local back.2)
+  ]
+]
+
+-- where each local stands once, a local has one slot
+pub one_slot_of_local : (p : Program) (frame : Frame) (i j : ℕ) (a b : Local) → IsOver frame p → IsAt frame i (of_local a) → IsAt frame j (of_local b) → a.var.0 ≡ b.var.0 → i ≡ j
+one_slot_of_local p frame i j a b over at_i at_j same = elim (cases_lt i j) [
+  | inl below ↦ absurd (over.distinct i j a below within_j (ap (λ (l : Local). l.var.0) is_i ∙ same ∙ sym (ap (λ (l : Local). l.var.0) is_j)))
+  | inr above ↦ elim (cases_lt j i) [
+    | inl below ↦ absurd (over.distinct j i a below within_i (ap (λ (l : Local). l.var.0) is_j ∙ sym same ∙ sym (ap (λ (l : Local). l.var.0) is_i)))
+    | inr equal ↦ omega arith
+  ]
+]
+  where
+    within_i : i < length frame.locals
+    within_i = slice_get_within frame.locals i a (local_place frame i a at_i)
+
+    within_j : j < length frame.locals
+    within_j = slice_get_within frame.locals j b (local_place frame j b at_j)
+
+    is_i : slice_index_or frame.locals i a ≡ a
+    is_i = get_or_from_slice_get frame.locals i a a (local_place frame i a at_i)
+
+    is_j : slice_index_or frame.locals j a ≡ b
+    is_j = get_or_from_slice_get frame.locals j b a (local_place frame j b at_j)
+
+-- the temporary of a type and a height
+temporary_at : (ty : Ty) (n height : ℕ) → height < n → slice_get (temporaries_of ty n) height ≡ Some (of_temporary (record { ty = ty; height = height }))
+temporary_at ty n height below = get-map (λ h. of_temporary (record { ty = ty; height = h })) (range_with_len 0 n) height height (get-range 0 n height below ∙ ap (λ (k : ℕ). Some k) (zero-add height))
+
+-- the temporaries stand behind the locals
+behind_locals : (frame : Frame) (j : ℕ) (q : Purpose) → slice_get (temporaries_of int frame.height ++ temporaries_of bool frame.height) j ≡ Some q → IsAt frame (length frame.locals + j) q
+behind_locals frame j q at = subst (λ (n : ℕ). slice_get (purposes frame) (n + j) ≡ Some q) (length-map frame.locals of_local) (get-append_right (map of_local frame.locals) _ j ∙ at)
+
+length-temporaries : (ty : Ty) (n : ℕ) → length (temporaries_of ty n) ≡ n
+length-temporaries ty n = length-map (range_with_len 0 n) _ ∙ length-range 0 n
+
+int_slot : (frame : Frame) (height : ℕ) → height < frame.height → IsAt frame (length frame.locals + 0 + height) (of_temporary (record { ty = int; height = height }))
+int_slot frame height below =
+    subst (λ (k : ℕ). IsAt frame k (of_temporary (record { ty = int; height = height }))) {x = length frame.locals + height} (omega arith)
+    (behind_locals frame height _ (get-append_left (temporaries_of int frame.height) _ height _ (temporary_at int frame.height height below)))
+
+bool_slot : (frame : Frame) (height : ℕ) → height < frame.height → IsAt frame (length frame.locals + frame.height + height) (of_temporary (record { ty = bool; height = height }))
+bool_slot frame height below =
+    subst (λ (k : ℕ). IsAt frame k (of_temporary (record { ty = bool; height = height }))) {x = length frame.locals + (length (temporaries_of int frame.height) + height)} (omega (arith, length-temporaries int frame.height))
+    (behind_locals frame _ _ (get-append_right (temporaries_of int frame.height) _ height ∙ temporary_at bool frame.height height below))
+
+-- the slot for the value of an operator
+pub slot_for_operator : (frame : Frame) (operator : OperatorKind) (height : ℕ) → height < frame.height → IsAt frame (slot_for frame operator height).0 (of_temporary (temporary_for operator height))
+slot_for_operator frame Plus height below = int_slot frame height below
+slot_for_operator frame Less height below = bool_slot frame height below
+slot_for_operator frame NotEqual height below = bool_slot frame height below
+
+-- the temporary that stands at a place
+temporary_of : (ty : Ty) (n j : ℕ) (t : Temporary) → slice_get (temporaries_of ty n) j ≡ Some (of_temporary t) → (t.ty ≡ ty) × (t.height ≡ j)
+temporary_of ty n j t at =
+    let made = get-map_back (λ h. of_temporary (record { ty = ty; height = h })) (range_with_len 0 n) j (of_temporary t) at in
+    let place = get-range_back 0 n j made.0 made.1 in
+    let equal = made.2 in
+    let same : record { ty = ty; height = made.0 } ≡ t = cc in
+    (sym (ap (λ (u : Temporary). u.ty) same), sym (ap (λ (u : Temporary). u.height) same) ∙ place.1 ∙ zero-add j)
+
+-- where the slots of temporaries are
+temporary_place : (frame : Frame) (i : ℕ) (t : Temporary) → IsAt frame i (of_temporary t) → ((t.ty ≡ int) × (i ≡ length frame.locals + t.height)) ⊎ ((t.ty ≡ bool) × (i ≡ length frame.locals + frame.height + t.height))
+temporary_place frame i t at = elim (get-append_cases (map of_local frame.locals) (temporaries_of int frame.height ++ temporaries_of bool frame.height) i (of_temporary t) at) [
+  | inl here ↦ (let made = get-map_back of_local frame.locals i (of_temporary t) here in let same = made.2 in absurd cc)
+  | inr there ↦ elim (get-append_cases (temporaries_of int frame.height) (temporaries_of bool frame.height) there.0 (of_temporary t) there.2) [
+    | inl front ↦ (let is = temporary_of int frame.height there.0 t front in inl (is.0, omega (arith, there.1, is.1, length-map frame.locals of_local)))
+    | inr back ↦ (let is = temporary_of bool frame.height back.0 t back.2 in inr (is.0, omega (arith, there.1, back.1, is.1, length-map frame.locals of_local, length-temporaries int frame.height)))
+  ]
+]
+
+-- an operator's value has one slot
+pub one_slot_for : (frame : Frame) (i : ℕ) (t : Temporary) (operator : OperatorKind) (height : ℕ) → IsAt frame i (of_temporary t) → IsTrue (same_temporary t (temporary_for operator height)) → i ≡ (slot_for frame operator height).0
+one_slot_for frame i t operator height at same =
+    let parts = and_parts (same_type t.ty (type_of_result operator)) (nat_eq t.height height) same in
+    by operator (equal_from_same_type t.ty (type_of_result operator) parts.0) (eqb-true t.height height parts.1) (temporary_place frame i t at)
+  where
+    by : (operator : OperatorKind) → t.ty ≡ type_of_result operator → t.height ≡ height → ((t.ty ≡ int) × (i ≡ length frame.locals + t.height)) ⊎ ((t.ty ≡ bool) × (i ≡ length frame.locals + frame.height + t.height)) → i ≡ (slot_for frame operator height).0
+    by Plus ty is (inl h) = omega (arith, h.1)
+    by Plus ty is (inr h) = let other = h.0 in absurd cc
+    by Less ty is (inl h) = let other = h.0 in absurd cc
+    by Less ty is (inr h) = omega (arith, h.1)
+    by NotEqual ty is (inl h) = let other = h.0 in absurd cc
+    by NotEqual ty is (inr h) = omega (arith, h.1)
+
+-- what is known of a slot is what is known of what it is for
+pub known_at : (frame : Frame) (m : FlowModel) (held : List Temporary) (i : ℕ) (q : Purpose) → IsAt frame i q → known_of (facts_for frame m held) i ≡ fact_for m held q
+known_at frame m held i q at = get_or_from_slice_get (map (fact_for m held) (purposes frame)) i _ no_fact (get-map (fact_for m held) (purposes frame) i q at)
+
+-- and its declared type the type of that
+pub declared_at_slot : (p : Program) (frame : Frame) (i : ℕ) (q : Purpose) → IsOver frame p → IsAt frame i q → declared_at p i ≡ type_for q
+declared_at_slot p frame i q over at = rw over.slots (get_or_from_slice_get (slot_types frame) i _ invalid (get-map type_for (purposes frame) i q at))
+
+-- the program has the slot
+pub slot_in : (p : Program) (frame : Frame) (i : ℕ) (q : Purpose) → IsOver frame p → IsAt frame i q → i < length p.slots
+slot_in p frame i q over at = rw over.slots (slice_get_within (slot_types frame) i _ (get-map type_for (purposes frame) i q at))
+
+-- and each slot of the program is for something
+pub each_slot : (p : Program) (frame : Frame) (i : ℕ) → IsOver frame p → i < length p.slots → (q : Purpose) × IsAt frame i q
+each_slot p frame i over inside =
+    let within : i < length (slot_types frame) = rw over.slots at inside in
+    let made = get-map_back type_for (purposes frame) i _ (slice_get-get_or (slot_types frame) i invalid within) in
+    (made.0, made.1)

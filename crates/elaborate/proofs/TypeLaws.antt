@@ -1,5 +1,5 @@
 -- Subtyping among the types that expressions and locals have where nothing is wrong.
-use Rattle.std.proofs.Common.{◌≡◌, Bool, true, false, refl}
+use Rattle.std.proofs.Common.{◌≡◌, Bool, true, false, refl, sym, subst}
 use Rattle.std.specs.Prelude.{IsTrue, List, [], ◌∷◌, ◌++◌, ◌||◌, if◌then◌else◌, filter, map}
 use Rattle.flow_model.specs.Ty.{Ty, invalid, never, null, int, bool, nullable, same_type, non_null_of}
 use Rattle.flow_model.specs.Sub.{no_rows, Sub, same, sub}
@@ -94,6 +94,14 @@ tested_at (nullable int) [] shape = refl
 tested_at (nullable int) (int ∷ []) shape = refl
 tested_at _ _ shape = cc
 
+-- the current type of a local that is as it was, or has another chain
+current_if : (b : Bool) (l : Facts) (chain : List Ty) → current_of (if b then l else record l { chain = chain }) ≡ last_or l.ty (if b then l.chain else chain)
+current_if true l chain = refl
+current_if false l chain = refl
+
 -- the current type of a local without null is a subtype of what it is after a test for null
 pub tested_type_fits : (l : Facts) → IsTrue (is_shape l.ty l.chain) → l.captured ≡ false → IsTrue (sub no_rows (non_null_of (current_of l)) (current_of (non_null_facts l)))
-tested_type_fits l shape own = ?
+tested_type_fits l shape own =
+    let fits : IsTrue (sub no_rows (non_null_of (last_or l.ty l.chain)) (last_or l.ty (chain_tested l.ty l.chain l.captured))) = rw own (tested_at l.ty l.chain shape) in
+    let same = current_if (l.captured || same_type (non_null_of (current_of l)) (current_of l)) l (l.chain ++ non_null_of (current_of l) ∷ []) in
+    subst (λ (t : Ty). IsTrue (sub no_rows (non_null_of (current_of l)) t)) (sym same) fits
