@@ -9,6 +9,8 @@ pub mod Meant
 pub mod Contexts
 pub mod TypeLaws
 pub mod Slots
+pub mod Steps
+pub mod Points
 pub mod Expressions
 pub mod Statements
 mod Examples

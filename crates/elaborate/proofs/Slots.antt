@@ -87,7 +87,7 @@ slot_of_local frame var local found = get-append_left (map of_local frame.locals
 temporaries_apart : (ty : Ty) (n j : ℕ) (local : Local) → slice_get (temporaries_of ty n) j ≡ Some (of_local local) → ⊥
 temporaries_apart ty n j local at = let made = get-map_back (λ h. of_temporary (record { ty = ty; height = h })) (range_with_len 0 n) j (of_local local) at in let same = made.2 in cc
 
-local_place : (frame : Frame) (i : ℕ) (local : Local) → IsAt frame i (of_local local) → slice_get frame.locals i ≡ Some local
+pub local_place : (frame : Frame) (i : ℕ) (local : Local) → IsAt frame i (of_local local) → slice_get frame.locals i ≡ Some local
 local_place frame i local at = elim (get-append_cases (map of_local frame.locals) (temporaries_of int frame.height ++ temporaries_of bool frame.height) i (of_local local) at) [
   | inl here ↦ (let made = get-map_back of_local frame.locals i (of_local local) here in let same = made.2 in let is : made.0 ≡ local = cc in made.1 ∙ ap (λ (l : Local). Some l) is)
   | inr there ↦ elim (get-append_cases (temporaries_of int frame.height) (temporaries_of bool frame.height) there.0 (of_local local) there.2) [
@@ -155,7 +155,7 @@ temporary_of ty n j t at =
     (sym (ap (λ (u : Temporary). u.ty) same), sym (ap (λ (u : Temporary). u.height) same) ∙ place.1 ∙ zero-add j)
 
 -- where the slots of temporaries are
-temporary_place : (frame : Frame) (i : ℕ) (t : Temporary) → IsAt frame i (of_temporary t) → ((t.ty ≡ int) × (i ≡ length frame.locals + t.height)) ⊎ ((t.ty ≡ bool) × (i ≡ length frame.locals + frame.height + t.height))
+pub temporary_place : (frame : Frame) (i : ℕ) (t : Temporary) → IsAt frame i (of_temporary t) → ((t.ty ≡ int) × (i ≡ length frame.locals + t.height)) ⊎ ((t.ty ≡ bool) × (i ≡ length frame.locals + frame.height + t.height))
 temporary_place frame i t at = elim (get-append_cases (map of_local frame.locals) (temporaries_of int frame.height ++ temporaries_of bool frame.height) i (of_temporary t) at) [
   | inl here ↦ (let made = get-map_back of_local frame.locals i (of_temporary t) here in let same = made.2 in absurd cc)
   | inr there ↦ elim (get-append_cases (temporaries_of int frame.height) (temporaries_of bool frame.height) there.0 (of_temporary t) there.2) [
