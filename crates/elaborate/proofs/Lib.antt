@@ -11,6 +11,7 @@ pub mod TypeLaws
 pub mod Slots
 pub mod Steps
 pub mod Points
+pub mod Judged
 pub mod Expressions
 pub mod Statements
 mod Examples
