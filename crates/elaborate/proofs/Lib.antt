@@ -12,6 +12,7 @@ pub mod Slots
 pub mod Steps
 pub mod Points
 pub mod Judged
+pub mod Operands
 pub mod Expressions
 pub mod Statements
 mod Examples
