@@ -13,6 +13,7 @@ pub mod Steps
 pub mod Points
 pub mod Judged
 pub mod Operands
+pub mod Operators
 pub mod Expressions
 pub mod Statements
 mod Examples
