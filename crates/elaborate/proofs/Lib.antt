@@ -14,6 +14,7 @@ pub mod Points
 pub mod Judged
 pub mod Operands
 pub mod Operators
+pub mod Values
 pub mod Expressions
 pub mod Statements
 mod Examples
