@@ -15,6 +15,7 @@ pub mod Judged
 pub mod Operands
 pub mod Operators
 pub mod Values
+pub mod Locals
 pub mod Expressions
 pub mod Statements
 mod Examples

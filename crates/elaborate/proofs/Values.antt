@@ -155,3 +155,22 @@ points_sound p frame names source (binary at operator left right) m height held 
     (λ has_left goes_left. points_sound p frame names source left m height held k (k + value_count left) over good forms.0 c.left_clean
     (room_left p frame names source at operator left right m height held k next over good form c room) has_left (inr (le_refl (k + value_count left))) goes_left)
 points_sound p frame names source _ m height held k next over good form clean room has beyond goes = absurd cc
+
+-- the point at which an expression's value is ready is safe, so are all points with it
+pub then_sound : (p : Program) (frame : Frame) (names : Names) (at : NodeId) (value : Tree) (m : FlowModel) (k : ℕ) (term : Term) → IsOver frame p → IsGood frame m → IsTrue (is_expression value)
+    → (evaluate no_rows names value m).faults ≡ [] → value_height value ≤ frame.height
+    → Has p k (value_points no_rows frame names (Some at) value m 0 [] k (k + value_count value) ++ with_value frame at value (evaluate no_rows names value m).after term)
+    → IsSafe p (k + value_count value) (record { source = Some at; facts = facts_for frame m (held_for 0 value); term = term })
+    → IsSound p frame m [] k (value_points no_rows frame names (Some at) value m 0 [] k (k + value_count value) ++ with_value frame at value (evaluate no_rows names value m).after term) k
+then_sound p frame names at value m k term over good form clean room has safe =
+    let xs = value_points no_rows frame names (Some at) value m 0 [] k (k + value_count value) in
+    let last : LaidPoint = record { source = Some at; facts = facts_for frame m (held_for 0 value); term = term } in
+    let counted = length-value_points no_rows frame names (Some at) value m 0 [] k (k + value_count value) in
+    let is = ap (λ (x : FlowModel). xs ++ with_value frame at value x term) (after_same no_rows names value m) in
+    let all : Has p k (xs ++ (last ∷ [])) = subst (Has p k) is has in
+    let to_last = goes_to_point p frame m (held_for 0 value) (k + value_count value) last over (has_rest p k (value_count value) xs (last ∷ []) counted all) refl in
+    let value_is = points_sound p frame names (Some at) value m 0 [] k (k + value_count value) over good form clean (omega arith) (has_first p k xs (last ∷ []) all) (inr (le_refl (k + value_count value))) to_last in
+    record {
+      safe = subst (AreSafe p k) (sym is) (safe_both p k (value_count value) xs (last ∷ []) counted value_is.safe (safe_one p (k + value_count value) last safe));
+      enters = subst (λ (j : ℕ). GoesOn p frame m [] j) (entry_here k (value_count value)) value_is.enters;
+    }
