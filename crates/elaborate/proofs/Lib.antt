@@ -16,6 +16,7 @@ pub mod Operands
 pub mod Operators
 pub mod Values
 pub mod Locals
+pub mod Writes
 pub mod Expressions
 pub mod Statements
 mod Examples
