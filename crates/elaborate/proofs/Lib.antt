@@ -17,6 +17,7 @@ pub mod Operators
 pub mod Values
 pub mod Locals
 pub mod Writes
+pub mod Conditions
 pub mod Expressions
 pub mod Statements
 mod Examples

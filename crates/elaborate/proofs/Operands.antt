@@ -82,7 +82,7 @@ pub operator_room : (frame : Frame) (height : ℕ) (more : ℕ) → height + max
 operator_room frame height more room = omega arith
 
 -- a name that reads a local
-name_ready : (p : Program) (frame : Frame) (names : Names) (word : ℕ) (m : FlowModel) (held : List Temporary) (ty : Ty) → IsOver frame p → IsGood frame m → Reads names m word ty → IsReady p (facts_for frame m held) (Slot (slot_named frame names word)) ty
+pub name_ready : (p : Program) (frame : Frame) (names : Names) (word : ℕ) (m : FlowModel) (held : List Temporary) (ty : Ty) → IsOver frame p → IsGood frame m → Reads names m word ty → IsReady p (facts_for frame m held) (Slot (slot_named frame names word)) ty
 name_ready p frame names word m held ty over good reads =
     let fits = good.fits reads.var reads.local reads.known in
     let known = known_local m held (record { var = reads.var; ty = reads.local.ty }) reads.local reads.known fits.own in

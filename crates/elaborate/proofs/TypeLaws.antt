@@ -34,6 +34,14 @@ shape_simple (nullable int) [] shape = refl
 shape_simple (nullable int) (int ∷ []) shape = refl
 shape_simple _ _ shape = cc
 
+-- and so is its declared type
+pub shape_declared : (ty : Ty) (chain : List Ty) → IsTrue (is_shape ty chain) → IsTrue (is_simple ty)
+shape_declared int [] shape = refl
+shape_declared bool [] shape = refl
+shape_declared (nullable int) [] shape = refl
+shape_declared (nullable int) (int ∷ []) shape = refl
+shape_declared _ _ shape = cc
+
 -- the current type of a local after a write, from what was known of it before
 abbrev type_after : Ty → Ty → List Ty → (tested : List Ty) → (captured : Bool) → Ty
 type_after t ty chain tested captured =
