@@ -1,5 +1,5 @@
 -- Conditions in which nothing is wrong, and the points at which they branch.
-use Rattle.std.proofs.Common.{◌≡◌, ◌≢◌, ℕ, ◌+◌, ◌<◌, ◌≤◌, Bool, true, false, List, [], ◌∷◌, ◌++◌, if◌then◌else◌, Option, Some, None, refl, sym, ap, ap₂, subst, ◌∙◌, arith}
+use Rattle.std.proofs.Common.{◌≡◌, ◌≢◌, ℕ, ◌≤◌, Bool, true, false, List, [], ◌∷◌, ◌++◌, if◌then◌else◌, Option, Some, None, refl, sym, ap, subst, ◌∙◌, arith}
 use Rattle.std.specs.Prelude.{IsTrue, All, ◌||◌}
 use Rattle.std.specs.Option.{option_map_or, option_map}
 use Rattle.std.specs.FinMap.{get}
@@ -39,9 +39,9 @@ use Rattle.elaborate.specs.Known.{fact_for, facts_for}
 use Rattle.elaborate.specs.Layout.{to, slot_named, operand_of, held_for, compared_word, tested_by, tested_word}
 use Rattle.elaborate.specs.Forms.{is_expression}
 use Rattle.elaborate.proofs.Claims.{Fits, IsGood, IsOver, IsSafe, GoesOn}
-use Rattle.elaborate.proofs.TypeLaws.{is_simple, tested_type_fits}
-use Rattle.elaborate.proofs.Slots.{IsAt, known_at, slot_in}
-use Rattle.elaborate.proofs.Steps.{implies_itself, implies_with_none, leads_known}
+use Rattle.elaborate.proofs.TypeLaws.{tested_type_fits}
+use Rattle.elaborate.proofs.Slots.{IsAt, known_at}
+use Rattle.elaborate.proofs.Steps.{implies_with_none, leads_known}
 use Rattle.elaborate.proofs.Judged.{Reads, after_same, binary_is, name_reads, both_empty, value_simple, fits_below}
 use Rattle.elaborate.proofs.Operands.{IsReady, known_local, scope_slot, name_ready, operand_ready}
 use Rattle.elaborate.proofs.Operators.{all_one, all_two}

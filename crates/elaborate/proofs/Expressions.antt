@@ -1,6 +1,6 @@
 -- The points of expressions, conditions and simple statements in which nothing is wrong.
 use Rattle.std.proofs.Common.{refl, sym, ap, subst, ◌∙◌, ⊎_elim, arith}
-use Rattle.std.specs.Prelude.{◌≡◌, ◌≢◌, ℕ, ◌+◌, ◌<◌, ◌≤◌, Bool, true, false, not, ◌&&◌, IsTrue, All, List, [], ◌∷◌, ◌++◌, if◌then◌else◌, is_some, Option, Some, None, find}
+use Rattle.std.specs.Prelude.{◌≡◌, ◌≢◌, ℕ, ◌+◌, ◌≤◌, Bool, true, false, ◌&&◌, IsTrue, List, [], ◌∷◌, ◌++◌, if◌then◌else◌, is_some, Option, Some, None, find}
 use Rattle.std.specs.Option.{option_map_or, option_map}
 use Rattle.std.specs.FinMap.{get}
 use Rattle.std.proofs.lemmas.Bool.{and_parts}
@@ -19,9 +19,8 @@ use Rattle.flow_model.specs.declared.locals.Facts.{Facts}
 use Rattle.flow_model.specs.declared.subtyping.Rows.{Rows}
 use Rattle.flow_model.proofs.Scopes.{facts_of-declare_other, facts_of-declare_same, facts_of-at_local_same, facts_of-at_local_other}
 use Rattle.judgement.specs.Names.{Names, local_of}
-use Rattle.judgement.specs.Rows.{Value, Outcome, assign_row, declared_local, fit_faults, declare_row, initialize_row, condition_faults}
+use Rattle.judgement.specs.Rows.{Value, Outcome, assign_row, declared_local, fit_faults, initialize_row, condition_faults}
 use Rattle.judgement.specs.Judgement.{type_of, evaluate, run}
-use Rattle.core_ir.specs.PointFacts.{PointFacts}
 use Rattle.core_ir.specs.Program.{Program}
 use Rattle.core_ir.specs.declared.facts.Held.TheVariants.{Own}
 use Rattle.core_ir.specs.declared.facts.SlotFact.{SlotFact}
@@ -31,17 +30,17 @@ use Rattle.core_ir.specs.declared.points.Operand.TheVariants.{Constant}
 use Rattle.core_ir.specs.declared.points.Term.TheVariants.{Store, Declare, Initialize, Branch, TestNull, Output}
 use Rattle.core_ir.specs.declared.values.Value.TheVariants.{Null}
 use Rattle.core_check.specs.Accepted.{IsReadable, FitsDeclared, FitsAsked, Leads}
-use Rattle.elaborate.specs.Frame.{Local, Temporary, of_local, Frame, is_local, slot_of, value_height, height_of}
+use Rattle.elaborate.specs.Frame.{Temporary, of_local, Frame, is_local, slot_of, value_height, height_of}
 use Rattle.elaborate.specs.Known.{fact_for, facts_for}
 use Rattle.elaborate.specs.Layout.{LaidPoint, to, slot_named, operand_of, held_for, value_count, value_points, with_value, point, tested_word, condition_count, condition_points, count, entry, declaration_term, statement_points}
-use Rattle.elaborate.specs.Forms.{is_expression, is_expression_part, is_written_type, is_statement}
-use Rattle.elaborate.proofs.Claims.{Fits, IsGood, Implies, IsOver, Has, IsSafe, AreSafe, GoesOn, IsBeyond, IsSound}
+use Rattle.elaborate.specs.Forms.{is_expression, is_written_type, is_statement}
+use Rattle.elaborate.proofs.Claims.{Fits, IsGood, Implies, IsOver, Has, IsSafe, GoesOn, IsBeyond, IsSound}
 use Rattle.elaborate.proofs.TypeLaws.{is_simple, shape_declared, written_type_fits}
 use Rattle.elaborate.proofs.Slots.{IsAt, slot_of_local}
 use Rattle.elaborate.proofs.Steps.{implies_with_none, implies_held, leads_known}
 use Rattle.elaborate.proofs.Points.{safe_one, goes_to_point}
 use Rattle.elaborate.proofs.Judged.{after_same, both_empty, value_simple, fits_below}
-use Rattle.elaborate.proofs.Operands.{IsReady, known_local, scope_slot, operand_ready}
+use Rattle.elaborate.proofs.Operands.{known_local, scope_slot, operand_ready}
 use Rattle.elaborate.proofs.Operators.{all_one}
 use Rattle.elaborate.proofs.Values.{points_sound, then_sound}
 use Rattle.elaborate.proofs.Locals.{IsSameElsewhere}

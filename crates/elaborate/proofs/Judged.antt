@@ -1,6 +1,6 @@
 -- What the judgement says of expressions in which nothing is wrong.
 use Rattle.std.proofs.Common.{◌≡◌, ℕ, Bool, true, false, List, [], ◌∷◌, ◌++◌, if◌then◌else◌, Option, Some, None, find, refl, sym, ap, subst, ◌∙◌, eqb-true}
-use Rattle.std.specs.Prelude.{IsTrue, nat_eq, ◌||◌}
+use Rattle.std.specs.Prelude.{IsTrue, ◌||◌}
 use Rattle.std.specs.Option.{option_map_or}
 use Rattle.std.specs.FinMap.{get}
 use Rattle.std.proofs.lemmas.Bool.{and_parts}
@@ -12,7 +12,7 @@ use Rattle.dart_tree.specs.declared.nodes.IntegerLiteral.{IntegerLiteral}
 use Rattle.dart_tree.specs.declared.nodes.Operator.{Operator}
 use Rattle.dart_tree.specs.declared.nodes.OperatorKind.{OperatorKind}
 use Rattle.dart_tree.specs.declared.nodes.OperatorKind.TheVariants.{Plus, Less, NotEqual}
-use Rattle.flow_model.specs.Ty.{Ty, invalid, never, null, int, bool, nullable}
+use Rattle.flow_model.specs.Ty.{Ty, null, int, bool, nullable}
 use Rattle.flow_model.specs.Sub.{no_rows, sub}
 use Rattle.flow_model.specs.Flow.{FlowModel, is_of, facts_of, current_of}
 use Rattle.flow_model.specs.declared.locals.LocalId.{LocalId}
@@ -24,7 +24,7 @@ use Rattle.judgement.specs.Rows.{Value, of_type, faulty, is_in_range, integer_ro
 use Rattle.judgement.specs.Judgement.{compared_local, evaluate}
 use Rattle.elaborate.specs.Frame.{Frame, type_of_result}
 use Rattle.elaborate.specs.Forms.{is_expression}
-use Rattle.elaborate.proofs.Claims.{Fits, IsGood}
+use Rattle.elaborate.proofs.Claims.{IsGood}
 use Rattle.elaborate.proofs.TypeLaws.{is_simple, shape_simple}
 
 -- lists that have nothing together have nothing each

@@ -1,18 +1,12 @@
 -- Points at which one local changes.
-use Rattle.std.proofs.Common.{◌≡◌, ◌≢◌, ℕ, ◌<◌, true, false, List, [], ◌∷◌, Option, Some, None, find, refl, sym, ap, subst, ◌∙◌}
-use Rattle.std.specs.Prelude.{IsTrue, All}
-use Rattle.std.specs.Option.{option_map_or, option_map}
-use Rattle.std.specs.List.{list_any}
-use Rattle.std.proofs.lemmas.List.Elements.{All-cons, All-nil}
-use Rattle.dart_tree.specs.declared.places.NodeId.{NodeId}
-use Rattle.flow_model.specs.Ty.{Ty, non_null_of}
+use Rattle.std.proofs.Common.{◌≡◌, ◌≢◌, ℕ, true, List, [], Option, refl, sym, ap, subst}
+use Rattle.std.specs.Prelude.{IsTrue}
+use Rattle.std.specs.Option.{option_map_or}
+use Rattle.flow_model.specs.Ty.{Ty}
 use Rattle.flow_model.specs.Sub.{no_rows, sub}
-use Rattle.flow_model.specs.Flow.{FlowModel, facts_of, at_local, current_of}
-use Rattle.flow_model.specs.Assign.{assign_facts}
-use Rattle.flow_model.specs.Steps.{non_null_facts}
+use Rattle.flow_model.specs.Flow.{FlowModel, facts_of}
 use Rattle.flow_model.specs.declared.locals.LocalId.{LocalId}
 use Rattle.flow_model.specs.declared.locals.Facts.{Facts}
-use Rattle.core_ir.specs.PointFacts.{PointFacts}
 use Rattle.core_ir.specs.Program.{Program}
 use Rattle.core_ir.specs.declared.facts.Held.TheVariants.{Own}
 use Rattle.core_ir.specs.declared.facts.SlotFact.{SlotFact}

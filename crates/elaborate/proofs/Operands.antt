@@ -1,13 +1,11 @@
 -- Where the value of an expression in which nothing is wrong is ready.
-use Rattle.std.proofs.Common.{◌≡◌, ℕ, ◌+◌, ◌<◌, ◌≤◌, max, Bool, true, false, List, [], ◌∷◌, ◌++◌, if◌then◌else◌, Option, Some, find, refl, sym, ap, subst, ◌∙◌, arith, eq-eqb}
-use Rattle.std.specs.Prelude.{IsTrue, nat_eq, ◌||◌}
+use Rattle.std.proofs.Common.{◌≡◌, ℕ, ◌+◌, ◌<◌, ◌≤◌, max, Bool, false, List, [], ◌++◌, if◌then◌else◌, Option, Some, find, refl, sym, ap, subst, ◌∙◌, arith, eq-eqb}
+use Rattle.std.specs.Prelude.{IsTrue, nat_eq}
 use Rattle.std.specs.List.{list_any}
 use Rattle.std.specs.Option.{option_map_or}
-use Rattle.std.specs.FinMap.{get}
 use Rattle.std.proofs.lemmas.Bool.{and_from, or_left, or_right}
 use Rattle.std.proofs.lemmas.List.Folds.{list_any-append}
 use Rattle.dart_tree.specs.Tree.{Tree, name, integer, boolean, null_literal, binary}
-use Rattle.dart_tree.specs.declared.nodes.OperatorKind.{OperatorKind}
 use Rattle.flow_model.specs.Ty.{Ty, same_type}
 use Rattle.flow_model.specs.Sub.{no_rows}
 use Rattle.flow_model.specs.Flow.{FlowModel, facts_of, current_of}
@@ -22,7 +20,7 @@ use Rattle.core_ir.specs.declared.facts.Held.TheVariants.{Own, Shared}
 use Rattle.core_ir.specs.declared.facts.SlotFact.{SlotFact}
 use Rattle.core_ir.specs.declared.points.SlotId.{SlotId}
 use Rattle.core_ir.specs.declared.points.Operand.{Operand}
-use Rattle.core_ir.specs.declared.points.Operand.TheVariants.{Slot, Constant}
+use Rattle.core_ir.specs.declared.points.Operand.TheVariants.{Slot}
 use Rattle.core_check.specs.WellFormed.{IsOperand}
 use Rattle.core_check.specs.Known.{known_of, held_type, operand_type}
 use Rattle.core_check.specs.Accepted.{IsReadable}
@@ -30,7 +28,7 @@ use Rattle.elaborate.specs.Frame.{Local, Temporary, Purpose, of_local, of_tempor
 use Rattle.elaborate.specs.Known.{fact_in_scope, fact_of_none, same_temporary, fact_for, facts_for}
 use Rattle.elaborate.specs.Layout.{slot_named, operand_of, held_for}
 use Rattle.elaborate.specs.Forms.{is_expression}
-use Rattle.elaborate.proofs.Claims.{Fits, IsGood, IsOver}
+use Rattle.elaborate.proofs.Claims.{IsGood, IsOver}
 use Rattle.elaborate.proofs.Slots.{IsAt, slot_of_local, slot_for_operator, known_at, declared_at_slot, slot_in}
 use Rattle.elaborate.proofs.Judged.{Reads, name_reads, integer_typed, boolean_typed, binary_clean, known_var}
 

@@ -1,43 +1,37 @@
 -- The point of an operator in which nothing is wrong is safe.
-use Rattle.std.proofs.Common.{◌≡◌, ◌≢◌, ℕ, ◌+◌, ◌<◌, ◌≤◌, max, true, false, List, [], ◌∷◌, ◌++◌, Option, refl, sym, ap, subst, ◌∙◌, ⊎_elim, arith, append_assoc, append-nil}
+use Rattle.std.proofs.Common.{◌≡◌, ◌≢◌, ℕ, ◌<◌, true, false, List, [], ◌∷◌, ◌++◌, Option, refl, sym, subst, ◌∙◌, ⊎_elim}
 use Rattle.std.specs.Prelude.{IsTrue, All, ◌||◌}
 use Rattle.std.specs.List.{list_any}
-use Rattle.std.proofs.lemmas.Bool.{or_cases, or_left}
+use Rattle.std.proofs.lemmas.Bool.{or_cases}
 use Rattle.std.proofs.lemmas.List.Elements.{All-cons, All-nil}
 use Rattle.std.proofs.lemmas.List.Folds.{list_any-append}
-use Rattle.dart_tree.specs.Tree.{Tree, binary}
-use Rattle.dart_tree.specs.declared.places.Place.{Place}
 use Rattle.dart_tree.specs.declared.places.NodeId.{NodeId}
-use Rattle.dart_tree.specs.declared.nodes.Operator.{Operator}
 use Rattle.dart_tree.specs.declared.nodes.OperatorKind.{OperatorKind}
 use Rattle.dart_tree.specs.declared.nodes.OperatorKind.TheVariants.{Plus, Less, NotEqual}
 use Rattle.flow_model.specs.Ty.{Ty, int, bool}
 use Rattle.flow_model.specs.Sub.{no_rows, sub}
 use Rattle.flow_model.specs.Flow.{FlowModel}
 use Rattle.judgement.specs.Names.{Names}
-use Rattle.judgement.specs.Judgement.{evaluate}
 use Rattle.core_ir.specs.PointFacts.{PointFacts}
 use Rattle.core_ir.specs.Program.{Program}
 use Rattle.core_ir.specs.Values.{declared_of}
-use Rattle.core_ir.specs.declared.facts.Held.TheVariants.{Own}
 use Rattle.core_ir.specs.declared.facts.SlotFact.{SlotFact}
 use Rattle.core_ir.specs.declared.points.PointId.{PointId}
 use Rattle.core_ir.specs.declared.points.SlotId.{SlotId}
 use Rattle.core_ir.specs.declared.points.Operand.{Operand}
 use Rattle.core_check.specs.WellFormed.{IsSlot, IsOperand, IsPoint, IsTerm, nexts}
-use Rattle.core_check.specs.Known.{known_of, is_shared, operand_type}
-use Rattle.core_check.specs.Tables.{Stored, Asked, Way, reads, stores, asks, ways, held_as, after_store}
-use Rattle.core_check.specs.Accepted.{IsReadable, FitsDeclared, FitsAsked, SlotImplies, Leads, IsFine}
-use Rattle.elaborate.specs.Frame.{Temporary, Purpose, of_local, of_temporary, Frame, type_for, holds, type_of_result, temporary_for, slot_for, value_height}
+use Rattle.core_check.specs.Known.{is_shared, operand_type}
+use Rattle.core_check.specs.Tables.{reads, stores, asks, ways, held_as, after_store}
+use Rattle.core_check.specs.Accepted.{IsReadable, FitsDeclared, FitsAsked, SlotImplies, Leads}
+use Rattle.elaborate.specs.Frame.{Temporary, Purpose, of_local, of_temporary, Frame, type_for, holds, type_of_result, temporary_for, slot_for}
 use Rattle.elaborate.specs.Known.{same_temporary, fact_for, facts_for}
-use Rattle.elaborate.specs.Layout.{LaidPoint, to, operand_of, held_for, operator_term}
-use Rattle.elaborate.specs.Forms.{is_expression}
-use Rattle.elaborate.proofs.Claims.{IsGood, IsOver, IsSafe, GoesOn}
+use Rattle.elaborate.specs.Layout.{to, operator_term}
+use Rattle.elaborate.proofs.Claims.{IsOver, IsSafe, GoesOn}
 use Rattle.elaborate.proofs.TypeLaws.{sub_itself}
 use Rattle.elaborate.proofs.Slots.{IsAt, slot_for_operator, one_slot_for, known_at, declared_at_slot, slot_in}
 use Rattle.elaborate.proofs.Steps.{implies_itself, leads_changed}
-use Rattle.elaborate.proofs.Judged.{Wants, BinaryClean}
-use Rattle.elaborate.proofs.Operands.{IsReady, any_first, any_behind, operator_room}
+use Rattle.elaborate.proofs.Judged.{Wants}
+use Rattle.elaborate.proofs.Operands.{IsReady, any_first}
 
 -- what holds of one thing holds of each in a list of it alone
 pub all_one : {X : Type 0} (P : X → Type 0) (x : X) → P x → All P (x ∷ [])

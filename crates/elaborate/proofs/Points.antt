@@ -1,8 +1,7 @@
 -- Points of a program, one list behind another.
-use Rattle.std.proofs.Common.{◌≡◌, ℕ, zero, suc, ◌+◌, ◌<◌, ◌≤◌, List, [], ◌∷◌, ◌++◌, length, map, Some, refl, sym, ap, subst, ◌∙◌, inl, inr, arith, add_assoc, add-zero}
+use Rattle.std.proofs.Common.{◌≡◌, ℕ, zero, suc, ◌+◌, List, [], ◌∷◌, ◌++◌, length, Some, refl, sym, ap, subst, ◌∙◌, inl, inr, arith, add-zero}
 use Rattle.std.specs.Prelude.{IsTrue, slice_get, slice_index_or}
 use Rattle.std.proofs.lemmas.Option.{slice_get_within, get_or_from_slice_get}
-use Rattle.flow_model.specs.Ty.{Ty}
 use Rattle.flow_model.specs.Flow.{FlowModel}
 use Rattle.core_ir.specs.Program.{Program}
 use Rattle.core_ir.specs.PointFacts.{PointFacts}
@@ -11,7 +10,7 @@ use Rattle.core_ir.specs.Values.{declared_at}
 use Rattle.core_check.specs.Known.{no_facts, no_point, point_at, facts_at, known_of}
 use Rattle.core_check.specs.Accepted.{SlotImplies}
 use Rattle.elaborate.specs.Frame.{Temporary, Frame}
-use Rattle.elaborate.specs.Known.{fact_for, facts_for}
+use Rattle.elaborate.specs.Known.{facts_for}
 use Rattle.elaborate.specs.Layout.{LaidPoint}
 use Rattle.elaborate.specs.Elaborated.{laid_points}
 use Rattle.elaborate.proofs.Claims.{IsOver, Has, IsSafe, AreSafe, GoesOn}

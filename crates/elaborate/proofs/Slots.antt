@@ -1,9 +1,9 @@
 -- What the slots of a frame are for, by their places.
-use Rattle.std.proofs.Common.{◌≡◌, ◌≢◌, ◌⊎◌, ℕ, zero, suc, ◌+◌, ◌<◌, ◌≤◌, Bool, true, false, not, cond, List, [], ◌∷◌, ◌++◌, length, map, Option, Some, None, find, refl, sym, ap, subst, ◌∙◌, inl, inr, arith, zero-add, suc-add, add-zero, one-add, eqb-true}
-use Rattle.std.specs.Prelude.{slice_get, slice_index_or, nat_eq, IsTrue, ◌&&◌}
+use Rattle.std.proofs.Common.{◌≡◌, ◌⊎◌, ℕ, zero, suc, ◌+◌, ◌<◌, Bool, true, false, not, cond, List, [], ◌∷◌, ◌++◌, length, map, Some, find, refl, sym, ap, subst, ◌∙◌, inl, inr, arith, zero-add, suc-add, add-zero, one-add, eqb-true}
+use Rattle.std.specs.Prelude.{slice_get, slice_index_or, nat_eq, IsTrue}
 use Rattle.std.specs.List.{range_with_len, position_or_len}
 use Rattle.std.proofs.lemmas.List.{length-map}
-use Rattle.std.proofs.lemmas.Option.{slice_get-map, slice_get_within, slice_get-get_or, get_or_from_slice_get}
+use Rattle.std.proofs.lemmas.Option.{slice_get_within, slice_get-get_or, get_or_from_slice_get}
 use Rattle.std.proofs.lemmas.Bool.{and_parts, cases_lt}
 use Rattle.dart_tree.specs.declared.nodes.OperatorKind.{OperatorKind}
 use Rattle.dart_tree.specs.declared.nodes.OperatorKind.TheVariants.{Plus, Less, NotEqual}

@@ -1,7 +1,6 @@
 -- Where what is known on a way implies what is known at the point that it leads to.
-use Rattle.std.proofs.Common.{◌≡◌, ◌≢◌, ℕ, ◌<◌, true, false, cond, List, [], ◌∷◌, length, Some, refl, sym, ap, subst, ◌∙◌, ⊎_elim, eq-eqb, ne_eqb}
-use Rattle.std.specs.Prelude.{IsTrue, slice_index_or, nat_eq}
-use Rattle.std.specs.List.{list_any}
+use Rattle.std.proofs.Common.{◌≡◌, ◌≢◌, ℕ, ◌<◌, List, [], length, subst, ◌∙◌, ⊎_elim, eq-eqb, ne_eqb}
+use Rattle.std.specs.Prelude.{IsTrue, nat_eq}
 use Rattle.std.proofs.lemmas.Bool.{cases_eq, cond-true, cond-false}
 use Rattle.std.proofs.lemmas.Option.{slice_get_within, get_or_from_slice_get}
 use Rattle.flow_model.specs.Ty.{Ty}
@@ -14,12 +13,12 @@ use Rattle.core_ir.specs.declared.points.SlotId.{SlotId}
 use Rattle.core_check.specs.Known.{known_of, facts_at, held_type}
 use Rattle.core_check.specs.Tables.{changed}
 use Rattle.core_check.specs.Accepted.{SlotImplies, Leads}
-use Rattle.elaborate.specs.Frame.{Local, Temporary, Purpose, of_local, of_temporary, Frame, type_for}
-use Rattle.elaborate.specs.Known.{same_temporary, fact_for, facts_for}
+use Rattle.elaborate.specs.Frame.{Temporary, Purpose, of_local, of_temporary, Frame, type_for}
+use Rattle.elaborate.specs.Known.{fact_for, facts_for}
 use Rattle.elaborate.specs.Layout.{to}
 use Rattle.elaborate.proofs.Claims.{Implies, IsOver, GoesOn}
 use Rattle.elaborate.proofs.TypeLaws.{sub_itself, sub_through}
-use Rattle.elaborate.proofs.Slots.{IsAt, same_purpose, local_place, known_at, declared_at_slot, slot_in, each_slot}
+use Rattle.elaborate.proofs.Slots.{IsAt, same_purpose, local_place, known_at, declared_at_slot, each_slot}
 
 -- what is known of a slot implies itself
 pub implies_itself : (declared : Ty) (f : SlotFact) → SlotImplies no_rows declared f f

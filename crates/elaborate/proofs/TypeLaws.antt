@@ -1,8 +1,8 @@
 -- Subtyping among the types that expressions and locals have where nothing is wrong.
 use Rattle.std.proofs.Common.{◌≡◌, Bool, true, false, refl, sym, subst}
 use Rattle.std.specs.Prelude.{IsTrue, List, [], ◌∷◌, ◌++◌, ◌||◌, if◌then◌else◌, filter, map}
-use Rattle.flow_model.specs.Ty.{Ty, invalid, never, null, int, bool, nullable, same_type, non_null_of}
-use Rattle.flow_model.specs.Sub.{no_rows, Sub, same, sub}
+use Rattle.flow_model.specs.Ty.{Ty, null, int, bool, nullable, same_type, non_null_of}
+use Rattle.flow_model.specs.Sub.{no_rows, same, sub}
 use Rattle.flow_model.specs.Flow.{last_or, current_of}
 use Rattle.flow_model.specs.Assign.{appended_of, assign_facts}
 use Rattle.flow_model.specs.Steps.{non_null_facts}

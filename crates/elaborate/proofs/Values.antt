@@ -1,5 +1,5 @@
 -- The points of an expression in which nothing is wrong are safe.
-use Rattle.std.proofs.Common.{◌≡◌, ◌≢◌, ℕ, ◌+◌, ◌<◌, ◌≤◌, max, List, [], ◌∷◌, ◌++◌, length, Option, Some, refl, sym, ap, ap₂, subst, ◌∙◌, inl, inr, ⊎_elim, arith, append_assoc, append-nil, length-append, le_refl, ne_eqb}
+use Rattle.std.proofs.Common.{◌≡◌, ◌≢◌, ℕ, ◌+◌, ◌≤◌, max, List, [], ◌∷◌, ◌++◌, length, Option, Some, refl, sym, ap, ap₂, subst, ◌∙◌, inr, ⊎_elim, arith, append_assoc, append-nil, length-append, le_refl, ne_eqb}
 use Rattle.std.specs.Prelude.{IsTrue, nat_eq}
 use Rattle.std.proofs.lemmas.Bool.{and_parts, cases_eq, cond-false}
 use Rattle.dart_tree.specs.Tree.{Tree, name, integer, boolean, null_literal, binary}

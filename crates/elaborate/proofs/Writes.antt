@@ -1,21 +1,19 @@
 -- Assignments and declarations in which nothing is wrong, and the points at which they write.
-use Rattle.std.proofs.Common.{◌≡◌, ◌≢◌, ℕ, ◌+◌, ◌<◌, ◌≤◌, Bool, true, false, List, [], ◌∷◌, ◌++◌, is_some, if◌then◌else◌, Option, Some, None, find, refl, sym, ap, subst, ◌∙◌}
+use Rattle.std.proofs.Common.{◌≡◌, ◌≢◌, ℕ, Bool, true, false, List, [], ◌∷◌, is_some, if◌then◌else◌, Option, Some, None, refl, ap, ◌∙◌}
 use Rattle.std.specs.Prelude.{IsTrue, All}
-use Rattle.std.specs.Option.{option_map_or, option_map}
+use Rattle.std.specs.Option.{option_map_or}
 use Rattle.std.specs.FinMap.{get}
 use Rattle.std.proofs.lemmas.List.Elements.{All-nil}
 use Rattle.dart_tree.specs.Tree.{Tree, int_type, bool_type}
 use Rattle.dart_tree.specs.declared.places.Place.{Place}
 use Rattle.dart_tree.specs.declared.places.NodeId.{NodeId}
 use Rattle.dart_tree.specs.declared.nodes.Name.{Name}
-use Rattle.flow_model.specs.Ty.{Ty, null, int, bool, nullable_of, admits_null}
+use Rattle.flow_model.specs.Ty.{Ty, int, nullable_of}
 use Rattle.flow_model.specs.Sub.{no_rows, sub}
-use Rattle.flow_model.specs.Flow.{FlowModel, facts_of, at_local, current_of, fresh_facts, declare_of}
+use Rattle.flow_model.specs.Flow.{FlowModel, facts_of, at_local, declare_of}
 use Rattle.flow_model.specs.Assign.{assign_facts}
 use Rattle.flow_model.specs.declared.locals.LocalId.{LocalId}
-use Rattle.flow_model.specs.declared.locals.LocalDecl.{LocalDecl}
 use Rattle.flow_model.specs.declared.locals.Facts.{Facts}
-use Rattle.flow_model.proofs.Scopes.{facts_of-declare_other, facts_of-declare_same, facts_of-at_local_same, facts_of-at_local_other}
 use Rattle.judgement.specs.declared.DiagnosticCode.TheVariants.{DuplicateDefinition, InvalidAssignment, UndefinedName}
 use Rattle.judgement.specs.Names.{Names}
 use Rattle.judgement.specs.Rows.{Outcome, just, complains, fault_at, fits, fit_faults, write_row, assign_row, declared_local, declare_row, initialize_row}
@@ -28,18 +26,16 @@ use Rattle.core_ir.specs.declared.facts.SlotFact.{SlotFact}
 use Rattle.core_ir.specs.declared.points.PointId.{PointId}
 use Rattle.core_ir.specs.declared.points.SlotId.{SlotId}
 use Rattle.core_ir.specs.declared.points.Operand.{Operand}
-use Rattle.core_ir.specs.declared.points.Operand.TheVariants.{Constant}
 use Rattle.core_ir.specs.declared.points.Term.TheVariants.{Store, Declare, Initialize}
-use Rattle.core_ir.specs.declared.values.Value.TheVariants.{Null}
 use Rattle.core_check.specs.Known.{known_of, is_shared, operand_type}
 use Rattle.core_check.specs.Tables.{held_as}
 use Rattle.core_check.specs.Accepted.{IsReadable, FitsDeclared, FitsAsked, Leads}
-use Rattle.elaborate.specs.Frame.{Local, Temporary, of_local, Frame, is_local, slot_of}
+use Rattle.elaborate.specs.Frame.{Temporary, of_local, Frame, slot_of}
 use Rattle.elaborate.specs.Known.{fact_for, facts_for}
-use Rattle.elaborate.specs.Layout.{to, declaration_term}
+use Rattle.elaborate.specs.Layout.{to}
 use Rattle.elaborate.specs.Forms.{is_written_type}
-use Rattle.elaborate.proofs.Claims.{is_shape, Fits, IsGood, IsOver, IsSafe, GoesOn}
-use Rattle.elaborate.proofs.TypeLaws.{sub_itself, is_simple, written_type_fits}
+use Rattle.elaborate.proofs.Claims.{is_shape, IsOver, IsSafe, GoesOn}
+use Rattle.elaborate.proofs.TypeLaws.{sub_itself, is_simple}
 use Rattle.elaborate.proofs.Slots.{IsAt, known_at, declared_at_slot, slot_in}
 use Rattle.elaborate.proofs.Operands.{IsReady, known_local}
 use Rattle.elaborate.proofs.Operators.{all_one}
