@@ -69,6 +69,7 @@ tests_read names m after word ty reads is = record {
   is_false = is;
 }
 
+-- a comparison of a local with null, on either side
 tests_compared : (names : Names) (left right : Tree) (m : FlowModel) (word : ℕ) → compared_word left right ≡ Some word → (evaluate no_rows names left m).faults ≡ [] → (evaluate no_rows names right m).faults ≡ []
     → Tests names m word (where_not_null (compared_local names left right) (evaluate no_rows names right m).after) (evaluate no_rows names right m).after
 tests_compared names (name at w) (null_literal at_null) m word is left_clean right_clean =
@@ -80,6 +81,7 @@ tests_compared names (null_literal at_null) (name at w) m word is left_clean rig
     subst (λ (x : ℕ). Tests names m x (where_not_null (get names w) after) after) same (tests_read names m after w _ (name_reads names at w m right_clean) (after_same no_rows names (name at w) m))
 tests_compared names _ _ m word is left_clean right_clean = absurd cc
 
+-- an operator that tests a word
 tests_operator : (names : Names) (operator : OperatorKind) (span : Span) (at : Place) (left right : Tree) (m : FlowModel) (word : ℕ) → tested_by operator left right ≡ Some word
     → (operator_row no_rows operator span at (compared_local names left right) (evaluate no_rows names left m) (evaluate no_rows names right m)).faults ≡ []
     → Tests names m word (operator_row no_rows operator span at (compared_local names left right) (evaluate no_rows names left m) (evaluate no_rows names right m)).when_true
@@ -100,18 +102,22 @@ condition_tests names _ m word is clean = absurd cc
 abbrev IsEven : FlowModel → Value → Type 0
 IsEven m v = (v.when_true ≡ m) × (v.when_false ≡ m)
 
+-- a read of a local, assigned or not
 even_assigned : (at : Place) (ty : Ty) (m : FlowModel) (assigned : Bool) → IsEven m (if assigned then of_type ty m else faulty at UnassignedRead m)
 even_assigned at ty m true = (refl, refl)
 even_assigned at ty m false = (refl, refl)
 
+-- a read of a local, in scope or not
 even_read : (at : Place) (m : FlowModel) (found : Option Facts) → IsEven m (read_row at found m)
 even_read at m None = (refl, refl)
 even_read at m (Some local) = even_assigned at (current_of local) m local.assigned
 
+-- a read of a name, whatever it means
 even_name : (at : Place) (m : FlowModel) (found : Option LocalId) → IsEven m (option_map_or (λ var. read_row at (facts_of m var) m) found (faulty at UndefinedName m))
 even_name at m None = (refl, refl)
 even_name at m (Some var) = even_read at m (facts_of m var)
 
+-- a literal, in range or not
 even_integer : (at : Place) (m : FlowModel) (fitting : Bool) → IsEven m (if fitting then of_type int m else faulty at IntegerLiteralOutOfRange m)
 even_integer at m true = (refl, refl)
 even_integer at m false = (refl, refl)
@@ -122,11 +128,13 @@ compared_none names (name at word) (null_literal at_null) none = absurd cc
 compared_none names (null_literal at_null) (name at word) none = absurd cc
 compared_none names _ _ none = refl
 
+-- an operator that tests no word
 even_operator : (names : Names) (operator : OperatorKind) (span : Span) (at : Place) (left right : Tree) (m : FlowModel) (l r : Value) → tested_by operator left right ≡ None → r.after ≡ m → IsEven m (operator_row no_rows operator span at (compared_local names left right) l r)
 even_operator names Plus span at left right m l r none is = (is, is)
 even_operator names Less span at left right m l r none is = (is, is)
 even_operator names NotEqual span at left right m l r none is = (ap (λ (found : Option LocalId). where_not_null found r.after) (compared_none names left right none) ∙ is, is)
 
+-- an expression of an operator that tests no word
 even_binary : (names : Names) (at : Place) (operator : Operator) (left right : Tree) (m : FlowModel) → tested_by operator.kind left right ≡ None → IsEven m (evaluate no_rows names (binary at operator left right) m)
 even_binary names at operator left right m none =
     subst (λ (v : Value). IsEven m v) (sym (binary_is no_rows names at operator left right m))
@@ -138,10 +146,12 @@ module _ (p : Program) (frame : Frame) (names : Names) (m : FlowModel) (held : L
   one_way : (after : FlowModel) (next : ℕ) → after ≡ m → GoesOn p frame after [] next → Leads p (record { next = to next; known = known_of (facts_for frame m held) })
   one_way after next is goes = leads_known p frame m m held [] next over (subst (λ (x : FlowModel). GoesOn p frame x [] next) is goes) reached (λ i q at. implies_with_none m held q)
 
+  -- both ways of it
   two_ways : (v : Value) → IsEven m v → GoesOn p frame v.when_true [] when_true → GoesOn p frame v.when_false [] when_false
       → All (Leads p) (record { next = to when_true; known = known_of (facts_for frame m held) } ∷ (record { next = to when_false; known = known_of (facts_for frame m held) } ∷ []))
   two_ways v even goes_true goes_false = all_two (Leads p) _ _ (one_way v.when_true when_true even.0 goes_true) (one_way v.when_false when_false even.1 goes_false)
 
+  -- its ways: of a branch on a constant the one that it takes
   branch_ways : (tree : Tree) → tested_word tree ≡ None → GoesOn p frame (evaluate no_rows names tree m).when_true [] when_true → GoesOn p frame (evaluate no_rows names tree m).when_false [] when_false
       → All (Leads p) (ways p (facts_for frame m held) (Branch (operand_of frame names 0 tree) (to when_true) (to when_false)))
   branch_ways (name at word) none goes_true goes_false = two_ways (evaluate no_rows names (name at word) m) (even_name at m (get names word)) goes_true goes_false
@@ -186,6 +196,7 @@ chain_alone : (b : Bool) (l : Facts) (chain : List Ty) → (let after = if b the
 chain_alone true l chain = (refl, refl, refl)
 chain_alone false l chain = (refl, refl, refl)
 
+-- so the local stays the same, and assigned and captured as it was
 non_null_same : (l : Facts) → ((non_null_facts l).var.0 ≡ l.var.0) × ((non_null_facts l).assigned ≡ l.assigned) × ((non_null_facts l).captured ≡ l.captured)
 non_null_same l = chain_alone (l.captured || same_type (non_null_of (current_of l)) (current_of l)) l (l.chain ++ non_null_of (current_of l) ∷ [])
 

@@ -37,10 +37,12 @@ after_assigned : (at : Place) (ty : Ty) (m : FlowModel) (assigned : Bool) → (i
 after_assigned at ty m true = refl
 after_assigned at ty m false = refl
 
+-- of a local, in scope or not
 after_read : (at : Place) (m : FlowModel) (found : Option Facts) → (read_row at found m).after ≡ m
 after_read at m None = refl
 after_read at m (Some local) = after_assigned at (current_of local) m local.assigned
 
+-- of a name, whatever it means
 after_name : (at : Place) (m : FlowModel) (found : Option LocalId) → (option_map_or (λ var. read_row at (facts_of m var) m) found (faulty at UndefinedName m)).after ≡ m
 after_name at m None = refl
 after_name at m (Some var) = after_read at m (facts_of m var)
@@ -50,6 +52,7 @@ after_integer : (at : Place) (m : FlowModel) (fitting : Bool) → (if fitting th
 after_integer at m true = refl
 after_integer at m false = refl
 
+-- whichever it is
 after_boolean : (value : Bool) (m : FlowModel) → (boolean_row value m).after ≡ m
 after_boolean true m = refl
 after_boolean false m = refl
@@ -87,20 +90,24 @@ pub record Reads (names : Names) (m : FlowModel) (word : ℕ) (ty : Ty) : Type 0
   pub typed : ty ≡ current_of local
 
 module _ (names : Names) (at : Place) (word : ℕ) (m : FlowModel) where
+  -- of a local in scope, by whether it is assigned
   reads_assigned : (var : LocalId) (local : Facts) → get names word ≡ Some var → facts_of m var ≡ Some local → (assigned : Bool) → local.assigned ≡ assigned
       → (if assigned then of_type (current_of local) m else faulty at UnassignedRead m).faults ≡ [] → Reads names m word (if assigned then of_type (current_of local) m else faulty at UnassignedRead m).ty
   reads_assigned var local means known true is clean = record { var = var; local = local; means = means; known = known; assigned = is; typed = refl }
   reads_assigned var local means known false is clean = absurd cc
 
+  -- of a local, by what is known of it
   reads_known : (var : LocalId) → get names word ≡ Some var → (found : Option Facts) → facts_of m var ≡ found → (read_row at found m).faults ≡ [] → Reads names m word (read_row at found m).ty
   reads_known var means None known clean = absurd cc
   reads_known var means (Some local) known clean = reads_assigned var local means known local.assigned refl clean
 
+  -- of a name, by what it means
   reads_meant : (found : Option LocalId) → get names word ≡ found → (option_map_or (λ var. read_row at (facts_of m var) m) found (faulty at UndefinedName m)).faults ≡ []
       → Reads names m word (option_map_or (λ var. read_row at (facts_of m var) m) found (faulty at UndefinedName m)).ty
   reads_meant None is clean = absurd cc
   reads_meant (Some var) is clean = reads_known var is (facts_of m var) refl clean
 
+  -- a name in which nothing is wrong reads a local
   pub name_reads : (name_row names at word m).faults ≡ [] → Reads names m word (name_row names at word m).ty
   name_reads clean = reads_meant (get names word) refl clean
 
@@ -109,9 +116,11 @@ integer_typed_if : (at : Place) (m : FlowModel) (fitting : Bool) → (if fitting
 integer_typed_if at m true clean = refl
 integer_typed_if at m false clean = absurd cc
 
+-- so a literal expression is
 pub integer_typed : (at : Place) (literal : IntegerLiteral) (m : FlowModel) → (integer_row at literal m).faults ≡ [] → (integer_row at literal m).ty ≡ int
 integer_typed at literal m clean = integer_typed_if at m (is_in_range literal) clean
 
+-- `true` and `false` are of type bool
 pub boolean_typed : (value : Bool) (m : FlowModel) → (boolean_row value m).ty ≡ bool
 boolean_typed true m = refl
 boolean_typed false m = refl
@@ -159,6 +168,7 @@ operator_wants Plus span at compared left right left_simple right_simple clean =
 operator_wants Less span at compared left right left_simple right_simple clean = let both = ints span at left right left_simple right_simple clean in (both, rw (both.0, both.1) refl)
 operator_wants NotEqual span at compared left right left_simple right_simple clean = (tt, refl)
 
+-- the type of an operator's value is one of these
 result_simple : (operator : OperatorKind) → IsTrue (is_simple (type_of_result operator))
 result_simple Plus = refl
 result_simple Less = refl
@@ -171,12 +181,14 @@ pub record BinaryClean (names : Names) (at : Place) (operator : Operator) (left 
   pub wants : Wants operator.kind (evaluate no_rows names left m).ty (evaluate no_rows names right m).ty
   pub typed : (evaluate no_rows names (binary at operator left right) m).ty ≡ type_of_result operator.kind
 
+-- where nothing is wrong with an operator, nothing is wrong with its sides
 binary_sides : (names : Names) (at : Place) (operator : Operator) (left right : Tree) (m : FlowModel) → (evaluate no_rows names (binary at operator left right) m).faults ≡ []
     → ((evaluate no_rows names left m).faults ≡ []) × ((evaluate no_rows names right m).faults ≡ [])
 binary_sides names at operator left right m clean =
     sides_clean operator.kind operator.span (place_of right) (compared_local names left right) (evaluate no_rows names left m) (evaluate no_rows names right m)
     (sym (ap (λ (v : Value). v.faults) (binary_is no_rows names at operator left right m)) ∙ clean)
 
+-- an operator in which nothing is wrong, from the types of its sides
 binary_clean_of : (names : Names) (at : Place) (operator : Operator) (left right : Tree) (m : FlowModel) → (evaluate no_rows names (binary at operator left right) m).faults ≡ []
     → IsTrue (is_simple (evaluate no_rows names left m).ty) → IsTrue (is_simple (evaluate no_rows names right m).ty) → BinaryClean names at operator left right m
 binary_clean_of names at operator left right m clean left_simple right_simple =
@@ -201,6 +213,7 @@ value_simple frame names (binary at operator left right) m good form clean =
     subst (λ (t : Ty). IsTrue (is_simple t)) (sym of_sides.typed) (result_simple operator.kind)
 value_simple frame names _ m good form clean = absurd cc
 
+-- an operator in which nothing is wrong
 pub binary_clean : (frame : Frame) (names : Names) (at : Place) (operator : Operator) (left right : Tree) (m : FlowModel) → IsGood frame m → IsTrue (is_expression (binary at operator left right))
     → (evaluate no_rows names (binary at operator left right) m).faults ≡ [] → BinaryClean names at operator left right m
 binary_clean frame names at operator left right m good form clean =
@@ -231,5 +244,6 @@ found_is var (first ∷ rest) l found = by (is_of var first) refl found (found_i
     by true is found more = let same : first ≡ l = cc in subst (λ (x : Facts). is_of var x ≡ true) same is
     by false is found more = more found
 
+-- so is what is known of a local
 pub known_var : (m : FlowModel) (var : LocalId) (l : Facts) → facts_of m var ≡ Some l → l.var ≡ var
 known_var m var l known = let same = eqb-true l.var.0 var.0 (found_is var m.locals l known) in ap (λ (k : ℕ). let id : LocalId = record { 0 = k } in id) same

@@ -21,7 +21,7 @@ use Rattle.elaborate.proofs.TypeLaws.{sub_itself}
 use Rattle.elaborate.proofs.Slots.{IsAt, one_slot_of_local}
 use Rattle.elaborate.proofs.Steps.{implies_itself, leads_changed}
 
--- nothing else is known anew of other locals
+-- of every other local the same is known
 abbrev pub IsSameElsewhere : LocalId → FlowModel → FlowModel → Type 0
 IsSameElsewhere var m m' = (other : LocalId) → other.0 ≢ var.0 → facts_of m' other ≡ facts_of m other
 

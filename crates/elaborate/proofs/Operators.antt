@@ -45,32 +45,38 @@ all_two P x y first second = All-cons P x (y ∷ []) first (all_one P y second)
 asks_int : (p : Program) (f : PointFacts) (operand : Operand) (ty : Ty) → operand_type p f operand ≡ ty → ty ≡ int → FitsAsked p f (record { operand = operand; ty = int })
 asks_int p f operand ty typed is = subst (λ (t : Ty). IsTrue (sub no_rows t int)) (sym (typed ∙ is)) (sub_itself int)
 
+-- so an operator has what it asks for
 operator_asks : (operator : OperatorKind) (p : Program) (f : PointFacts) (slot : SlotId) (left right : Operand) (s t : Ty) (next : PointId) → operand_type p f left ≡ s → operand_type p f right ≡ t → Wants operator s t
     → All (FitsAsked p f) (asks (operator_term operator slot left right next))
 operator_asks Plus p f slot left right s t next left_typed right_typed wants = all_two (FitsAsked p f) _ _ (asks_int p f left s left_typed wants.0) (asks_int p f right t right_typed wants.1)
 operator_asks Less p f slot left right s t next left_typed right_typed wants = all_two (FitsAsked p f) _ _ (asks_int p f left s left_typed wants.0) (asks_int p f right t right_typed wants.1)
 operator_asks NotEqual p f slot left right s t next left_typed right_typed wants = All-nil (FitsAsked p f)
 
+-- it reads both its sides
 operator_reads : (operator : OperatorKind) (f : PointFacts) (slot : SlotId) (left right : Operand) (next : PointId) → IsReadable f left → IsReadable f right → All (IsReadable f) (reads (operator_term operator slot left right next))
 operator_reads Plus f slot left right next first second = all_two (IsReadable f) left right first second
 operator_reads Less f slot left right next first second = all_two (IsReadable f) left right first second
 operator_reads NotEqual f slot left right next first second = all_two (IsReadable f) left right first second
 
+-- it stores its value in a slot of its type
 operator_stores : (operator : OperatorKind) (p : Program) (f : PointFacts) (slot : SlotId) (left right : Operand) (next : PointId) → declared_of p slot ≡ type_of_result operator → All (FitsDeclared p) (stores p f (operator_term operator slot left right next))
 operator_stores Plus p f slot left right next declared = all_one (FitsDeclared p) _ (rw declared (sub_itself int))
 operator_stores Less p f slot left right next declared = all_one (FitsDeclared p) _ (rw declared (sub_itself bool))
 operator_stores NotEqual p f slot left right next declared = all_one (FitsDeclared p) _ (rw declared (sub_itself bool))
 
+-- it has one way on
 operator_leads : (operator : OperatorKind) (p : Program) (f : PointFacts) (slot : SlotId) (left right : Operand) (next : PointId) → Leads p (record { next = next; known = after_store f slot (type_of_result operator) }) → All (Leads p) (ways p f (operator_term operator slot left right next))
 operator_leads Plus p f slot left right next leads = all_one (Leads p) _ leads
 operator_leads Less p f slot left right next leads = all_one (Leads p) _ leads
 operator_leads NotEqual p f slot left right next leads = all_one (Leads p) _ leads
 
+-- the program has what it names
 operator_in : (operator : OperatorKind) (p : Program) (slot : SlotId) (left right : Operand) (next : PointId) → IsSlot p slot → IsOperand p left → IsOperand p right → IsPoint p next → IsTerm p (operator_term operator slot left right next)
 operator_in Plus p slot left right next a b c d = (a, b, c, d)
 operator_in Less p slot left right next a b c d = (a, b, c, d)
 operator_in NotEqual p slot left right next a b c d = (a, b, c, d)
 
+-- it names one next point
 operator_moves : (operator : OperatorKind) (slot : SlotId) (left right : Operand) (next : PointId) (n : ℕ) → next.0 ≢ n → All (λ (x : PointId). x.0 ≢ n) (nexts (operator_term operator slot left right next))
 operator_moves Plus slot left right next n moves = all_one (λ (x : PointId). x.0 ≢ n) next moves
 operator_moves Less slot left right next n moves = all_one (λ (x : PointId). x.0 ≢ n) next moves

@@ -53,11 +53,13 @@ get-range a zero i below = absurd (omega arith)
 get-range a (suc n) zero below = rw add-zero refl
 get-range a (suc n) (suc i) below = get-range (a + 1) n i (omega arith) ∙ ap (λ (k : ℕ). Some k) (omega arith)
 
+-- and what stands in a range is a number of it
 get-range_back : (a n i x : ℕ) → slice_get (range_with_len a n) i ≡ Some x → (i < n) × (x ≡ a + i)
 get-range_back a zero i x at = absurd cc
 get-range_back a (suc n) zero x at = (omega arith, (let same : a ≡ x = cc in omega arith))
 get-range_back a (suc n) (suc i) x at = let rest = get-range_back (a + 1) n i x at in (omega arith, omega arith)
 
+-- a range is as long as it is to be
 length-range : (a n : ℕ) → length (range_with_len a n) ≡ n
 length-range a zero = refl
 length-range a (suc n) = ap suc (length-range (a + 1) n)
@@ -83,10 +85,11 @@ find_place var (first ∷ rest) local found = at (is_local var first) refl found
 pub slot_of_local : (frame : Frame) (var : LocalId) (local : Local) → find (is_local var) frame.locals ≡ Some local → IsAt frame (slot_of frame var).0 (of_local local)
 slot_of_local frame var local found = get-append_left (map of_local frame.locals) _ _ (of_local local) (get-map of_local frame.locals _ local (find_place var frame.locals local found))
 
--- the local of a slot stands at its place among the locals
+-- no temporary is a local
 temporaries_apart : (ty : Ty) (n j : ℕ) (local : Local) → slice_get (temporaries_of ty n) j ≡ Some (of_local local) → ⊥
 temporaries_apart ty n j local at = let made = get-map_back (λ h. of_temporary (record { ty = ty; height = h })) (range_with_len 0 n) j (of_local local) at in let same = made.2 in cc
 
+-- the local of a slot stands at its place among the locals
 pub local_place : (frame : Frame) (i : ℕ) (local : Local) → IsAt frame i (of_local local) → slice_get frame.locals i ≡ Some local
 local_place frame i local at = elim (get-append_cases (map of_local frame.locals) (temporaries_of int frame.height ++ temporaries_of bool frame.height) i (of_local local) at) [
   | inl here ↦ (let made = get-map_back of_local frame.locals i (of_local local) here in let same = made.2 in let is : made.0 ≡ local = cc in made.1 ∙ ap (λ (l : Local). Some l) is)
@@ -126,14 +129,17 @@ temporary_at ty n height below = get-map (λ h. of_temporary (record { ty = ty; 
 behind_locals : (frame : Frame) (j : ℕ) (q : Purpose) → slice_get (temporaries_of int frame.height ++ temporaries_of bool frame.height) j ≡ Some q → IsAt frame (length frame.locals + j) q
 behind_locals frame j q at = subst (λ (n : ℕ). slice_get (purposes frame) (n + j) ≡ Some q) (length-map frame.locals of_local) (get-append_right (map of_local frame.locals) _ j ∙ at)
 
+-- there is a temporary for each height
 length-temporaries : (ty : Ty) (n : ℕ) → length (temporaries_of ty n) ≡ n
 length-temporaries ty n = length-map (range_with_len 0 n) _ ∙ length-range 0 n
 
+-- the slot of a temporary of type int
 int_slot : (frame : Frame) (height : ℕ) → height < frame.height → IsAt frame (length frame.locals + 0 + height) (of_temporary (record { ty = int; height = height }))
 int_slot frame height below =
     subst (λ (k : ℕ). IsAt frame k (of_temporary (record { ty = int; height = height }))) {x = length frame.locals + height} (omega arith)
     (behind_locals frame height _ (get-append_left (temporaries_of int frame.height) _ height _ (temporary_at int frame.height height below)))
 
+-- the slot of a temporary of type bool
 bool_slot : (frame : Frame) (height : ℕ) → height < frame.height → IsAt frame (length frame.locals + frame.height + height) (of_temporary (record { ty = bool; height = height }))
 bool_slot frame height below =
     subst (λ (k : ℕ). IsAt frame k (of_temporary (record { ty = bool; height = height }))) {x = length frame.locals + (length (temporaries_of int frame.height) + height)} (omega (arith, length-temporaries int frame.height))

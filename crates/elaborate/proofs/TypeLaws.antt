@@ -49,6 +49,7 @@ type_after t ty chain tested captured =
     (filter (sub no_rows t) chain
     ++ (if captured then [] else appended_of no_rows t (last_or ty (filter (sub no_rows t) chain)) ((ty ∷ tested) ++ map non_null_of (ty ∷ tested))))
 
+-- a value of type Null is a subtype of that
 null_after : (ty : Ty) (chain : List Ty) → IsTrue (is_shape ty chain) → IsTrue (sub no_rows null ty) → IsTrue (sub no_rows null (type_after null ty chain [] false))
 null_after int [] shape below = cc
 null_after bool [] shape below = cc
@@ -56,6 +57,7 @@ null_after (nullable int) [] shape below = refl
 null_after (nullable int) (int ∷ []) shape below = refl
 null_after _ _ shape below = cc
 
+-- so is an int
 int_after : (ty : Ty) (chain : List Ty) → IsTrue (is_shape ty chain) → IsTrue (sub no_rows int ty) → IsTrue (sub no_rows int (type_after int ty chain [] false))
 int_after int [] shape below = refl
 int_after bool [] shape below = cc
@@ -63,6 +65,7 @@ int_after (nullable int) [] shape below = refl
 int_after (nullable int) (int ∷ []) shape below = refl
 int_after _ _ shape below = cc
 
+-- so is a bool
 bool_after : (ty : Ty) (chain : List Ty) → IsTrue (is_shape ty chain) → IsTrue (sub no_rows bool ty) → IsTrue (sub no_rows bool (type_after bool ty chain [] false))
 bool_after int [] shape below = cc
 bool_after bool [] shape below = refl
@@ -70,6 +73,7 @@ bool_after (nullable int) [] shape below = cc
 bool_after (nullable int) (int ∷ []) shape below = cc
 bool_after _ _ shape below = cc
 
+-- so is an `int?`
 nullable_after : (ty : Ty) (chain : List Ty) → IsTrue (is_shape ty chain) → IsTrue (sub no_rows (nullable int) ty) → IsTrue (sub no_rows (nullable int) (type_after (nullable int) ty chain [] false))
 nullable_after int [] shape below = cc
 nullable_after bool [] shape below = cc
@@ -77,6 +81,7 @@ nullable_after (nullable int) [] shape below = refl
 nullable_after (nullable int) (int ∷ []) shape below = refl
 nullable_after _ _ shape below = cc
 
+-- so is each of these types
 simple_after : (t ty : Ty) (chain : List Ty) → IsTrue (is_simple t) → IsTrue (is_shape ty chain) → IsTrue (sub no_rows t ty) → IsTrue (sub no_rows t (type_after t ty chain [] false))
 simple_after null ty chain simple shape below = null_after ty chain shape below
 simple_after int ty chain simple shape below = int_after ty chain shape below
@@ -95,6 +100,7 @@ abbrev chain_tested : Ty → List Ty → (captured : Bool) → List Ty
 chain_tested ty chain captured =
     if captured || same_type (non_null_of (last_or ty chain)) (last_or ty chain) then chain else chain ++ non_null_of (last_or ty chain) ∷ []
 
+-- the current type without null is a subtype of the current type then
 tested_at : (ty : Ty) (chain : List Ty) → IsTrue (is_shape ty chain) → IsTrue (sub no_rows (non_null_of (last_or ty chain)) (last_or ty (chain_tested ty chain false)))
 tested_at int [] shape = refl
 tested_at bool [] shape = refl

@@ -68,33 +68,41 @@ binary_points rows frame names source at operator left right m height held k nex
 module _ (p : Program) (frame : Frame) (names : Names) (source : Option NodeId) (at : Place) (operator : Operator) (left right : Tree) (m : FlowModel) (height : ℕ) (held : List Temporary) (k next : ℕ)
     (over : IsOver frame p) (good : IsGood frame m) (form : IsTrue (is_expression (binary at operator left right))) (clean : BinaryClean names at operator left right m)
     (room : height + value_height (binary at operator left right) ≤ frame.height) where
+  -- there is room for the left side
   room_left : height + value_height left ≤ frame.height
   room_left = within (value_height left) (holds left + value_height right) room
     where
       within : (a b : ℕ) → height + max 1 (max a b) ≤ frame.height → height + a ≤ frame.height
       within a b le = omega arith
 
+  -- there is room for the right side, where the value of the left one is held
   room_right : height + holds left + value_height right ≤ frame.height
   room_right = within (value_height left) (holds left) (value_height right) room
     where
       within : (a b c : ℕ) → height + max 1 (max a (b + c)) ≤ frame.height → height + b + c ≤ frame.height
       within a b c le = omega arith
 
+  -- the points of the left side
   abbrev xs : List LaidPoint
   xs = value_points no_rows frame names source left m height held k (k + value_count left)
 
+  -- the points of the right side
   abbrev ys : List LaidPoint
   ys = value_points no_rows frame names source right m (height + holds left) (held ++ held_for height left) (k + value_count left) (k + value_count left + value_count right)
 
+  -- the point of the operator
   abbrev last : LaidPoint
   last = operator_point frame names source operator left right m height (held ++ held_for height left ++ held_for (height + holds left) right) next
 
+  -- the left side has as many points as are counted
   length_xs : length xs ≡ value_count left
   length_xs = length-value_points no_rows frame names source left m height held k (k + value_count left)
 
+  -- so has the right side
   length_ys : length ys ≡ value_count right
   length_ys = length-value_points no_rows frame names source right m (height + holds left) (held ++ held_for height left) (k + value_count left) (k + value_count left + value_count right)
 
+  -- the point of the operator is safe
   last_safe : next ≢ k + value_count left + value_count right → GoesOn p frame m (held ++ temporary_for operator.kind height ∷ []) next → IsSafe p (k + value_count left + value_count right) last
   last_safe moves goes =
       let forms = and_parts (is_expression left) (is_expression right) form in

@@ -56,15 +56,18 @@ pub record Writes (names : Names) (m : FlowModel) (word : ℕ) (ty : Ty) (after 
   pub is : after ≡ at_local m var (assign_facts no_rows ty)
 
 module _ (names : Names) (target : Name) (at : Place) (ty : Ty) (m : FlowModel) where
+  -- of a local, by what is known of it
   writes_known : (var : LocalId) → get names target.word ≡ Some var → (found : Option Facts) → facts_of m var ≡ found → (write_row no_rows target.at at ty var found m).faults ≡ [] → Writes names m target.word ty (write_row no_rows target.at at ty var found m).after
   writes_known var means None known clean = absurd cc
   writes_known var means (Some local) known clean = record { var = var; local = local; means = means; known = known; fit = fits_where_clean at (fits no_rows ty local.ty) clean; is = refl }
 
+  -- of a name, by what it means
   writes_meant : (found : Option LocalId) → get names target.word ≡ found → (option_map_or (λ var. write_row no_rows target.at at ty var (facts_of m var) m) found (complains target.at UndefinedName m)).faults ≡ []
       → Writes names m target.word ty (option_map_or (λ var. write_row no_rows target.at at ty var (facts_of m var) m) found (complains target.at UndefinedName m)).after
   writes_meant None is clean = absurd cc
   writes_meant (Some var) is clean = writes_known var is (facts_of m var) refl clean
 
+  -- an assignment in which nothing is wrong writes a local
   pub assign_writes : (assign_row no_rows names target at ty m).faults ≡ [] → Writes names m target.word ty (assign_row no_rows names target at ty m).after
   assign_writes clean = writes_meant (get names target.word) refl clean
 
@@ -88,11 +91,12 @@ declare_is names variable ty m var means fresh =
 pub initializer_fits : (at : Place) (value ty : Ty) → fit_faults no_rows at value ty ≡ [] → IsTrue (fits no_rows value ty)
 initializer_fits at value ty clean = fits_where_clean at (fits no_rows value ty) clean
 
--- the type that is written in a declaration
+-- the type int, with `?` or without, is one that a local may have
 nullable_simple : (nullable : Bool) → IsTrue (is_simple (if nullable then nullable_of int else int)) × IsTrue (is_shape (if nullable then nullable_of int else int) [])
 nullable_simple true = (refl, refl)
 nullable_simple false = (refl, refl)
 
+-- so is the type of a declaration
 pub written_simple : (declared : Tree) → IsTrue (is_written_type declared) → IsTrue (is_simple (type_of declared)) × IsTrue (is_shape (type_of declared) [])
 written_simple (int_type at nullable) form = nullable_simple nullable
 written_simple (bool_type at) form = (refl, refl)
@@ -102,18 +106,23 @@ written_simple _ form = absurd cc
 module _ (p : Program) (frame : Frame) (m m' : FlowModel) (held : List Temporary) (source : Option NodeId) (n next : ℕ) (var : LocalId) (ty : Ty)
     (over : IsOver frame p) (here : IsAt frame (slot_of frame var).0 (of_local (record { var = var; ty = ty }))) (same : IsSameElsewhere var m m') (reaches : IsTrue m.reachable → IsTrue m'.reachable)
     (goes : GoesOn p frame m' [] next) (moves : next ≢ n) where
+  -- what is known before it
   abbrev f : PointFacts
   f = facts_for frame m held
 
+  -- the slot that is written
   abbrev slot : SlotId
   slot = slot_of frame var
 
+  -- it names one next point
   moves_to : All (λ (x : PointId). x.0 ≢ n) (to next ∷ [])
   moves_to = all_one (λ (x : PointId). x.0 ≢ n) (to next) moves
 
+  -- the slot has the type of the local
   declared : declared_of p slot ≡ ty
   declared = declared_at_slot p frame slot.0 (of_local (record { var = var; ty = ty })) over here
 
+  -- a value whose type fits may be stored there
   stored_fits : (from : Operand) (value : Ty) → operand_type p f from ≡ value → IsTrue (sub no_rows value ty) → FitsDeclared p (record { slot = slot; ty = operand_type p f from })
   stored_fits from value typed below = rw (typed, declared) below
 
