@@ -40,7 +40,7 @@ use Rattle.elaborate.specs.Layout.{to, slot_named, operand_of, held_for, compare
 use Rattle.elaborate.specs.Forms.{is_expression}
 use Rattle.elaborate.proofs.Claims.{Fits, IsGood, IsOver, IsSafe, GoesOn}
 use Rattle.elaborate.proofs.TypeLaws.{tested_type_fits}
-use Rattle.elaborate.proofs.Slots.{IsAt, known_at}
+use Rattle.elaborate.proofs.Purposes.{IsAt, known_at}
 use Rattle.elaborate.proofs.Steps.{implies_with_none, leads_known}
 use Rattle.elaborate.proofs.Judged.{Reads, after_same, binary_is, name_reads, both_empty, value_simple, fits_below}
 use Rattle.elaborate.proofs.Operands.{IsReady, known_local, scope_slot, name_ready, operand_ready}

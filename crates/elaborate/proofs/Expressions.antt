@@ -36,7 +36,7 @@ use Rattle.elaborate.specs.Layout.{LaidPoint, to, slot_named, operand_of, held_f
 use Rattle.elaborate.specs.Forms.{is_expression, is_written_type, is_statement}
 use Rattle.elaborate.proofs.Claims.{Fits, IsGood, Implies, IsOver, Has, IsSafe, GoesOn, IsBeyond, IsSound}
 use Rattle.elaborate.proofs.TypeLaws.{is_simple, shape_declared, written_type_fits}
-use Rattle.elaborate.proofs.Slots.{IsAt, slot_of_local}
+use Rattle.elaborate.proofs.Purposes.{IsAt, slot_of_local}
 use Rattle.elaborate.proofs.Steps.{implies_with_none, implies_held, leads_known}
 use Rattle.elaborate.proofs.Points.{safe_one, goes_to_point}
 use Rattle.elaborate.proofs.Judged.{after_same, both_empty, value_simple, fits_below}

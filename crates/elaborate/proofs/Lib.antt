@@ -8,7 +8,7 @@ pub mod Ahead
 pub mod Meant
 pub mod Contexts
 pub mod TypeLaws
-pub mod Slots
+pub mod Purposes
 pub mod Steps
 pub mod Points
 pub mod Judged

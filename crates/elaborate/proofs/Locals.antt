@@ -18,7 +18,7 @@ use Rattle.elaborate.specs.Known.{fact_in_scope, fact_of_none, fact_for, facts_f
 use Rattle.elaborate.specs.Layout.{to}
 use Rattle.elaborate.proofs.Claims.{IsOver, GoesOn}
 use Rattle.elaborate.proofs.TypeLaws.{sub_itself}
-use Rattle.elaborate.proofs.Slots.{IsAt, one_slot_of_local}
+use Rattle.elaborate.proofs.Purposes.{IsAt, one_slot_of_local}
 use Rattle.elaborate.proofs.Steps.{implies_itself, leads_changed}
 
 -- of every other local the same is known

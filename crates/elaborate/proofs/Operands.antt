@@ -29,7 +29,7 @@ use Rattle.elaborate.specs.Known.{fact_in_scope, fact_of_none, same_temporary, f
 use Rattle.elaborate.specs.Layout.{slot_named, operand_of, held_for}
 use Rattle.elaborate.specs.Forms.{is_expression}
 use Rattle.elaborate.proofs.Claims.{IsGood, IsOver}
-use Rattle.elaborate.proofs.Slots.{IsAt, slot_of_local, slot_for_operator, known_at, declared_at_slot, slot_in}
+use Rattle.elaborate.proofs.Purposes.{IsAt, slot_of_local, slot_for_operator, known_at, declared_at_slot, slot_in}
 use Rattle.elaborate.proofs.Judged.{Reads, name_reads, integer_typed, boolean_typed, binary_clean, known_var}
 
 -- what is known of the slot of a local in scope that isn't captured

@@ -28,7 +28,7 @@ use Rattle.elaborate.specs.Known.{same_temporary, fact_for, facts_for}
 use Rattle.elaborate.specs.Layout.{to, operator_term}
 use Rattle.elaborate.proofs.Claims.{IsOver, IsSafe, GoesOn}
 use Rattle.elaborate.proofs.TypeLaws.{sub_itself}
-use Rattle.elaborate.proofs.Slots.{IsAt, slot_for_operator, one_slot_for, known_at, declared_at_slot, slot_in}
+use Rattle.elaborate.proofs.Purposes.{IsAt, slot_for_operator, one_slot_for, known_at, declared_at_slot, slot_in}
 use Rattle.elaborate.proofs.Steps.{implies_itself, leads_changed}
 use Rattle.elaborate.proofs.Judged.{Wants}
 use Rattle.elaborate.proofs.Operands.{IsReady, any_first}

@@ -14,7 +14,7 @@ use Rattle.elaborate.specs.Known.{facts_for}
 use Rattle.elaborate.specs.Layout.{LaidPoint}
 use Rattle.elaborate.specs.Elaborated.{laid_points}
 use Rattle.elaborate.proofs.Claims.{IsOver, Has, IsSafe, AreSafe, GoesOn}
-use Rattle.elaborate.proofs.Slots.{get-append_left, get-append_right, get-append_cases, get-map_back}
+use Rattle.elaborate.proofs.Purposes.{get-append_left, get-append_right, get-append_cases, get-map_back}
 use Rattle.elaborate.proofs.Steps.{implies_itself}
 
 -- a program has the points that points it has begin with

@@ -18,7 +18,7 @@ use Rattle.elaborate.specs.Known.{fact_for, facts_for}
 use Rattle.elaborate.specs.Layout.{to}
 use Rattle.elaborate.proofs.Claims.{Implies, IsOver, GoesOn}
 use Rattle.elaborate.proofs.TypeLaws.{sub_itself, sub_through}
-use Rattle.elaborate.proofs.Slots.{IsAt, same_purpose, local_place, known_at, declared_at_slot, each_slot}
+use Rattle.elaborate.proofs.Purposes.{IsAt, same_purpose, local_place, known_at, declared_at_slot, each_slot}
 
 -- what is known of a slot implies itself
 pub implies_itself : (declared : Ty) (f : SlotFact) → SlotImplies no_rows declared f f

@@ -36,7 +36,7 @@ use Rattle.elaborate.specs.Layout.{to}
 use Rattle.elaborate.specs.Forms.{is_written_type}
 use Rattle.elaborate.proofs.Claims.{is_shape, IsOver, IsSafe, GoesOn}
 use Rattle.elaborate.proofs.TypeLaws.{sub_itself, is_simple}
-use Rattle.elaborate.proofs.Slots.{IsAt, known_at, declared_at_slot, slot_in}
+use Rattle.elaborate.proofs.Purposes.{IsAt, known_at, declared_at_slot, slot_in}
 use Rattle.elaborate.proofs.Operands.{IsReady, known_local}
 use Rattle.elaborate.proofs.Operators.{all_one}
 use Rattle.elaborate.proofs.Locals.{IsSameElsewhere, local_leads, own_implies}
