@@ -4,3 +4,4 @@ pub mod Known
 pub mod Layout
 pub mod Elaborated
 pub mod Forms
+pub mod Built
