@@ -19,5 +19,10 @@ pub mod Locals
 pub mod Writes
 pub mod Conditions
 pub mod Expressions
+pub mod Counts
+pub mod Reaches
 pub mod Statements
+pub mod Begins
+pub mod Accepted
+pub mod Distinct
 mod Examples
