@@ -1,14 +1,13 @@
 -- What is claimed of the points of a tree in which nothing is wrong.
-use Rattle.std.specs.Prelude.{◌≡◌, ◌≢◌, ◌⊎◌, ℕ, ◌+◌, ◌<◌, ◌≤◌, Bool, true, false, IsTrue, IsSome, All, AllPairs, Contains, List, [], ◌∷◌, ◌++◌, Option, Some, None, length, slice_get, find}
+use Rattle.std.specs.Prelude.{◌≡◌, ◌≢◌, ◌⊎◌, ℕ, ◌+◌, ◌<◌, ◌≤◌, Bool, true, false, IsTrue, All, AllPairs, Contains, List, [], ◌∷◌, Some, length, slice_get, find}
 use Rattle.flow_model.specs.Ty.{Ty, int, bool, nullable}
-use Rattle.flow_model.specs.Sub.{no_rows, sub}
-use Rattle.flow_model.specs.Flow.{FlowModel, facts_of, current_of, is_listed}
+use Rattle.flow_model.specs.Sub.{no_rows}
+use Rattle.flow_model.specs.Flow.{FlowModel, facts_of}
 use Rattle.flow_model.specs.declared.locals.Facts.{Facts}
 use Rattle.flow_model.specs.declared.locals.LocalId.{LocalId}
 use Rattle.core_ir.specs.Program.{Program}
 use Rattle.core_check.specs.WellFormed.{IsTerm, nexts}
 use Rattle.core_check.specs.Known.{known_of}
-use Rattle.core_check.specs.Tables.{Way}
 use Rattle.core_check.specs.Accepted.{SlotImplies, Leads, IsFine}
 use Rattle.elaborate.specs.Frame.{Local, Temporary, of_local, Frame, slot_types, is_local}
 use Rattle.elaborate.specs.Known.{fact_for, facts_for}

@@ -1,9 +1,8 @@
 -- The core programs of a few small trees, computed.
-use Rattle.std.specs.Prelude.{◌≡◌, ℕ, pos, Bool, true, false, List, [], ◌∷◌, Some, None, refl, map}
+use Rattle.std.specs.Prelude.{◌≡◌, ℕ, pos, Bool, true, false, List, [], ◌∷◌, Some, refl, map}
 use Rattle.std.specs.FinMap.{gets}
 use Rattle.dart_tree.specs.declared.places.Place.{Place}
 use Rattle.dart_tree.specs.declared.nodes.Name.{Name}
-use Rattle.dart_tree.specs.declared.nodes.Operator.{Operator}
 use Rattle.dart_tree.specs.declared.nodes.OperatorKind.{OperatorKind}
 use Rattle.dart_tree.specs.declared.nodes.OperatorKind.TheVariants.{Plus, Less as LessThan, NotEqual as Unequal}
 use Rattle.dart_tree.specs.declared.nodes.Radix.TheVariants.{Decimal}
@@ -19,7 +18,7 @@ use Rattle.core_ir.specs.declared.points.Term.{Term}
 use Rattle.core_ir.specs.declared.points.Term.TheVariants.{Store, Initialize, Add, Less, Branch, TestNull, Loop, Output, End}
 use Rattle.core_ir.specs.declared.facts.Held.TheVariants.{Own}
 use Rattle.core_ir.specs.declared.facts.SlotFact.{SlotFact}
-use Rattle.elaborate.specs.Layout.{LaidPoint, to, program_points}
+use Rattle.elaborate.specs.Layout.{to, program_points}
 
 -- a node with this number, at the range of one code unit with the same offset
 abbrev at : ℕ → Place

@@ -1,5 +1,5 @@
 -- What is known at a point, from a flow model.
-use Rattle.std.specs.Prelude.{Bool, false, ◌&&◌, List, map, nat_eq, if◌then◌else◌, Option}
+use Rattle.std.specs.Prelude.{Bool, false, ◌&&◌, List, map, nat_eq, if◌then◌else◌}
 use Rattle.std.specs.Option.{option_map_or}
 use Rattle.std.specs.List.{list_any}
 use Rattle.flow_model.specs.Ty.{Ty, same_type}
@@ -8,7 +8,7 @@ use Rattle.flow_model.specs.declared.locals.Facts.{Facts}
 use Rattle.core_ir.specs.PointFacts.{PointFacts}
 use Rattle.core_ir.specs.declared.facts.Held.TheVariants.{Own, Shared}
 use Rattle.core_ir.specs.declared.facts.SlotFact.{SlotFact}
-use Rattle.elaborate.specs.Frame.{Local, Temporary, Purpose, of_local, of_temporary, Frame, purposes}
+use Rattle.elaborate.specs.Frame.{Temporary, Purpose, of_local, of_temporary, Frame, purposes}
 
 -- what is known of the slot of a local in scope: it is assigned where the model says so, and has the local's current type, or is shared where the local is captured
 abbrev pub fact_in_scope : Facts → SlotFact
