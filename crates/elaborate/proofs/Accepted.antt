@@ -28,7 +28,6 @@ use Rattle.elaborate.specs.Built.{IsBuilt}
 use Rattle.elaborate.specs.Forms.{are_statements}
 use Rattle.elaborate.proofs.Claims.{IsOver, Has, IsSafe, AreSafe}
 use Rattle.elaborate.proofs.Contexts.{context_start}
-use Rattle.elaborate.proofs.Contexts.{context_start}
 use Rattle.elaborate.proofs.Counts.{length-statement_points}
 use Rattle.elaborate.proofs.Points.{has_first, safe_one, goes_to_point}
 use Rattle.elaborate.proofs.Reaches.{has_behind, safe_behind}
