@@ -10,9 +10,8 @@
 
 mod typed;
 
-pub use typed::{Branch, TypedNode};
-
 use dart_tree::Span;
+pub use typed::{Branch, TypedNode};
 
 /// What a diagnostic says, in the order of the codes' names.
 #[derive(Clone, Copy, Debug, PartialEq, Eq, PartialOrd, Ord)]
