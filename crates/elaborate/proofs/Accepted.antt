@@ -1,11 +1,12 @@
 -- The core program of a tree in which nothing is wrong is accepted.
-use Rattle.std.proofs.Common.{◌≡◌, ℕ, zero, suc, ◌+◌, ◌<◌, List, [], ◌∷◌, ◌++◌, length, map, option_map, Some, None, refl, sym, ap, ◌∙◌, subst, arith, inr}
+use Rattle.std.proofs.Common.{◌≡◌, ℕ, zero, suc, ◌+◌, ◌<◌, ◌≤◌, ◌^◌, List, [], ◌∷◌, ◌++◌, length, map, option_map, Some, None, refl, sym, ap, ◌∙◌, subst, arith, inr}
 use Rattle.std.specs.Prelude.{◌≢◌, IsTrue, AllPairs, slice_get, slice_index_or}
 use Rattle.std.specs.FinMap.{empty}
 use Rattle.std.proofs.lemmas.List.{length-map}
 use Rattle.std.proofs.lemmas.List.Elements.{All-nil}
 use Rattle.std.proofs.lemmas.Option.{slice_get-get_or, slice_get-map}
 use Rattle.dart_tree.specs.Tree.{Tree, Trees, block, function, unit}
+use Rattle.dart_tree.specs.Numbers.{nodes_in}
 use Rattle.dart_tree.specs.declared.places.Place.{Place}
 use Rattle.flow_model.specs.Ty.{Ty, invalid}
 use Rattle.flow_model.specs.Sub.{no_rows}
@@ -24,19 +25,16 @@ use Rattle.elaborate.specs.Frame.{Purpose, of_local, of_temporary, Frame, frame_
 use Rattle.elaborate.specs.Known.{fact_for, facts_for}
 use Rattle.elaborate.specs.Layout.{LaidPoint, count, statement_points, program_points}
 use Rattle.elaborate.specs.Elaborated.{laid_points, IsElaborationOf}
-use Rattle.elaborate.specs.Built.{IsBuilt}
-use Rattle.elaborate.specs.Forms.{are_statements}
+use Rattle.elaborate.specs.Laid.{IsBuiltFor}
+use Rattle.elaborate.specs.Forms.{are_statements, is_program}
+use Rattle.elaborate.proofs.Built.{built_facts, built_numbered, built_wide}
 use Rattle.elaborate.proofs.Claims.{IsOver, Has, IsSafe, AreSafe}
 use Rattle.elaborate.proofs.Contexts.{context_start}
 use Rattle.elaborate.proofs.Counts.{length-statement_points}
 use Rattle.elaborate.proofs.Points.{has_first, safe_one, goes_to_point}
 use Rattle.elaborate.proofs.Reaches.{has_behind, safe_behind}
 use Rattle.elaborate.proofs.Begins.{Begins, nothing, begins_both, begins_statement, unchanged}
-use Rattle.elaborate.proofs.Statements.{statement_sound}
-
--- the whole tree of a program: a unit with a function whose body is a block
-abbrev pub whole : Place → Place → Place → Trees → Tree
-whole at_u at_f at_b statements = unit at_u (function at_f (block at_b statements))
+use Rattle.elaborate.proofs.StatementPoints.{statement_sound}
 
 -- a point with what is known at it
 abbrev laid_of : Program → Point → LaidPoint
@@ -145,37 +143,38 @@ accepted p at statements is = record {
   };
 }
 
--- what a point names is in the program, where the program is built well
-point_of : (p : Program) (at : Place) (statements : Trees) → IsFrom p at statements → IsBuilt p → (k : ℕ) (q : Point) → slice_get p.points k ≡ Some q → IsPointOf p k q
-point_of p at statements is built k q here =
+-- a program for a tree has the points of a block of statements
+record IsFromSome (p : Program) : Type 0 where
+  pub at : Place
+  pub statements : Trees
+  pub is : IsFrom p at statements
+
+-- the core program of a tree in which nothing is wrong is that of its block
+from_program : (tree : Tree) (p : Program) → IsTrue (is_program tree) → AllPairs (λ a b. a.var.0 ≢ b.var.0) (locals_in tree) → faults_of no_rows tree ≡ [] → IsElaborationOf tree p → IsFromSome p
+from_program (unit at main) p form distinct clean is = from_program main p form distinct clean (record { rows = is.rows; slots = is.slots; points = is.points })
+from_program (function at body) p form distinct clean is = from_program body p form distinct clean (record { rows = is.rows; slots = is.slots; points = is.points })
+from_program (block at statements) p form distinct clean is =
+    record { at = at; statements = statements; is = record { form = form; distinct = distinct; clean = clean; rows = is.rows; slots = is.slots; points = is.points } }
+from_program _ p form distinct clean is = cc
+
+-- it is accepted
+pub program_accepted : (tree : Tree) (p : Program) → IsTrue (is_program tree) → AllPairs (λ a b. a.var.0 ≢ b.var.0) (locals_in tree) → faults_of no_rows tree ≡ [] → IsElaborationOf tree p → IsAccepted p
+program_accepted tree p form distinct clean is = let from = from_program tree p form distinct clean is in accepted p from.at from.statements from.is
+
+-- what a point names is in the program, where the program is built
+point_of : (tree : Tree) (p : Program) (at : Place) (statements : Trees) → IsFrom p at statements → IsBuiltFor tree p → (k : ℕ) (q : Point) → slice_get p.points k ≡ Some q → IsPointOf p k q
+point_of tree p at statements is built k q here =
     let safe = each_safe p at statements is k (laid_of p q) (slice_get-map (laid_of p) p.points k ∙ ap (option_map (laid_of p)) here) in
-    record { facts_in = built.facts_in k q here; term_in = safe.term_in; moves_on = safe.moves_on }
+    record { facts_in = built_facts tree p built k q here; term_in = safe.term_in; moves_on = safe.moves_on }
 
 -- and the program may be asked about
-well_formed : (p : Program) (at : Place) (statements : Trees) → IsFrom p at statements → IsBuilt p → IsWellFormed p
-well_formed p at statements is built = record {
-  has_entry = built.has_entry;
-  numbered = built.numbered;
-  facts_wide = built.facts_wide;
-  points_in = point_of p at statements is built;
-}
-
--- the core program of a whole tree is that of its block
-from_whole : (p : Program) (at_u at_f at_b : Place) (statements : Trees) → IsTrue (are_statements statements) → AllPairs (λ a b. a.var.0 ≢ b.var.0) (locals_in (whole at_u at_f at_b statements))
-    → faults_of no_rows (whole at_u at_f at_b statements) ≡ [] → IsElaborationOf (whole at_u at_f at_b statements) p → IsFrom p at_b statements
-from_whole p at_u at_f at_b statements form distinct clean is = record { form = form; distinct = distinct; clean = clean; rows = is.rows; slots = is.slots; points = is.points }
-
--- each laid point of a whole tree in which nothing is wrong is safe
-pub whole_safe : (p : Program) (at_u at_f at_b : Place) (statements : Trees) → IsTrue (are_statements statements) → AllPairs (λ a b. a.var.0 ≢ b.var.0) (locals_in (whole at_u at_f at_b statements))
-    → faults_of no_rows (whole at_u at_f at_b statements) ≡ [] → IsElaborationOf (whole at_u at_f at_b statements) p → (n : ℕ) (q : LaidPoint) → slice_get (laid_points p) n ≡ Some q → IsSafe p n q
-whole_safe p at_u at_f at_b statements form distinct clean is = each_safe p at_b statements (from_whole p at_u at_f at_b statements form distinct clean is)
-
--- its program is accepted
-pub whole_accepted : (p : Program) (at_u at_f at_b : Place) (statements : Trees) → IsTrue (are_statements statements) → AllPairs (λ a b. a.var.0 ≢ b.var.0) (locals_in (whole at_u at_f at_b statements))
-    → faults_of no_rows (whole at_u at_f at_b statements) ≡ [] → IsElaborationOf (whole at_u at_f at_b statements) p → IsAccepted p
-whole_accepted p at_u at_f at_b statements form distinct clean is = accepted p at_b statements (from_whole p at_u at_f at_b statements form distinct clean is)
-
--- and may be asked about
-pub whole_well_formed : (p : Program) (at_u at_f at_b : Place) (statements : Trees) → IsTrue (are_statements statements) → AllPairs (λ a b. a.var.0 ≢ b.var.0) (locals_in (whole at_u at_f at_b statements))
-    → faults_of no_rows (whole at_u at_f at_b statements) ≡ [] → IsElaborationOf (whole at_u at_f at_b statements) p → IsBuilt p → IsWellFormed p
-whole_well_formed p at_u at_f at_b statements form distinct clean is built = well_formed p at_b statements (from_whole p at_u at_f at_b statements form distinct clean is) built
+pub program_well_formed : (tree : Tree) (p : Program) → IsTrue (is_program tree) → AllPairs (λ a b. a.var.0 ≢ b.var.0) (locals_in tree) → faults_of no_rows tree ≡ [] → IsElaborationOf tree p
+    → IsBuiltFor tree p → nodes_in tree ≤ 2 ^ 32 → IsWellFormed p
+program_well_formed tree p form distinct clean is built small =
+    let from = from_program tree p form distinct clean is in
+    record {
+      has_entry = built.has_entry;
+      numbered = built_numbered tree p small built;
+      facts_wide = built_wide tree p is built;
+      points_in = point_of tree p from.at from.statements from.is built;
+    }

@@ -15,7 +15,7 @@ use Rattle.elaborate.specs.Known.{facts_for}
 use Rattle.elaborate.specs.Layout.{LaidPoint, held_for, slot_named, value_count, value_points, tested_word, condition_count, condition_points, count, count_all, count_part, entry, declaration_points, statement_points, statements_points}
 use Rattle.elaborate.proofs.Expressions.{evaluate_after}
 use Rattle.elaborate.proofs.Counts.{condition_count-positive, length-condition_points, length-statement_points}
-use Rattle.elaborate.proofs.Values.{length-value_points}
+use Rattle.elaborate.proofs.ValuePoints.{length-value_points}
 
 -- this is known at the first point, if there is one
 abbrev pub Begins : PointFacts → List LaidPoint → Type 0

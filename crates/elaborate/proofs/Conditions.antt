@@ -45,7 +45,7 @@ use Rattle.elaborate.proofs.Steps.{implies_with_none, leads_known}
 use Rattle.elaborate.proofs.Judged.{Reads, after_same, binary_is, name_reads, both_empty, value_simple, fits_below}
 use Rattle.elaborate.proofs.Operands.{IsReady, known_local, scope_slot, name_ready, operand_ready}
 use Rattle.elaborate.proofs.Operators.{all_one, all_two}
-use Rattle.elaborate.proofs.Locals.{IsSameElsewhere, local_leads, own_implies}
+use Rattle.elaborate.proofs.LocalPoints.{IsSameElsewhere, local_leads, own_implies}
 
 -- what a condition tests for null in which nothing is wrong: a local that is assigned, which isn't null where the condition is true
 pub record Tests (names : Names) (m : FlowModel) (word : ℕ) (when_true when_false : FlowModel) : Type 0 where

@@ -14,7 +14,7 @@ use Rattle.judgement.specs.Judgement.{type_of, evaluate, run}
 use Rattle.core_ir.specs.declared.points.SlotId.{SlotId}
 use Rattle.elaborate.specs.Frame.{Frame}
 use Rattle.elaborate.specs.Layout.{LaidPoint, slot_named, value_count, tested_word, condition_count, condition_points, initial_count, count, count_all, count_part, entry, declaration_points, statement_points, statements_points, part_points}
-use Rattle.elaborate.proofs.Values.{length-value_points}
+use Rattle.elaborate.proofs.ValuePoints.{length-value_points}
 
 -- the test has one point, and what stands where there is none has its own
 length_tested : (word : Option ℕ) (test : ℕ → List LaidPoint) (others : List LaidPoint) (n : ℕ) → ((w : ℕ) → length (test w) ≡ 1) → length others ≡ n → length (option_map_or test word others) ≡ cond (is_some word) 1 n

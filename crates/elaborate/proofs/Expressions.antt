@@ -42,8 +42,8 @@ use Rattle.elaborate.proofs.Points.{safe_one, goes_to_point}
 use Rattle.elaborate.proofs.Judged.{after_same, both_empty, value_simple, fits_below}
 use Rattle.elaborate.proofs.Operands.{known_local, scope_slot, operand_ready}
 use Rattle.elaborate.proofs.Operators.{all_one}
-use Rattle.elaborate.proofs.Values.{points_sound, then_sound}
-use Rattle.elaborate.proofs.Locals.{IsSameElsewhere}
+use Rattle.elaborate.proofs.ValuePoints.{points_sound, then_sound}
+use Rattle.elaborate.proofs.LocalPoints.{IsSameElsewhere}
 use Rattle.elaborate.proofs.Writes.{Writes, assign_writes, declare_is, initialize_is, initializer_fits, written_simple, store_safe, initialize_safe, declare_safe}
 use Rattle.elaborate.proofs.Conditions.{condition_tests, branch_safe, test_safe}
 

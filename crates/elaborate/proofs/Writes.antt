@@ -39,7 +39,7 @@ use Rattle.elaborate.proofs.TypeLaws.{sub_itself, is_simple}
 use Rattle.elaborate.proofs.Purposes.{IsAt, known_at, declared_at_slot, slot_in}
 use Rattle.elaborate.proofs.Operands.{IsReady, known_local}
 use Rattle.elaborate.proofs.Operators.{all_one}
-use Rattle.elaborate.proofs.Locals.{IsSameElsewhere, local_leads, own_implies}
+use Rattle.elaborate.proofs.LocalPoints.{IsSameElsewhere, local_leads, own_implies}
 
 -- where a write finds nothing wrong, the type fits
 fits_where_clean : (at : Place) (fitting : Bool) → (if fitting then [] else fault_at at InvalidAssignment) ≡ [] → IsTrue fitting

@@ -1,6 +1,6 @@
 -- Where expressions, written types, blocks and statements stand.
 use Rattle.std.specs.Prelude.{Bool, true, false, ◌&&◌}
-use Rattle.dart_tree.specs.Tree.{Tree, Trees, Part, no_more, more, absent, present, name, integer, boolean, null_literal, binary, int_type, bool_type, declare, assign, eval, print, if_statement, while_statement, block}
+use Rattle.dart_tree.specs.Tree.{Tree, Trees, Part, no_more, more, absent, present, name, integer, boolean, null_literal, binary, int_type, bool_type, declare, assign, eval, print, if_statement, while_statement, block, function, unit}
 
 -- whether a tree is an expression, whose operands are expressions
 abbrev pub is_expression : Tree → Bool
@@ -48,3 +48,10 @@ abbrev mutual
   pub is_block_part : Part → Bool
   is_block_part absent = true
   is_block_part (present tree) = is_block tree && is_statement tree
+
+-- whether a tree is a whole program: a unit, a function or a block of statements
+abbrev pub is_program : Tree → Bool
+is_program (unit at main) = is_program main
+is_program (function at body) = is_program body
+is_program (block at statements) = are_statements statements
+is_program _ = false

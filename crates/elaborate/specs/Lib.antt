@@ -4,4 +4,6 @@ pub mod Known
 pub mod Layout
 pub mod Elaborated
 pub mod Forms
-pub mod Built
+pub mod Laid
+pub mod Codes
+pub mod Walk

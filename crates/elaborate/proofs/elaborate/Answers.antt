@@ -1,0 +1,32 @@
+use Rattle.std.proofs.Common.{◌≡◌, ◌≤◌, Some, length, sym, ◌∙◌, arith}
+use Rattle.check_library.specs.Grammar.{tree_of}
+use Rattle.elaborate.proofs.Accepted.{program_accepted, program_well_formed}
+use Rattle.elaborate.proofs.Faultless.{tree_distinct, tree_faultless}
+use Rattle.elaborate.proofs.Texts.{tokens-few}
+use Rattle.elaborate.proofs.elaborate.Goals as goal
+
+-- a text has fewer nodes than there are numbers
+pub elaborate_unit-requires-clause-small : goal.elaborate_unit-requires-clause-small
+elaborate_unit-requires-clause-small c =
+    let nodes = c.requires.check.few c.in-Some.unit c.in-Some.is in
+    let short = c.requires.check.short in
+    omega (arith, nodes, short, tokens-few c.requires.text)
+
+-- the program of a text in which nothing is wrong names what it has
+pub returns-clause-well_formed : goal.returns-clause-well_formed
+returns-clause-well_formed c =
+    let tree = c.in-Some.unit in
+    let found = c.in_ok-program-in-Some.ensures in
+    let is : tree_of c.requires.text ≡ Some tree = sym c.requires.check.unit ∙ c.in-Some.is in
+    let nodes = c.requires.check.few tree c.in-Some.is in
+    let short = c.requires.check.short in
+    program_well_formed tree c.in_ok-program-in-Some.program found.form (tree_distinct c.requires.text tree is) (tree_faultless c.requires.text tree c.requires.none is) found.program found.built
+    (omega (arith, nodes, short, tokens-few c.requires.text))
+
+-- and is accepted
+pub returns-clause-accepted : goal.returns-clause-accepted
+returns-clause-accepted c =
+    let tree = c.in-Some.unit in
+    let found = c.in_ok-program-in-Some.ensures in
+    let is : tree_of c.requires.text ≡ Some tree = sym c.requires.check.unit ∙ c.in-Some.is in
+    program_accepted tree c.in_ok-program-in-Some.program found.form (tree_distinct c.requires.text tree is) (tree_faultless c.requires.text tree c.requires.none is) found.program
