@@ -6,7 +6,7 @@ use Rattle.std.specs.declared.cmp.Ordering.{Ordering}
 use Rattle.std.specs.Str.{byte}
 use Rattle.std.specs.Char.{to_ascii_uppercase}
 use Rattle.judgement.specs.declared.DiagnosticCode.{DiagnosticCode}
-use Rattle.judgement.specs.declared.DiagnosticCode.TheVariants.{ArgumentType, ConditionNotBool, DuplicateDefinition, IntegerLiteralOutOfRange, InvalidAssignment, ReferencedBeforeDeclaration, SyntaxError, UnassignedRead, UncheckedNullableUse, UndefinedName, UndefinedOperator}
+use Rattle.judgement.specs.declared.DiagnosticCode.TheVariants.{ArgumentType, ConditionNotBool, DuplicateDefinition, FileNotUtf8, IntegerLiteralOutOfRange, InvalidAssignment, ProfileFileLength, ReferencedBeforeDeclaration, SyntaxError, UnassignedRead, UncheckedNullableUse, UndefinedName, UndefinedOperator}
 use Rattle.proto_json.specs.declared.reply.ErrorKind.{ErrorKind}
 use Rattle.proto_json.specs.declared.reply.ErrorKind.TheVariants.{SyntacticError, CompileTimeError}
 
@@ -15,8 +15,10 @@ abbrev pub name_of : DiagnosticCode → List ℕ
 name_of ArgumentType = codes "argument_type"
 name_of ConditionNotBool = codes "condition_not_bool"
 name_of DuplicateDefinition = codes "duplicate_definition"
+name_of FileNotUtf8 = codes "file_not_utf8"
 name_of IntegerLiteralOutOfRange = codes "integer_literal_out_of_range"
 name_of InvalidAssignment = codes "invalid_assignment"
+name_of ProfileFileLength = codes "profile_file_length"
 name_of ReferencedBeforeDeclaration = codes "referenced_before_declaration"
 name_of SyntaxError = codes "syntax_error"
 name_of UnassignedRead = codes "unassigned_read"

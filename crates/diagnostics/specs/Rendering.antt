@@ -1,5 +1,6 @@
 -- The rows of faults.
-use Rattle.std.specs.Prelude.{ℕ, ◌-◌, List, map}
+use Rattle.std.specs.Prelude.{ℕ, ◌-◌, List, [], ◌∷◌, ◌++◌, map, codes, decimal}
+use Rattle.std.specs.List.{flat_map}
 use Rattle.judgement.specs.declared.Fault.{Fault}
 use Rattle.proto_json.specs.declared.reply.ErrorRow.{ErrorRow}
 use Rattle.proto_json.specs.declared.reply.Severity.TheVariants.{Error}
@@ -30,3 +31,12 @@ row_of file text fault = row_at file (position_of fault.span.start text) fault
 -- the rows of the faults of a file's text, one for each, in their order
 abbrev pub rows_of : (file text : List ℕ) → List Fault → List ErrorRow
 rows_of file text faults = map (row_of file text) faults
+
+-- the line that a row is printed as: the path, the line, the column, the code and the sentence
+abbrev pub line_of_row : ErrorRow → List ℕ
+line_of_row row =
+    row.location.file ++ codes ":" ++ decimal row.location.start_line ++ codes ":" ++ decimal row.location.start_column ++ codes ": " ++ row.code ++ codes ": " ++ row.message ++ 10 ∷ []
+
+-- the lines of rows, in their order
+abbrev pub lines_of_rows : List ErrorRow → List ℕ
+lines_of_rows rows = flat_map line_of_row rows

@@ -3,7 +3,7 @@
 ghost use Rattle.std.specs.Prelude.{◌≤◌, length};
 ghost use Rattle.proto_json.specs.SourceTexts.{max_text};
 
-use crate::{code_name, error_kind, message, render};
+use crate::{code_name, error_kind, line_of, lines_of, message, render};
 use dart_tree::Span;
 use judgement::{DiagnosticCode, Fault};
 use proto_json::{ErrorKind, MAX_TEXT, Severity};
@@ -109,6 +109,11 @@ fn each_code_has_its_words(rt: HostRuntime) {
             "Duplicate definition.",
         ),
         (
+            DiagnosticCode::FileNotUtf8,
+            "file_not_utf8",
+            "File not utf8.",
+        ),
+        (
             DiagnosticCode::IntegerLiteralOutOfRange,
             "integer_literal_out_of_range",
             "Integer literal out of range.",
@@ -117,6 +122,11 @@ fn each_code_has_its_words(rt: HostRuntime) {
             DiagnosticCode::InvalidAssignment,
             "invalid_assignment",
             "Invalid assignment.",
+        ),
+        (
+            DiagnosticCode::ProfileFileLength,
+            "profile_file_length",
+            "Profile file length.",
         ),
         (
             DiagnosticCode::ReferencedBeforeDeclaration,
@@ -157,4 +167,60 @@ fn each_code_has_its_words(rt: HostRuntime) {
         error_kind(DiagnosticCode::UndefinedName),
         ErrorKind::CompileTimeError
     );
+    assert_eq!(rt;
+        error_kind(DiagnosticCode::FileNotUtf8),
+        ErrorKind::CompileTimeError
+    );
+    assert_eq!(rt;
+        error_kind(DiagnosticCode::ProfileFileLength),
+        ErrorKind::CompileTimeError
+    );
+}
+
+#[test]
+fn a_row_is_a_line(rt: HostRuntime) -> Result<(), Fail> {
+    let alloc = rt.alloc();
+    let text = "void main(){int x; print(x);}\n y;";
+    assert!(rt; text.len() <= MAX_TEXT);
+    let faults = [
+        fault(25, 26, DiagnosticCode::UnassignedRead),
+        fault(31, 32, DiagnosticCode::UndefinedName),
+    ];
+    let rows = render(alloc, "/a.dart", text, &faults)?;
+    let want = [
+        "/a.dart:1:26: unassigned_read: Unassigned read.\n",
+        "/a.dart:2:2: undefined_name: Undefined name.\n",
+    ];
+    for (row, line) in rows.as_slice().iter().zip(want) {
+        let found = line_of(alloc, row)?;
+        assert_eq!(rt; found.as_slice(), line.as_bytes());
+    }
+    let lines = lines_of(alloc, rows.as_slice())?;
+    let mut whole = Vec::new(alloc);
+    for line in want {
+        whole.extend_from_slice(line.as_bytes())?;
+    }
+    assert_eq!(rt; lines.as_slice(), whole.as_slice());
+    Ok(())
+}
+
+#[test]
+fn a_file_without_text_has_a_row(rt: HostRuntime) -> Result<(), Fail> {
+    let alloc = rt.alloc();
+    let cases = [
+        (
+            DiagnosticCode::FileNotUtf8,
+            "/a.dart:1:1: file_not_utf8: File not utf8.\n",
+        ),
+        (
+            DiagnosticCode::ProfileFileLength,
+            "/a.dart:1:1: profile_file_length: Profile file length.\n",
+        ),
+    ];
+    for (code, line) in cases {
+        let rows = render(alloc, "/a.dart", "", &[fault(0, 0, code)])?;
+        let lines = lines_of(alloc, rows.as_slice())?;
+        assert_eq!(rt; lines.as_slice(), line.as_bytes());
+    }
+    Ok(())
 }
