@@ -1,3 +1,6 @@
 pub mod Codes
 pub mod Said
+pub mod Words
+pub mod Lent
+pub mod Run
 pub mod Output

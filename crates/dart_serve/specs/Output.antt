@@ -1,5 +1,5 @@
 -- The whole output of the program.
-use Rattle.std.specs.Prelude.{◌≡◌, ℕ, ◌<◌, Bool, true, false, List, [], ◌∷◌, ◌++◌, codes, bytes_eq, length, take, Option}
+use Rattle.std.specs.Prelude.{◌≡◌, ℕ, ◌<◌, false, List, [], ◌∷◌, ◌++◌, codes, length, take, Option}
 use Rattle.std.specs.Option.{ForSome}
 use Rattle.fault_io.specs.Bytes.{and_then}
 use Rattle.fault_io.specs.Stored.{Stored}
@@ -8,14 +8,10 @@ use Rattle.proto_json.specs.Requests.{max_line}
 use Rattle.serve_loop.specs.declared.end.ServeEnd.{ServeEnd}
 use Rattle.serve_loop.specs.declared.end.ServeEnd.TheVariants as End
 use Rattle.protocol_rules.specs.Turns.{at_start, reply_to, state_after}
+use Rattle.dart_serve.specs.Words.{Command, Serve, Run, Refused as NoCommand, command_of}
+use Rattle.dart_serve.specs.Run.{RunOutput}
 use Rattle.dart_serve.specs.declared.status.Status.{Status}
 use Rattle.dart_serve.specs.declared.status.Status.TheVariants.{Done, Errors, Refused, Threw, Memory, StepsSpent, ReadFault, WriteFault, FilesFault, InputSpent}
-
--- the one command: the single word `serve`
-abbrev pub is_serve : List (List ℕ) → Bool
-is_serve [] = false
-is_serve (word ∷ []) = bytes_eq word (codes "serve")
-is_serve (word ∷ (more ∷ words)) = false
 
 -- what is written where the words are no command
 abbrev pub usage_line : List ℕ
@@ -57,19 +53,27 @@ RefusedOutput ReadFault old new = ⊥
 RefusedOutput FilesFault old new = ⊥
 RefusedOutput InputSpent old new = ⊥
 
--- The statuses that the program may have: under `serve` those of its ends, for other words that of the refusal, or of a sink that didn't take the usage line.
-abbrev pub MayEnd : (serving : Bool) → Status → Type 0
-MayEnd true Done = Unit {0}
-MayEnd true Memory = Unit {0}
-MayEnd true ReadFault = Unit {0}
-MayEnd true WriteFault = Unit {0}
-MayEnd true InputSpent = Unit {0}
-MayEnd false Refused = Unit {0}
-MayEnd false Memory = Unit {0}
-MayEnd false WriteFault = Unit {0}
+-- The statuses that the program may have: under `serve` those of its ends, under `run` those of a run, for other words that of the refusal, or of a sink that didn't take the usage line.
+abbrev pub MayEnd : Command → Status → Type 0
+MayEnd Serve Done = Unit {0}
+MayEnd Serve Memory = Unit {0}
+MayEnd Serve ReadFault = Unit {0}
+MayEnd Serve WriteFault = Unit {0}
+MayEnd Serve InputSpent = Unit {0}
+MayEnd (Run file steps) Done = Unit {0}
+MayEnd (Run file steps) Errors = Unit {0}
+MayEnd (Run file steps) Refused = Unit {0}
+MayEnd (Run file steps) Memory = Unit {0}
+MayEnd (Run file steps) StepsSpent = Unit {0}
+MayEnd (Run file steps) WriteFault = Unit {0}
+MayEnd (Run file steps) FilesFault = Unit {0}
+MayEnd NoCommand Refused = Unit {0}
+MayEnd NoCommand Memory = Unit {0}
+MayEnd NoCommand WriteFault = Unit {0}
 MayEnd _ _ = ⊥
 
 -- What the program writes, and its status: one field for each command.
 pub record Output (words : List (List ℕ)) (told : Option Stored) (from : Option (List ℕ)) (old new left : Option (List ℕ)) (faults faults' : ℕ) (status : Status) : Type 0 where
-  pub serves : is_serve words ≡ true → ForSome from (λ input. ServeOutput told input old new left faults faults' status)
-  pub refuses : is_serve words ≡ false → RefusedOutput status old new
+  pub serves : command_of words ≡ Serve → ForSome from (λ input. ServeOutput told input old new left faults faults' status)
+  pub runs : (file : List ℕ) (steps : ℕ) → command_of words ≡ Run file steps → RunOutput file steps told old new status
+  pub refuses : command_of words ≡ NoCommand → RefusedOutput status old new

@@ -7,8 +7,10 @@
 #![tactic(auto)]
 
 mod program;
+mod run;
 mod session;
 mod status;
+mod words;
 
 use crate::program::dart_main;
 use crate::status::Status;
@@ -38,7 +40,7 @@ fn words_of(rt: &HostRuntime) -> Result<Vec<PlainText>, AllocError> {
 }
 
 /// The program over the standard streams and the file system.
-fn run(rt: &HostRuntime) -> Result<Status, AllocError> {
+fn run_on_host(rt: &HostRuntime) -> Result<Status, AllocError> {
     let words = words_of(rt)?;
     let mut source = StdSource::new(rt.reader());
     let mut sink = StdSink::new(writer(rt));
@@ -47,6 +49,6 @@ fn run(rt: &HostRuntime) -> Result<Status, AllocError> {
 }
 
 fn main(rt: HostRuntime) -> ExitCode {
-    let status = run(&rt).unwrap_or(Status::Memory);
+    let status = run_on_host(&rt).unwrap_or(Status::Memory);
     ExitCode::from(status.code())
 }

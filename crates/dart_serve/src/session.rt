@@ -49,7 +49,7 @@ fn update(
 }
 
 /// The name ends in `.dart`.
-fn is_dart(file: &str) -> bool
+pub fn is_dart(file: &str) -> bool
     ensures { result ≡ ends_with nat_eq file.now (codes ".dart") }
 {
     file.ends_with(".dart")
