@@ -1,6 +1,7 @@
 -- The commands.
 use Rattle.std.specs.Prelude.{ℕ, Bool, not, ◌&&◌, ◌==◌, List, [], ◌∷◌, Option, Some, None, if◌then◌else◌, codes, bytes_eq, length, nat_le}
-use Rattle.std.specs.Str.{all_ascii_digits}
+use Rattle.std.specs.Char.{is_ascii_digit}
+use Rattle.std.specs.List.{list_all}
 use Rattle.std.specs.Str.Parse.{digits_value}
 use Rattle.fault_io.specs.Paths.{is_path}
 
@@ -19,7 +20,7 @@ default_steps = 10000000
 
 -- a number of steps is written in 1 to 15 decimal digits
 abbrev pub is_number : List ℕ → Bool
-is_number word = not (length word == 0) && nat_le (length word) 15 && all_ascii_digits word
+is_number word = not (length word == 0) && nat_le (length word) 15 && list_all is_ascii_digit word
 
 -- the number that a word is, if it is one
 abbrev pub number_of : List ℕ → Option ℕ

@@ -1,6 +1,8 @@
 //! The words of the command line.
 
 ghost use Rattle.std.specs.Prelude.{◌≡◌};
+ghost use Rattle.std.specs.Char.{is_ascii_digit};
+ghost use Rattle.std.specs.List.{list_all};
 ghost use Rattle.dart_serve.specs.Words.{is_number, number_of, run_command, command_of};
 ghost use Rattle.dart_serve.specs.Lent.{command_view};
 
@@ -29,11 +31,18 @@ pub enum Command<'w> {
     Refused,
 }
 
+/// Whether all of these bytes are decimal digits.
+fn are_digits(word: &[u8]) -> bool
+    ensures { result ≡ list_all is_ascii_digit word.now }
+{
+    word.iter().all(|byte| byte.is_ascii_digit())
+}
+
 /// Whether a word is a number of steps: 1 to 15 decimal digits.
 fn is_number(word: &str) -> bool
     ensures { result ≡ is_number word.now }
 {
-    !word.is_empty() && word.len() <= MOST_DIGITS && word.bytes().all(|byte| byte.is_ascii_digit())
+    !word.is_empty() && word.len() <= MOST_DIGITS && are_digits(word.as_bytes())
 }
 
 /// The number of steps that a word is, if it is one.
