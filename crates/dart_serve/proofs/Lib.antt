@@ -1,3 +1,5 @@
 pub mod AnsweredLemmas
 pub mod WritesLemmas
 pub mod RunLemmas
+pub mod ProgramLemmas
+pub mod EndLemmas

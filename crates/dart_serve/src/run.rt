@@ -10,6 +10,8 @@ ghost use Rattle.diagnostics.specs.Rendering.{rows_of, lines_of_rows};
 ghost use Rattle.elaborate.specs.Elaborated.{IsElaborationOf};
 ghost use Rattle.core_machine.specs.Steps.{Kind};
 ghost use Rattle.core_machine.specs.State.{Wrong, run_of, step_of, told};
+ghost use Rattle.dart_serve.specs.Words.{Run};
+ghost use Rattle.dart_serve.specs.Output.{MayEnd};
 ghost use Rattle.dart_serve.specs.Run.{file_limit, no_library_line, rows_of_file, Prints, RowsGive, Writes, Counts, status_after, no_text, RunOutput};
 
 use crate::session::is_dart;
@@ -219,6 +221,7 @@ pub fn run<K: Sink, F: Files>(
     steps: u64,
 ) -> Status
     ensures output { RunOutput file.now steps (F.told files.old) (K.written sink.old) (K.written sink.new) result }
+    ensures statuses { MayEnd (Run file.now steps) result }
     ensures write_fault { result ≡ Status.WriteFault → Rose (K.faults sink.old) (K.faults sink.new) }
     ensures no_write_fault { result ≢ Status.WriteFault → K.faults sink.new ≡ K.faults sink.old }
     ensures files_fault { result ≡ Status.FilesFault → Rose (F.faults files.old) (F.faults files.new) }

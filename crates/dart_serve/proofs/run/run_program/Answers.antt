@@ -1,11 +1,9 @@
-use Rattle.std.proofs.Common.{◌≡◌, ◌∙◌, ℕ, ◌+◌, ◌≤◌, ◌<◌, List, ◌++◌, sym, ap, subst, arith, rules}
+use Rattle.std.proofs.Common.{◌≡◌, ◌∙◌, ℕ, ◌+◌, sym, ap, subst, arith}
 use Rattle.core_ir.specs.Program.{Program}
 use Rattle.core_machine.specs.State.{State, Went, Done as Ended, step_of, told}
 use Rattle.core_machine.specs.declared.machine.Turn.{Turn}
-use Rattle.dart_serve.specs.declared.status.Status.TheVariants.{Done, StepsSpent}
-use Rattle.dart_serve.specs.Run.{Writes, steps_spent_line}
-use Rattle.dart_serve.proofs.WritesLemmas.{Says, is_memory}
-use Rattle.dart_serve.proofs.RunLemmas.{Adds, Stays, IsSound, Stands, stands_further, stands_written, wanting_memory, refused_piece, over, spent}
+use Rattle.dart_serve.proofs.WritesLemmas.{is_memory}
+use Rattle.dart_serve.proofs.RunLemmas.{Adds, Stays, Stands, stands_further, stands_written, wanting_memory, refused_piece, over, spent}
 use Rattle.dart_serve.proofs.run.run_program.Goals as goal
 
 pub returns-in_err-step_into-clause-writes : goal.returns-in_err-step_into-clause-writes

@@ -1,4 +1,4 @@
-use Rattle.std.proofs.Common.{◌≡◌, ◌≤◌}
+use Rattle.std.proofs.Common.{◌≡◌}
 use Rattle.dart_serve.proofs.RunLemmas.{Stands}
 use Rattle.dart_serve.proofs.run.run_program.Given as goal
 

@@ -1,0 +1,104 @@
+-- Texts in which nothing is wrong, and their programs.
+use Rattle.std.proofs.Common.{◌≡◌, ◌≢◌, ℕ, suc, ◌==◌, ◌<◌, ◌≤◌, Bool, true, false, cond, nat_le, List, [], ◌∷◌, length, map, Option, None, Some, Result, IfSome, refl, sym, ap, subst, ◌∙◌, arith}
+use Rattle.std.specs.Option.{option_map_or}
+use Rattle.std.specs.Str.{is_utf8}
+use Rattle.std.specs.BTreeSet.{insert_key}
+use Rattle.std.specs.Ordering.{match_ordering}
+use Rattle.std.specs.declared.cmp.Ordering.{Ordering}
+use Rattle.std.specs.declared.cmp.Ordering.TheVariants.{Less, Equal, Greater}
+use Rattle.dart_tree.specs.Tree.{Tree}
+use Rattle.judgement.specs.declared.Fault.{Fault}
+use Rattle.check_library.specs.Grammar.{tree_of}
+use Rattle.check_library.specs.Order.{fault_cmp, sorted_faults}
+use Rattle.check_library.specs.Diagnostics.{no_unit, faults_in, diagnostics}
+use Rattle.check_library.specs.Checked.{IsCheckOf, IsFaultless}
+use Rattle.check_library.specs.declared.library.Checked.{Checked}
+use Rattle.core_ir.specs.Program.{Program}
+use Rattle.core_machine.specs.State.{run_of}
+use Rattle.elaborate.specs.Elaborated.{IsElaborationOf}
+use Rattle.diagnostics.specs.Rendering.{rows_of, lines_of_rows}
+use Rattle.judgement.specs.declared.DiagnosticCode.TheVariants.{FileNotUtf8, ProfileFileLength}
+use Rattle.std.specs.Str.{IsUtf8}
+use Rattle.std.proofs.lemmas.Str.{IsUtf8-from_is_utf8, is_utf8-from_IsUtf8}
+use Rattle.std.proofs.Math.Dec.{eqb-suc-zero}
+use Rattle.std.proofs.lemmas.Bool.{true≢false}
+use Rattle.std.proofs.lemmas.Bool.Decides.{nat_tests}
+use Rattle.dart_serve.specs.declared.status.Status.{Status}
+use Rattle.dart_serve.specs.declared.status.Status.TheVariants.{Errors}
+use Rattle.dart_serve.specs.Run.{file_limit, no_text, rows_of_file, Prints, ProgramGives, RowsGive}
+use Rattle.dart_serve.proofs.WritesLemmas.{Says}
+use Rattle.dart_serve.proofs.RunLemmas.{IsSound}
+
+-- a key is put among keys, so there is one
+some_key : {K : Type 0} (order : Ordering) (k x : K) (xs more : List K) → match_ordering order (k ∷ x ∷ xs) (x ∷ xs) (x ∷ more) ≢ []
+some_key Less k x xs more none = cc
+some_key Equal k x xs more none = cc
+some_key Greater k x xs more none = cc
+
+some_inserted : (fault : Fault) (faults : List Fault) → insert_key fault_cmp faults fault ≢ []
+some_inserted fault [] none = cc
+some_inserted fault (x ∷ xs) none = some_key (fault_cmp fault x) fault x xs (insert_key fault_cmp xs fault) none
+
+-- where nothing is reported, nothing is wrong
+none_reported : (faults : List Fault) → sorted_faults faults ≡ [] → faults ≡ []
+none_reported [] none = refl
+none_reported (fault ∷ faults) none = absurd (some_inserted fault (sorted_faults faults) none)
+
+no_faults : (text : List ℕ) → diagnostics text ≡ [] → faults_in text ≡ []
+unfolding diagnostics
+no_faults text none = none_reported (faults_in text) none
+
+-- a list of no length, and one of some
+pub none_of_length : (faults : List Fault) → (length faults == 0) ≡ true → faults ≡ []
+none_of_length [] none = refl
+none_of_length (fault ∷ faults) none = let some : (suc (length faults) == 0) ≡ false = eqb-suc-zero (length faults) in absurd (true≢false (sym none ∙ some))
+
+pub some_of_length : (faults : List Fault) → (length faults == 0) ≡ false → faults ≢ []
+some_of_length [] some none = absurd (true≢false some)
+some_of_length (fault ∷ faults) some none = cc
+
+-- a check without diagnostics is of a text in which nothing is wrong
+pub faultless : (text : List ℕ) (checked : Checked) → IsCheckOf text checked → checked.diagnostics ≡ [] → IsFaultless checked
+faultless text checked check none = record { text = text; check = check; none = no_faults text (sym check.diagnostics ∙ none) }
+
+-- the program of a tree that a text without faults has
+given_by_tree : (faults : Tree → List Fault) (text : List ℕ) (steps : ℕ) (tree : Option Tree) (p : Program) → tree_of text ≡ tree → option_map_or faults tree (no_unit text) ≡ [] → IfSome tree (λ t. IsElaborationOf t p) → IsSound p → (output : List ℕ) (status : Status) → Prints (run_of p steps) output status → ProgramGives text steps output status
+given_by_tree faults text steps None p is none elaborated sound output status prints = cc
+given_by_tree faults text steps (Some tree) p is none elaborated sound output status prints = record { tree = tree; tree_is = is; program = p; program_is = elaborated; prints = prints; sound = sound }
+
+-- what the program of a text without diagnostics prints is the output of the text
+pub given_by_program : (file text : List ℕ) (steps : ℕ) (checked : Checked) (p : Program) → IsCheckOf text checked → checked.diagnostics ≡ [] → IfSome checked.unit (λ t. IsElaborationOf t p) → IsSound p → (output : List ℕ) (status : Status) → Prints (run_of p steps) output status → RowsGive text steps (rows_of file text (diagnostics text)) output status
+given_by_program file text steps checked p check none elaborated sound output status prints =
+    let silent : diagnostics text ≡ [] = sym check.diagnostics ∙ none in
+    let elaborated_tree : IfSome (tree_of text) (λ t. IsElaborationOf t p) = subst (λ (tree : Option Tree). IfSome tree (λ t. IsElaborationOf t p)) check.unit elaborated in
+    let given : ProgramGives text steps output status = given_by_tree _ text steps (tree_of text) p refl (no_faults text silent) elaborated_tree sound output status prints in
+    subst (λ (faults : List Fault). RowsGive text steps (rows_of file text faults) output status) (sym silent) given
+
+-- the lines of rows are the output, where there are rows
+pub given_by_rows : (file bytes text : List ℕ) (steps : ℕ) (faults : List Fault) → faults ≢ [] → (output : List ℕ) (status : Status) → Says (lines_of_rows (rows_of file text faults)) Errors output status → RowsGive bytes steps (rows_of file text faults) output status
+given_by_rows file bytes text steps [] some output status says = absurd (some refl)
+given_by_rows file bytes text steps (fault ∷ faults) some output status says = says
+
+false_of : (b : Bool) → b ≢ true → b ≡ false
+false_of true wrong = absurd (wrong refl)
+false_of false wrong = refl
+
+-- the rows of a file that isn't UTF-8
+pub rows_of_no_text : (file bytes : List ℕ) → (IsUtf8 bytes → ⊥) → rows_of_file file bytes ≡ rows_of file [] (no_text FileNotUtf8 ∷ [])
+rows_of_no_text file bytes not_text =
+    let is : is_utf8 bytes ≡ false = false_of (is_utf8 bytes) (λ is. not_text (IsUtf8-from_is_utf8 bytes is)) in
+    rw is refl
+
+-- the rows of a text that is too long
+pub rows_of_long_text : (file bytes : List ℕ) → IsUtf8 bytes → file_limit < length bytes → rows_of_file file bytes ≡ rows_of file [] (no_text ProfileFileLength ∷ [])
+rows_of_long_text file bytes text long =
+    let is : is_utf8 bytes ≡ true = is_utf8-from_IsUtf8 bytes text in
+    let past : nat_le (length bytes) file_limit ≡ false = grind (arith, nat_tests, long) in
+    rw (is, past) refl
+
+-- the rows of a text that isn't
+pub rows_of_short_text : (file bytes : List ℕ) → IsUtf8 bytes → length bytes ≤ file_limit → rows_of_file file bytes ≡ rows_of file bytes (diagnostics bytes)
+rows_of_short_text file bytes text short =
+    let is : is_utf8 bytes ≡ true = is_utf8-from_IsUtf8 bytes text in
+    let within : nat_le (length bytes) file_limit ≡ true = grind (arith, nat_tests, short) in
+    rw (is, within) refl
