@@ -1,17 +1,14 @@
 -- The ends of a run.
-use Rattle.std.proofs.Common.{◌≡◌, ◌≢◌, ℕ, Bool, true, false, cond, List, [], ◌∷◌, Option, None, Some, Result, Ok, Err, refl, sym, ap, subst, ◌∙◌}
+use Rattle.std.proofs.Common.{◌≡◌, ℕ, Bool, true, false, cond, List, [], ◌∷◌, Option, None, Some, Result, Ok, Err, refl, sym, ap, subst, ◌∙◌}
 use Rattle.std.specs.Option.{ForSome}
-use Rattle.fault_io.specs.Faults.{Rose}
 use Rattle.fault_io.specs.Stored.{Stored, bytes_at}
 use Rattle.fault_io.specs.declared.traits.WriteRefusal.{WriteRefusal}
 use Rattle.fault_io.specs.declared.traits.WriteRefusal.TheVariants as Cut
 use Rattle.proto_json.specs.declared.reply.ErrorRow.{ErrorRow}
 use Rattle.core_machine.specs.State.{Outcome, Went, Done as Ended, Wrong, run_of}
-use Rattle.dart_serve.specs.Words.{Run}
 use Rattle.dart_serve.specs.declared.status.Status.{Status}
 use Rattle.dart_serve.specs.declared.status.Status.TheVariants.{Done, Errors, Refused, Threw, Memory, StepsSpent, ReadFault, WriteFault, FilesFault, InputSpent}
-use Rattle.dart_serve.specs.Run.{is_library, library_of, rows_of_file, Prints, RowsGive, RunGives, Writes, Counts, status_after, IsEnd, RunOutput}
-use Rattle.dart_serve.specs.Output.{MayEnd}
+use Rattle.dart_serve.specs.Run.{is_library, library_of, rows_of_file, Prints, RowsGive, RunGives, Writes, status_after, RunOutput}
 
 -- the statuses of whole outputs
 abbrev IsWholeStatus : Status → Type 0
@@ -94,27 +91,3 @@ store_failed file steps told old library = record {
   fails = λ _. (library, refl);
   ends = λ other. absurd (other refl);
 }
-
--- the sink's count of faults, by the status
-pub counted : (file : List ℕ) (steps : ℕ) (bytes : Option (List ℕ)) (old new : Option (List ℕ)) (r : Result Status WriteRefusal) (status : Status) (faults faults' : ℕ) → Writes (RunGives file steps bytes) old new r → Counts r faults faults' → status ≡ status_after r → (status ≡ WriteFault → Rose faults faults') × (status ≢ WriteFault → faults' ≡ faults)
-counted file steps bytes old new (Ok s) status faults faults' writes counts is =
-    let whole : IsWholeStatus s = status_of_run file steps bytes writes.output s writes.given in
-    (λ fault. absurd (subst IsWholeStatus (sym is ∙ fault) whole), λ _. counts)
-counted file steps bytes old new (Err Cut.Failed) status faults faults' writes counts is = (λ _. counts, λ other. absurd (other is))
-counted file steps bytes old new (Err Cut.Memory) status faults faults' writes counts is = (λ fault. let no : Memory ≡ WriteFault = sym is ∙ fault in cc, λ _. counts)
-
--- a status that a run may have
-may_be : (file : List ℕ) (steps : ℕ) (status : Status) → IsEndStatus status → MayEnd (Run file steps) status
-may_be file steps Done end = tt
-may_be file steps Errors end = tt
-may_be file steps Refused end = tt
-may_be file steps StepsSpent end = tt
-may_be file steps Threw end = absurd end
-may_be file steps Memory end = tt
-may_be file steps ReadFault end = absurd end
-may_be file steps WriteFault end = tt
-may_be file steps FilesFault end = absurd end
-may_be file steps InputSpent end = absurd end
-
-pub may_end : (file : List ℕ) (steps : ℕ) (bytes : Option (List ℕ)) (old new : Option (List ℕ)) (r : Result Status WriteRefusal) (status : Status) → Writes (RunGives file steps bytes) old new r → status ≡ status_after r → MayEnd (Run file steps) status
-may_end file steps bytes old new r status writes is = subst (MayEnd (Run file steps)) (sym is) (may_be file steps (status_after r) (end_status file steps bytes old new r writes))

@@ -1,5 +1,5 @@
 -- Where a run stands, and what it prints from there.
-use Rattle.std.proofs.Common.{◌≡◌, ◌≢◌, ℕ, zero, suc, ◌+◌, ◌-◌, ◌<◌, ◌≤◌, List, [], ◌++◌, Option, Result, Ok, Err, IsErr, length, take, refl, sym, ap, subst, ◌∙◌, append_assoc, add-zero, add-suc, add-one, arith}
+use Rattle.std.proofs.Common.{◌≡◌, ◌≢◌, ℕ, zero, suc, ◌+◌, ◌-◌, ◌<◌, ◌≤◌, List, [], ◌++◌, Option, Result, Err, IsErr, length, take, refl, sym, ap, subst, ◌∙◌, append_assoc, add-zero, add-suc, add-one, arith}
 use Rattle.std.proofs.lemmas.List.{append-nil}
 use Rattle.fault_io.specs.Bytes.{and_then}
 use Rattle.fault_io.specs.BytesLaws.{and_then-nil, and_then-and_then}

@@ -1,5 +1,5 @@
 -- What is written, put together from parts.
-use Rattle.std.proofs.Common.{◌≡◌, ◌⊎◌, inl, inr, ℕ, ◌+◌, ◌<◌, ◌≤◌, List, [], ◌++◌, Option, Some, None, Result, Ok, Err, IsErr, length, take, refl, sym, ap, subst, ◌∙◌, append_assoc, arith}
+use Rattle.std.proofs.Common.{◌≡◌, inl, inr, ℕ, ◌+◌, ◌<◌, ◌≤◌, List, [], ◌++◌, Option, Result, Ok, Err, IsErr, length, take, refl, sym, ap, subst, ◌∙◌, append_assoc, arith}
 use Rattle.std.proofs.lemmas.List.{length-append, take-append-le}
 use Rattle.std.proofs.Math.Seq.{take-append-add}
 use Rattle.std.specs.Result.{IsErrAnd}
@@ -8,7 +8,7 @@ use Rattle.fault_io.specs.BytesLaws.{and_then-nil, and_then-and_then}
 use Rattle.fault_io.specs.declared.traits.WriteRefusal.{WriteRefusal}
 use Rattle.fault_io.specs.declared.traits.WriteRefusal.TheVariants.{Failed, Memory}
 use Rattle.dart_serve.specs.declared.status.Status.{Status}
-use Rattle.dart_serve.specs.Run.{IsWhole, IsFront, Writes}
+use Rattle.dart_serve.specs.Run.{Writes}
 
 -- the output is this text, and the status this one
 abbrev pub Says : List ℕ → Status → List ℕ → Status → Type 0
@@ -46,14 +46,16 @@ pub cut_kept : (G : List ℕ → Status → Type 0) (old now new : Option (List 
 cut_kept G old now new written kept rest output status (Ok s) refuses given is stands cut = cc
 cut_kept G old now new written kept rest output status (Err Failed) refuses given is stands cut =
     let short : cut.0 ≤ length kept = omega (arith, cut.1) in
-    let long : length output ≡ length written + length kept + length rest = ap length is ∙ length-append (written ++ kept) rest ∙ ap (λ (n : ℕ). n + length rest) (length-append written kept) in
-    (record {
-      output = output;
-      status = status;
-      given = given;
-      size = length written + cut.0;
-      written = behind old now new written (take cut.0 kept) stands cut.2 ∙ ap (and_then old) (front_of_kept written kept rest cut.0 short ∙ ap (take (length written + cut.0)) (sym is));
-    }, omega (arith, cut.1, long))
+    let long : length output ≡ length written + length kept + length rest = ap length is ∙ length-append (written ++ kept) rest ∙ ap (λ (n : ℕ). n + length rest) (length-append written kept) in (
+      record {
+        output = output;
+        status = status;
+        given = given;
+        size = length written + cut.0;
+        written = behind old now new written (take cut.0 kept) stands cut.2 ∙ ap (and_then old) (front_of_kept written kept rest cut.0 short ∙ ap (take (length written + cut.0)) (sym is));
+      },
+      omega (arith, cut.1, long),
+    )
 cut_kept G old now new written kept rest output status (Err Memory) refuses given is stands cut =
     let short : cut.0 ≤ length kept = omega (arith, cut.1) in
     inr (record {
@@ -82,14 +84,16 @@ say_kept G old now new written kept status (Ok s) given stands w = record {
   given = subst (G (written ++ kept)) (sym w.given.1) given;
   written = behind old now new written kept stands (w.written ∙ ap (and_then now) w.given.0);
 }
-say_kept G old now new written kept status (Err Failed) given stands w =
-    (record {
-      output = written ++ kept;
-      status = status;
-      given = given;
-      size = length written + w.0.size;
-      written = behind old now new written (take w.0.size kept) stands (w.0.written ∙ ap (λ (xs : List ℕ). and_then now (take w.0.size xs)) w.0.given.0) ∙ ap (and_then old) (sym (take-append-add written kept w.0.size));
-    }, omega (arith, w.1, ap length w.0.given.0, length-append written kept))
+say_kept G old now new written kept status (Err Failed) given stands w = (
+  record {
+    output = written ++ kept;
+    status = status;
+    given = given;
+    size = length written + w.0.size;
+    written = behind old now new written (take w.0.size kept) stands (w.0.written ∙ ap (λ (xs : List ℕ). and_then now (take w.0.size xs)) w.0.given.0) ∙ ap (and_then old) (sym (take-append-add written kept w.0.size));
+  },
+  omega (arith, w.1, ap length w.0.given.0, length-append written kept),
+)
 say_kept G old now new written kept status (Err Memory) given stands (inl same) =
     inr (record {
       output = written ++ kept;

@@ -18,7 +18,9 @@ use crate::session::is_dart;
 use crate::status::Status;
 use check_library::{Checked, check};
 use core_check::{Accepted, accept, faults_are_clauses_that_fail};
-use core_machine::{Machine, Turn, a_run_that_is_over_stays, never_wrong, steps_add_to_what_was_printed};
+use core_machine::{
+    Machine, Turn, a_run_that_is_over_stays, never_wrong, steps_add_to_what_was_printed,
+};
 use dart_tree::Span;
 use diagnostics::{lines_of, render};
 use elaborate::elaborate;

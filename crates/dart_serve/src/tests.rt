@@ -8,6 +8,7 @@ use std::alloc::Global;
 use std::test::Fail;
 
 mod programs;
+mod runs;
 
 const ADD_CLEAN: &str =
     "{\"id\":\"1\",\"method\":\"analysis.updateContent\",\"params\":{\"files\":{\"/a.dart\":{\"type\":\"add\",\"content\":\"void main() {}\"}}}}\n";

@@ -1,10 +1,8 @@
-use Rattle.std.proofs.Common.{◌≡◌, ◌∙◌, ℕ, ◌≤◌, ◌<◌, List, [], ◌∷◌, length, sym, ap, subst, arith, rules}
-use Rattle.std.specs.Str.{IsUtf8}
+use Rattle.std.proofs.Common.{ℕ, ◌≤◌, ◌<◌, List, length, sym, subst}
 use Rattle.proto_json.specs.declared.reply.ErrorRow.{ErrorRow}
-use Rattle.judgement.specs.declared.DiagnosticCode.TheVariants.{FileNotUtf8, ProfileFileLength}
 use Rattle.check_library.specs.Diagnostics.{diagnostics}
 use Rattle.diagnostics.specs.Rendering.{rows_of}
-use Rattle.dart_serve.specs.Run.{file_limit, no_text, Writes, RowsGive}
+use Rattle.dart_serve.specs.Run.{file_limit, Writes, RowsGive}
 use Rattle.dart_serve.proofs.ProgramLemmas.{rows_of_no_text, rows_of_long_text, rows_of_short_text}
 use Rattle.dart_serve.proofs.run.run_bytes.Goals as goal
 

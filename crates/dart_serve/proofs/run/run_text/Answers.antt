@@ -1,4 +1,4 @@
-use Rattle.std.proofs.Common.{◌≡◌, ◌≢◌, ◌∙◌, ℕ, List, [], length, sym, ap, subst, arith, rules}
+use Rattle.std.proofs.Common.{◌≡◌, ◌≢◌, ◌∙◌, List, [], sym, subst}
 use Rattle.judgement.specs.declared.Fault.{Fault}
 use Rattle.check_library.specs.Diagnostics.{diagnostics}
 use Rattle.diagnostics.specs.Rendering.{rows_of, lines_of_rows}
