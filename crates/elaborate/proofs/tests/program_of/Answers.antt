@@ -1,7 +1,11 @@
-use Rattle.std.proofs.Common.{◌≡◌, Some, sym, ◌∙◌, arith}
-use Rattle.check_library.specs.Grammar.{tree_of}
+use Rattle.std.proofs.Common.{arith}
 use Rattle.elaborate.proofs.Texts.{tokens-few}
 use Rattle.elaborate.proofs.tests.program_of.Goals as goal
 
+-- a text has fewer nodes than there are numbers
 pub elaborate_unit-requires-clause-small : goal.elaborate_unit-requires-clause-small
-elaborate_unit-requires-clause-small c = ?
+elaborate_unit-requires-clause-small c =
+    let checked = c.in_ok-checked.ensures.check in
+    let nodes = checked.few c.in-Some.unit c.in-Some.is in
+    let short = checked.short in
+    omega (arith, nodes, short, tokens-few c.args.text.now)
