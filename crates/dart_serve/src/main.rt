@@ -3,7 +3,8 @@
 //! `dart_main` is the program over any source, sink and store of files; its contract is the theorem
 //! of the program (`specs/Output.antt`). `main` hands it the standard streams, the file system and
 //! the words of the command line, and exits with its status. The crate stands on the loop, the
-//! protocol and the checker, and adds the session between them.
+//! protocol, the checker and the machine, and adds the words (`specs/Words.antt`), the session
+//! between loop and checker, and the run of a file between checker and machine (`specs/Run.antt`).
 #![tactic(auto)]
 
 mod program;
