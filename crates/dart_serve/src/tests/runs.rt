@@ -95,6 +95,14 @@ fn store(rt: &impl Abort, alloc: Global, path: &str, bytes: &[u8]) -> Result<Ste
     Ok(SteadyFiles::new(files))
 }
 
+/// Puts words behind those before.
+fn add_words(alloc: Global, words: &[&str], given: &mut Vec<PlainText>) -> Result<(), Fail> {
+    for word in words {
+        given.push(PlainText::new(alloc, word)?)?;
+    }
+    Ok(())
+}
+
 /// What the program writes, and its status, for words and a store; one write fails.
 fn ran<F: Files>(
     alloc: Global,
@@ -103,12 +111,20 @@ fn ran<F: Files>(
     failing_write: u64,
 ) -> Result<(Status, Vec<u8>), Fail> {
     let mut given = Vec::new(alloc);
-    for word in words {
-        given.push(PlainText::new(alloc, word)?)?;
-    }
+    add_words(alloc, words, &mut given)?;
+    ran_with(alloc, &given, files, failing_write)
+}
+
+/// The same for words as the program is given them.
+fn ran_with<F: Files>(
+    alloc: Global,
+    given: &[PlainText],
+    files: &mut F,
+    failing_write: u64,
+) -> Result<(Status, Vec<u8>), Fail> {
     let mut source = MemorySource::new(Vec::new(alloc), 16, Vec::new(alloc));
     let mut sink = MemorySink::new(alloc, 8, vec![in alloc; failing_write]?);
-    let status = dart_main(alloc, &given, &mut source, &mut sink, files);
+    let status = dart_main(alloc, given, &mut source, &mut sink, files);
     Ok((status, sink.written().to_vec(alloc)?))
 }
 
@@ -121,10 +137,11 @@ fn runs(
     status: Status,
     output: [&str; 2],
 ) -> Result<bool, Fail> {
-    let mut words = Vec::from_slice(alloc, &["run", "/a.dart"])?;
-    words.extend_from_slice(options)?;
+    let mut words = Vec::new(alloc);
+    add_words(alloc, &["run", "/a.dart"], &mut words)?;
+    add_words(alloc, options, &mut words)?;
     let mut files = store(rt, alloc, "/a.dart", bytes)?;
-    let (found, written) = ran(alloc, words.as_slice(), &mut files, NEVER)?;
+    let (found, written) = ran_with(alloc, &words, &mut files, NEVER)?;
     let mut expected = Vec::new(alloc);
     for part in output {
         expected.extend_from_slice(part.as_bytes())?;
