@@ -1,0 +1,4 @@
+pub mod Units
+pub mod Lines
+pub mod Edits
+pub mod Results
