@@ -4,7 +4,7 @@ use Rattle.serde_json.specs.Written.{has_float, items_have_float}
 use Rattle.proto_json.specs.Replies.{rows_data, reply_data}
 use Rattle.proto_json.specs.declared.reply.ErrorRow.{ErrorRow}
 use Rattle.proto_json.specs.declared.reply.ReplyBody.{ReplyBody}
-use Rattle.proto_json.specs.declared.reply.ReplyBody.TheVariants.{Plain, Errors, Error}
+use Rattle.proto_json.specs.declared.reply.ReplyBody.TheVariants.{Plain, Errors, Work, Error}
 
 -- the objects of errors hold none
 pub items_have_float-rows_data : (rows : List ErrorRow) → items_have_float (rows_data rows) ≡ false
@@ -15,4 +15,5 @@ items_have_float-rows_data (r ∷ rows) = items_have_float-rows_data rows
 pub has_float-reply_data : (id : List ℕ) (body : ReplyBody) → has_float (reply_data id body) ≡ false
 has_float-reply_data id Plain = refl
 has_float-reply_data id (Errors rows) = rw (items_have_float-rows_data rows)
+has_float-reply_data id (Work parses links checks) = refl
 has_float-reply_data id (Error code) = refl

@@ -1,5 +1,5 @@
 pub mod Codes
-pub mod SourceTexts
+pub mod Parameters
 pub mod Requests
 pub mod Heads
 pub mod Replies

@@ -9,7 +9,7 @@ use Rattle.proto_json.specs.declared.reply.ErrorKind.TheVariants.{SyntacticError
 use Rattle.proto_json.specs.declared.reply.ErrorRow.{ErrorRow}
 use Rattle.proto_json.specs.declared.reply.Location.{Location}
 use Rattle.proto_json.specs.declared.reply.ReplyBody.{ReplyBody}
-use Rattle.proto_json.specs.declared.reply.ReplyBody.TheVariants.{Plain, Errors, Error}
+use Rattle.proto_json.specs.declared.reply.ReplyBody.TheVariants.{Plain, Errors, Work, Error}
 use Rattle.proto_json.specs.declared.reply.Severity.{Severity}
 use Rattle.proto_json.specs.declared.reply.Severity.TheVariants as severity
 
@@ -54,6 +54,12 @@ reply_data id Plain = object (member (codes "id") (string id) no_members)
 reply_data id (Errors rows) =
     object (member (codes "id") (string id)
     (member (codes "result") (object (member (codes "errors") (array (rows_data rows)) no_members)) no_members))
+reply_data id (Work parses links checks) =
+    object (member (codes "id") (string id)
+    (member (codes "result") (object
+    (member (codes "checks") (natural checks)
+    (member (codes "links") (natural links)
+    (member (codes "parses") (natural parses) no_members)))) no_members))
 reply_data id (Error code) =
     object (member (codes "error") (object (member (codes "code") (string (name_of code)) (member (codes "message") (string (message_of code)) no_members)))
     (member (codes "id") (string id) no_members))

@@ -1,16 +1,15 @@
 -- Which request a line is.
 use Rattle.std.specs.Prelude.{◌≡◌, ◌⊎◌, ℕ, List, [], if◌then◌else◌, nat_le, length, codes, bytes_eq, Option, Some, None, option_map, option_and_then, Result, Ok, Err}
 use Rattle.std.specs.Str.{is_utf8}
-use Rattle.serde_json.specs.Data.{Data, Members, no_members, member}
+use Rattle.serde_json.specs.Data.{Data}
 use Rattle.serde_json.specs.Read.{read}
-use Rattle.serde_json.specs.Find.{get, as_str, as_object}
-use Rattle.proto_json.specs.SourceTexts.{if_short}
-use Rattle.proto_json.specs.declared.code.Code.TheVariants.{InvalidRequest, UnknownRequest, InvalidParameter}
+use Rattle.serde_json.specs.Find.{get, as_object}
+use Rattle.proto_json.specs.Parameters.{text_at, request_of, has_paths}
+use Rattle.proto_json.specs.declared.code.Code.TheVariants.{InvalidRequest, UnknownRequest, InvalidParameter, InvalidFilePathFormat}
 use Rattle.proto_json.specs.declared.request.Asked.{Asked}
 use Rattle.proto_json.specs.declared.request.Method.{Method}
 use Rattle.proto_json.specs.declared.request.Method.TheVariants as method
 use Rattle.proto_json.specs.declared.request.Request.{Request}
-use Rattle.proto_json.specs.declared.request.Request.TheVariants.{Update, GetErrors}
 use Rattle.proto_json.specs.declared.request.RequestRefusal.{RequestRefusal}
 use Rattle.proto_json.specs.declared.request.RequestRefusal.TheVariants.{Refused, Memory}
 
@@ -21,10 +20,6 @@ max_line = 16777216
 -- the JSON value that a line is, if it is UTF-8 and `serde_json` reads it
 unfoldable pub line_data : List ℕ → Option Data
 line_data line = if is_utf8 line then read line else None
-
--- the string at a key, if the value is an object with a string there
-abbrev pub text_at : List ℕ → Data → Option (List ℕ)
-text_at key d = option_and_then as_str (get key d)
 
 -- what stands in every request object
 pub record Head : Type 0 where
@@ -48,54 +43,33 @@ head_with (Some i) (Some m) (Some ps) = Some record { id = i; method = m; params
 abbrev pub head_of : Data → Option Head
 head_of d = head_with (text_at (codes "id") d) (text_at (codes "method") d) (params_of (get (codes "params") d))
 
--- the key and the value of an object with one member
-abbrev pub only_member : Members → Option (List ℕ × Data)
-only_member no_members = None
-only_member (member key d no_members) = Some (key, d)
-only_member (member key d (member _ _ _)) = None
-
--- the text that an overlay of the type `add` gives; one that is too long needs no refusal of its
--- own, since its line is longer still
-abbrev pub added_text : Data → Option (List ℕ)
-added_text d =
-    option_and_then (λ kind. if bytes_eq kind (codes "add") then option_and_then if_short (text_at (codes "content") d) else None)
-    (text_at (codes "type") d)
-
--- the parameters of `analysis.updateContent`: `files` has one member, from a path to an overlay that adds a text
-abbrev pub update_of : Data → Option Request
-update_of params =
-    option_and_then (λ file. option_map (λ content. Update file.0 content) (added_text file.1))
-    (option_and_then only_member (option_and_then as_object (get (codes "files") params)))
-
--- the parameters of `analysis.getErrors`: `file` is a string
-abbrev pub get_errors_of : Data → Option Request
-get_errors_of params = option_map GetErrors (text_at (codes "file") params)
-
 -- the method of a name
 abbrev pub method_named : List ℕ → Option Method
 method_named name =
-    if bytes_eq name (codes "analysis.updateContent") then Some method.UpdateContent
+    if bytes_eq name (codes "analysis.setAnalysisRoots") then Some method.SetRoots
+    else (if bytes_eq name (codes "analysis.reanalyze") then Some method.Reanalyze
+    else (if bytes_eq name (codes "analysis.updateContent") then Some method.UpdateContent
     else (if bytes_eq name (codes "analysis.getErrors") then Some method.GetErrors
-    else None)
-
--- the request of a method and its parameters, one row for each method
-abbrev pub request_of : Method → Data → Option Request
-request_of method.UpdateContent params = update_of params
-request_of method.GetErrors params = get_errors_of params
+    else (if bytes_eq name (codes "profile.getWork") then Some method.GetWork
+    else None))))
 
 -- a line that is no request object; its reply has the empty id
 abbrev pub not_a_request : RequestRefusal
 not_a_request = Refused [] InvalidRequest
 
+-- the paths of a request are absolute and normalized, or it is refused
+abbrev pub answer_to_request : List ℕ → Request → Result Asked RequestRefusal
+answer_to_request id request = if has_paths request then Ok record { id = id; request = request } else Err (Refused id InvalidFilePathFormat)
+
 -- the parameters give a request, or they are missing or of another form
 abbrev pub answer_to_params : List ℕ → Option Request → Result Asked RequestRefusal
 answer_to_params id None = Err (Refused id InvalidParameter)
-answer_to_params id (Some request) = Ok record { id = id; request = request }
+answer_to_params id (Some request) = answer_to_request id request
 
 -- the method is known, or it is refused before its parameters are looked at
 abbrev pub answer_to_method : List ℕ → Option Method → Option Data → Result Asked RequestRefusal
 answer_to_method id None params = Err (Refused id UnknownRequest)
-answer_to_method id (Some m) params = answer_to_params id (option_and_then (request_of m) params)
+answer_to_method id (Some m) params = answer_to_params id (request_of m params)
 
 -- a request object, by its method and parameters; its refusals repeat its id
 abbrev pub answer_to_head : Head → Result Asked RequestRefusal
@@ -110,7 +84,7 @@ abbrev pub answer_to : Option Head → Result Asked RequestRefusal
 answer_to None = Err not_a_request
 answer_to (Some h) = answer_to_head h
 
--- A line is its request, or is refused by the first of these that is wrong: length, JSON, request object, method, parameters.
+-- A line is its request, or is refused by the first of these that is wrong: length, JSON, request object, method, parameters, format of the paths.
 abbrev pub answer : List ℕ → Result Asked RequestRefusal
 answer line = answer_to (head_by line)
 

