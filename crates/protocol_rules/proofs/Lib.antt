@@ -1,2 +1,1 @@
-pub mod TextsLemmas
 pub mod TurnLemmas

@@ -1,3 +1,3 @@
-pub mod Texts
 pub mod Skipped
+pub mod Limits
 pub mod Turns

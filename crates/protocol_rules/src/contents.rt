@@ -1,10 +1,10 @@
 //! The state of a session.
 
-use crate::texts::Texts;
+use overlays::Overlays;
 
 /// All that replies depend on: the texts that the client has given.
 #[derive(Drop)]
 pub struct Contents {
-    /// The text of each file that was given one.
-    pub texts: Texts,
+    /// The texts that the client has given.
+    pub overlays: Overlays,
 }
