@@ -9,6 +9,7 @@
 
 mod code;
 mod overlay;
+mod parameters;
 mod paths;
 mod reply;
 mod request;
