@@ -8,6 +8,7 @@
 #![tactic(auto)]
 
 mod code;
+mod laws;
 mod overlay;
 mod parameters;
 mod paths;
@@ -15,6 +16,7 @@ mod reply;
 mod request;
 
 pub use code::Code;
+pub use laws::{files_of_an_update_rise_by_path, paths_of_a_request_are_normalized};
 pub use overlay::{FileOverlay, FileOverlays, Overlay, OverlayEdit, OverlayEdits};
 pub use paths::Paths;
 pub use reply::{ErrorKind, ErrorRow, ErrorRows, Location, ReplyBody, Severity, write_reply};
