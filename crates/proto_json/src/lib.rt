@@ -21,3 +21,6 @@ pub use overlay::{FileOverlay, FileOverlays, Overlay, OverlayEdit, OverlayEdits}
 pub use paths::Paths;
 pub use reply::{ErrorKind, ErrorRow, ErrorRows, Location, ReplyBody, Severity, write_reply};
 pub use request::{Asked, MAX_LINE, Request, RequestRefusal, read_request};
+
+#[cfg(test)]
+mod tests;
