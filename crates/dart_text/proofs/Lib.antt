@@ -1,0 +1,4 @@
+pub mod UnitLemmas
+pub mod CursorLemmas
+pub mod EditLemmas
+pub mod LawLemmas

@@ -19,18 +19,18 @@ short_text text = if nat_le (length text) max_text then Ok text else Err (text_r
 unfoldable pub text_in_bytes : List ℕ → Result (List ℕ) TextRefusal
 text_in_bytes bytes = if is_utf8 bytes then short_text bytes else Err text_refusal.NotUtf8
 
--- The text without the `length` units behind `offset`, and with those of `with` in their place.
-unfoldable pub replaced : List ℕ → (offset length : ℕ) → List ℕ → List ℕ
-replaced text offset length with = text_of (take offset (units_of text) ++ units_of with ++ drop (offset + length) (units_of text))
+-- The text without the `count` units behind `offset`, and with those of `with` in their place.
+unfoldable pub replaced : List ℕ → (offset count : ℕ) → List ℕ → List ℕ
+replaced text offset count with = text_of (take offset (units_of text) ++ units_of with ++ drop (offset + count) (units_of text))
 
 -- the text after an edit, if it is short enough
 abbrev pub short_edit : List ℕ → Result (List ℕ) EditRefusal
 short_edit text = if nat_le (length text) max_text then Ok text else Err (TooLong (length text))
 
--- An edit replaces `length` units behind `offset`. It is refused, by the first of these that holds: its end lies past the end of the text; its start, or its end, lies inside a surrogate pair; the text would be too long.
-unfoldable pub edited : List ℕ → (offset length : ℕ) → List ℕ → Result (List ℕ) EditRefusal
-edited text offset length with =
-    if nat_lt (length (units_of text)) (offset + length) then Err (OutOfRange (length (units_of text)))
+-- An edit replaces `count` units behind `offset`. It is refused, by the first of these that holds: its end lies past the end of the text; its start, or its end, lies inside a surrogate pair; the text would be too long.
+unfoldable pub edited : List ℕ → (offset count : ℕ) → List ℕ → Result (List ℕ) EditRefusal
+edited text offset count with =
+    if nat_lt (length (units_of text)) (offset + count) then Err (OutOfRange (length (units_of text)))
     else (if splits_pair offset (units_of text) then Err (SplitsPair offset)
-    else (if splits_pair (offset + length) (units_of text) then Err (SplitsPair (offset + length))
-    else short_edit (replaced text offset length with)))
+    else (if splits_pair (offset + count) (units_of text) then Err (SplitsPair (offset + count))
+    else short_edit (replaced text offset count with)))
