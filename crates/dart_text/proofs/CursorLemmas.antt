@@ -53,11 +53,11 @@ module _ (text : List ℕ) (u : IsUtf8 text) where
   units_past : (n c : ℕ) (rest : List ℕ) → IsCharBoundary text n → drop n text ≡ encode c ++ rest → units_of (take (n + len_utf8 c) text) ≡ units_of (take n text) ++ encode_utf16 c
   units_past n c rest between here =
       append_cancel_right _ _ (units_of rest) (
-        ap (λ l. units_of (take (n + len_utf8 c) text) ++ units_of l) (sym (drop_past_char text rest n c here))
-        ∙ sym (units_cut (n + len_utf8 c) (IsCharBoundary-past_char text rest n c between.0 (IsUtf8-drop text n u between) here))
-        ∙ units_cut n between
-        ∙ ap (λ l. units_of (take n text) ++ l) (units_of-char (drop n text) rest c (IsUtf8-drop text n u between) here)
-        ∙ sym (append_assoc (units_of (take n text)) (encode_utf16 c) (units_of rest))
+      ap (λ l. units_of (take (n + len_utf8 c) text) ++ units_of l) (sym (drop_past_char text rest n c here))
+      ∙ sym (units_cut (n + len_utf8 c) (IsCharBoundary-past_char text rest n c between.0 (IsUtf8-drop text n u between) here))
+      ∙ units_cut n between
+      ∙ ap (λ l. units_of (take n text) ++ l) (units_of-char (drop n text) rest c (IsUtf8-drop text n u between) here)
+      ∙ sym (append_assoc (units_of (take n text)) (encode_utf16 c) (units_of rest))
       )
 
   module _ (cursor : Cursor) (on : IsOn text cursor) where

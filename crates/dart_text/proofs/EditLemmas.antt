@@ -100,7 +100,7 @@ module _ (text : List ℕ) (u : IsUtf8 text) (short : length text ≤ max_text) 
             let none = splits_none text u end_offset end at_end ends_here in
             edited_within text offset count with (omega (arith, end_within, sum_is)) starts_none (subst (λ n. splits_pair n (units_of text) ≡ false) sum_is none)
             ∙ ap short_edit (
-              replaced-between text offset count start.bytes end.bytes with u w at_start.on.between at_end.on.between
-              (units_before text u offset start at_start (omega (arith, at_start.reached)))
-              (ap (λ n. drop n (units_of text)) (sym sum_is) ∙ units_behind text u end_offset end at_end ends_here)
+            replaced-between text offset count start.bytes end.bytes with u w at_start.on.between at_end.on.between
+            (units_before text u offset start at_start (omega (arith, at_start.reached)))
+            (ap (λ n. drop n (units_of text)) (sym sum_is) ∙ units_behind text u end_offset end at_end ends_here)
             )

@@ -60,14 +60,14 @@ cut_at (c ∷ cs) (suc (suc offset)) within whole = elim (cases_lt c 0x1_0000) [
   | inl small ↦
       let one = one_unit c small in
       cut_one c cs (suc offset) one (
-        cut_at cs (suc offset) (omega (arith, subst (λ u. suc (suc offset) ≤ length (u ++ units cs)) one within))
-        (subst (λ u. splits_pair (suc (suc offset)) (u ++ units cs) ≡ false) one whole)
+      cut_at cs (suc offset) (omega (arith, subst (λ u. suc (suc offset) ≤ length (u ++ units cs)) one within))
+      (subst (λ u. splits_pair (suc (suc offset)) (u ++ units cs) ≡ false) one whole)
       )
   | inr large ↦
       let two = two_units c large in
       cut_two c _ _ cs offset two (
-        cut_at cs offset (omega (arith, subst (λ u. suc (suc offset) ≤ length (u ++ units cs)) two within))
-        (subst (λ u. splits_pair (suc (suc offset)) (u ++ units cs) ≡ false) two whole)
+      cut_at cs offset (omega (arith, subst (λ u. suc (suc offset) ≤ length (u ++ units cs)) two within))
+      (subst (λ u. splits_pair (suc (suc offset)) (u ++ units cs) ≡ false) two whole)
       )
 ]
 
@@ -134,4 +134,4 @@ units_of-edited text with new offset count u w done =
     let within : offset + count ≤ length (units (chars text)) = ltb-false _ _ tests.0 in
     ap units_of (sym tests.3)
     ∙ joined_spelt (chars text) (chars with) offset (offset + count) (scalars-chars text u) (scalars-chars with w)
-      (cut_at (chars text) offset (omega arith) tests.1) (cut_at (chars text) (offset + count) within tests.2)
+    (cut_at (chars text) offset (omega arith) tests.1) (cut_at (chars text) (offset + count) within tests.2)

@@ -1,3 +1,4 @@
+mod Examples
 pub mod UnitLemmas
 pub mod CursorLemmas
 pub mod EditLemmas

@@ -30,6 +30,6 @@ returns-clause-ok c = record {
   starts = c.moved_to-start.ensures.at.on.between;
   ends = c.moved_to-end.ensures.at.on.between;
   puts =
-    part_puts c.args.text.now c.utf8.text c.requires c.args.offset c.args.count c.saturating_add-end_offset.result c.saturating_add-end_offset.ensures c.moved_to-start.result c.moved_to-end.result c.moved_to-start.ensures.at c.moved_to-end.ensures.at
-    (λ all past. omega (arith, c.else-end-text.either)) c.if-start-offset.false c.if-end-end_offset-2.false;
+      part_puts c.args.text.now c.utf8.text c.requires c.args.offset c.args.count c.saturating_add-end_offset.result c.saturating_add-end_offset.ensures c.moved_to-start.result c.moved_to-end.result c.moved_to-start.ensures.at c.moved_to-end.ensures.at
+      (λ all past. omega (arith, c.else-end-text.either)) c.if-start-offset.false c.if-end-end_offset-2.false;
 }

@@ -47,8 +47,8 @@ loop-character-preserved c =
       reached = omega (arith, c.past-cursor.ensures.units);
       onward = λ before. omega (arith, c.loop-character.invariant.onward before, c.past-cursor.ensures.bytes);
       rest =
-        sym (drop_past_char c.args.text.now (chars_rest c.next.new.self) c.loop-character.cursor.bytes c.in-Some.character here)
-        ∙ ap (λ n. drop n c.args.text.now) (omega (arith, c.past-cursor.ensures.bytes, length-encode c.in-Some.character));
+          sym (drop_past_char c.args.text.now (chars_rest c.next.new.self) c.loop-character.cursor.bytes c.in-Some.character here)
+          ∙ ap (λ n. drop n c.args.text.now) (omega (arith, c.past-cursor.ensures.bytes, length-encode c.in-Some.character));
     }
 
 -- no character is left
