@@ -112,8 +112,8 @@ module _ (e f : List ℕ × List ℕ) (left right : PathsAndTexts) (order_left :
   same_behind is path =
       by_sameness path e.0 (λ _. text_in path left ≡ text_in path right)
       (λ first.
-        none_before path left (subst (λ p. AllBehind p (paths_of left)) (sym first) (sorted_head path_cmp e.0 (paths_of left) order_left))
-        ∙ sym (none_before path right (subst (λ p. AllBehind p (paths_of right)) (sym (first ∙ is)) (sorted_head path_cmp f.0 (paths_of right) order_right))))
+      none_before path left (subst (λ p. AllBehind p (paths_of left)) (sym first) (sorted_head path_cmp e.0 (paths_of left) order_left))
+      ∙ sym (none_before path right (subst (λ p. AllBehind p (paths_of right)) (sym (first ∙ is)) (sorted_head path_cmp f.0 (paths_of right) order_right))))
       (λ other. sym (next_text path e left other) ∙ (same path ∙ next_text path f right (ap (bytes_eq path) (sym is) ∙ other)))
 
 -- texts in order are the same where each path finds the same among them
@@ -125,8 +125,8 @@ same_texts (e ∷ left) (f ∷ right) order_left order_right same =
     by_order e.0 f.0 (λ _. e ∷ left ≡ f ∷ right)
     (λ less. absurd (not_less e f left right order_left order_right same less))
     (λ equal.
-      let is = same_path e.0 f.0 equal in
-      let behind = same_behind e f left right order_left order_right same is in
-      let rest = same_texts left right (sorted_tail path_cmp e.0 (paths_of left) order_left) (sorted_tail path_cmp f.0 (paths_of right) order_right) behind in
-      ap (λ (first : List ℕ × List ℕ). first ∷ left) (same_first e f left right order_left order_right same is) ∙ ap (λ (more : PathsAndTexts). f ∷ more) rest)
+    let is = same_path e.0 f.0 equal in
+    let behind = same_behind e f left right order_left order_right same is in
+    let rest = same_texts left right (sorted_tail path_cmp e.0 (paths_of left) order_left) (sorted_tail path_cmp f.0 (paths_of right) order_right) behind in
+    ap (λ (first : List ℕ × List ℕ). first ∷ left) (same_first e f left right order_left order_right same is) ∙ ap (λ (more : PathsAndTexts). f ∷ more) rest)
     (λ greater. absurd (not_greater e f left right order_left order_right same greater))

@@ -35,11 +35,9 @@ pub fn overlays_are_their_texts(overlays: &Overlays, others: &Overlays)
 /// A request of one file gives it the text that its overlay makes of the one that it has, or is
 /// refused as that text is.
 pub fn one_file_gets_its_text(_overlays: &Overlays, _file: &FileOverlay)
-    ensures {
-        MatchResult (text_after _file.now.path _file.now.overlay (text_in _file.now.path _overlays.now))
-            (λ text. IfOk (applied (_file.now ∷ []) _overlays.now) (λ after. text_in _file.now.path after ≡ text))
-            (λ refusal. applied (_file.now ∷ []) _overlays.now ≡ Err refusal)
-    }
+    ensures { MatchResult (text_after _file.now.path _file.now.overlay (text_in _file.now.path _overlays.now))
+        (λ text. IfOk (applied (_file.now ∷ []) _overlays.now) (λ after. text_in _file.now.path after ≡ text))
+        (λ refusal. applied (_file.now ∷ []) _overlays.now ≡ Err refusal) }
 {}
 
 /// A path that no file of a request has keeps the text that it had.

@@ -11,6 +11,8 @@ mod entry;
 mod laws;
 mod overlays;
 mod refusal;
+#[cfg(test)]
+mod tests;
 
 pub use entry::Entry;
 pub use laws::{
