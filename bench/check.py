@@ -135,9 +135,14 @@ def loops_with_writes(depth: int) -> str:
     return body(lines + ["}"] * depth)
 
 
+def errors_in_lines(count: int) -> str:
+    """So many names that mean nothing, each in ten lines."""
+    return body((["print(1);"] * 9 + ["nothing;"]) * count)
+
+
 @dataclass(frozen=True)
 class Family:
-    """Texts of one form, and the codes of the errors that each has."""
+    """Texts of one form, and the codes of the errors that each has: these, and others for each that it counts."""
 
     name: str
     about: str
@@ -145,6 +150,7 @@ class Family:
     sizes: Tuple[int, ...]
     text: Callable[[int], str]
     codes: Tuple[str, ...] = ()
+    for_each: Tuple[str, ...] = ()
 
 
 REFUSED = ("syntax_error",)
@@ -160,6 +166,7 @@ FAMILIES = (
     Family("loops", f"{DEEPEST_LOOPS} nested loops, the most that are read, around writes", "writes",
            (5_000, 10_000, 20_000), loops_around_writes),
     Family("levels", "nested loops with 100 writes each", "loops", (24, 49, 98), loops_with_writes),
+    Family("errors", "an error in every tenth line", "errors", (2_500, 5_000, 10_000), errors_in_lines, for_each=("undefined_name",)),
 )
 
 
@@ -277,7 +284,7 @@ def measure(binary: str, family: Family, start_up: float, runs: int, limit: floa
         alone = best(binary, added(text), runs, limit)
         run = best(binary, added(text) + ASKED, runs, limit)
         codes = codes_in(run.output) if run.status == 0 else None
-        wrong = what_is_wrong(run, codes, list(family.codes), limit)
+        wrong = what_is_wrong(run, codes, list(family.codes + family.for_each * size), limit)
         if wrong is not None:
             right = False
             print(f"{size:>12} {len(text.encode()):>10} WRONG: {wrong}", flush=True)
