@@ -36,9 +36,11 @@ impl Cursor {
         ensures bytes { result.bytes ≡ self.bytes + length (encode_utf8 character) }
         ensures units { result.units ≡ self.units + length (encode_utf16 character) }
     {
+        let bytes = character.len_utf8();
+        let units = character.len_utf16();
         Cursor {
-            bytes: self.bytes + character.len_utf8(),
-            units: self.units + character.len_utf16() as u64,
+            bytes: self.bytes + bytes,
+            units: self.units + units as u64,
             position: self.position.past(character),
         }
     }
@@ -57,7 +59,8 @@ impl Cursor {
             self
         };
         for character in text[cursor.bytes..].chars() {
-            if offset - cursor.units < character.len_utf16() as u64 {
+            let units = character.len_utf16();
+            if offset - cursor.units < units as u64 {
                 return cursor;
             }
             cursor = cursor.past(text, character);

@@ -94,6 +94,7 @@ impl Text {
     }
 
     /// Its length in UTF-16 code units.
+    #[tactic(auto, using(crate::proofs::UnitLemmas::units_counted))]
     pub fn len16(&self) -> u32
         ensures { result ≡ length (units_of self.now) }
     {
