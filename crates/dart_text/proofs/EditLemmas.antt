@@ -1,18 +1,15 @@
 -- What an edit does, where cursors stand at its two ends.
-use Rattle.std.proofs.Common.{◌≡◌, ℕ, ◌+◌, ◌-◌, ◌<◌, ◌≤◌, ◌^◌, min, Bool, true, false, cond, List, ◌++◌, inl, inr, length, take, drop, IsUtf8, IsCharBoundary, Ok, Err, Result, refl, sym, ap, ◌∙◌, subst, arith, append_assoc}
+use Rattle.std.proofs.Common.{◌≡◌, ℕ, ◌+◌, ◌-◌, ◌<◌, ◌≤◌, ◌^◌, min, true, false, List, ◌++◌, inl, inr, length, take, drop, IsUtf8, IsCharBoundary, Err, sym, ap, ◌∙◌, subst, arith}
 use Rattle.std.specs.List.{replace_range}
-use Rattle.std.specs.declared.ops.Range.{Range}
-use Rattle.std.proofs.lemmas.Bool.{cases_lt, cond-true, cond-false, lt-ltb, le-ltb}
+use Rattle.std.proofs.lemmas.Bool.{cases_lt, lt-ltb, le-ltb}
 use Rattle.std.proofs.lemmas.Str.{IsUtf8-append, IsUtf8-take, IsUtf8-drop}
 use Rattle.dart_text.specs.Units.{units_of, text_of, splits_pair}
 use Rattle.dart_text.specs.Edits.{max_text, edited, replaced, short_edit}
-use Rattle.dart_text.specs.Parts.{IsReplacedBy}
-use Rattle.dart_text.specs.Cursors.{IsAt, IsOn}
+use Rattle.dart_text.specs.Cursors.{IsAt}
 use Rattle.dart_text.specs.declared.cursor.Cursor.{Cursor}
-use Rattle.dart_text.specs.declared.edit.EditRefusal.{EditRefusal}
 use Rattle.dart_text.specs.declared.edit.EditRefusal.TheVariants.{OutOfRange, SplitsPair}
 use Rattle.dart_text.proofs.UnitLemmas.{units_of-append, text_of-units_of, units_within}
-use Rattle.dart_text.proofs.CursorLemmas.{units_bounded, units_before, units_behind, splits_none, splits_inside, all_units, offset_within}
+use Rattle.dart_text.proofs.CursorLemmas.{units_before, units_behind, splits_none, splits_inside, all_units, offset_within}
 
 -- the refusals and the edited text, each where its tests come out so
 module _ (text : List ℕ) (offset count : ℕ) (with : List ℕ) where

@@ -1,16 +1,14 @@
 -- The code units that an edit leaves.
-use Rattle.std.proofs.Common.{◌≡◌, ℕ, zero, suc, ◌+◌, ◌-◌, ◌/◌, ◌%◌, ◌<◌, ◌≤◌, inl, inr, Bool, true, false, ◌&&◌, if◌then◌else◌, nat_lt, List, [], ◌∷◌, ◌++◌, length, take, drop, slice_get, IsUtf8, Ok, Err, Result, refl, sym, ap, ◌∙◌, subst, arith, append_assoc, length-append}
-use Rattle.std.specs.Option.{option_map_or}
+use Rattle.std.proofs.Common.{◌≡◌, ℕ, zero, suc, ◌+◌, ◌≤◌, inl, inr, Bool, true, false, if◌then◌else◌, List, [], ◌∷◌, ◌++◌, length, take, drop, IsUtf8, Ok, Err, refl, sym, ap, ◌∙◌, subst, arith}
 use Rattle.std.specs.List.{flat_map}
 use Rattle.std.specs.Str.{chars}
 use Rattle.std.specs.Char.Escape.{encode_utf16}
-use Rattle.std.specs.Char.Utf16.{is_low_surrogate, utf16_lossy_chars}
 use Rattle.std.proofs.lemmas.Bool.{and_parts, and_from, cases_lt, ltb-false, true≢false}
 use Rattle.std.proofs.lemmas.List.Concat.{flat_map-append}
 use Rattle.std.proofs.lemmas.Str.{chars-encodes, scalars-chars}
 use lib.Utf8.{scalar, scalars, encodes}
 use Rattle.dart_text.specs.Units.{units_of, text_of, splits_pair}
-use Rattle.dart_text.specs.Edits.{edited, replaced, max_text}
+use Rattle.dart_text.specs.Edits.{edited, replaced}
 use Rattle.dart_text.specs.declared.edit.EditRefusal.{EditRefusal}
 use Rattle.dart_text.proofs.UnitLemmas.{all_spelt, one_unit, two_units}
 use Rattle.dart_text.proofs.CursorLemmas.{second_of_two}
