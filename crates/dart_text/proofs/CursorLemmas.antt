@@ -1,7 +1,7 @@
 -- Where a cursor stands, and what lies at an offset that it was moved to.
-use Rattle.std.proofs.Common.{◌≡◌, ◌≢◌, ℕ, zero, suc, ◌+◌, ◌-◌, ◌*◌, ◌/◌, ◌%◌, ◌<◌, ◌≤◌, ◌⊎◌, inl, inr, Bool, true, false, cond, not, ◌&&◌, List, [], ◌∷◌, ◌++◌, length, take, drop, IsUtf8, IsCharBoundary, Some, None, slice_get, refl, sym, ap, ◌∙◌, subst, arith, append_assoc, append-nil, length-append, length-drop, take-append-drop, take_at, drop_at}
+use Rattle.std.proofs.Common.{◌≡◌, ◌≢◌, ℕ, zero, suc, ◌+◌, ◌-◌, ◌/◌, ◌%◌, ◌<◌, ◌≤◌, ◌⊎◌, inl, inr, true, false, not, List, [], ◌∷◌, ◌++◌, length, take, drop, IsUtf8, IsCharBoundary, slice_get, sym, ap, ◌∙◌, subst, arith, append_assoc, length-append, length-drop, take-append-drop, take_at, drop_at}
 use Rattle.std.specs.Option.{option_map_or}
-use Rattle.std.specs.List.{after_last, suffix_len, count_by}
+use Rattle.std.specs.List.{suffix_len}
 use Rattle.std.specs.Char.{len_utf8}
 use Rattle.std.specs.Char.Escape.{encode_utf16}
 use Rattle.std.specs.Char.Utf16.{is_low_surrogate}
@@ -9,13 +9,12 @@ use Rattle.std.proofs.lemmas.Bool.{and_parts, cases_lt, cases_eq, le-leb, lt-leb
 use Rattle.std.proofs.lemmas.Grind.{common_steps}
 use Rattle.std.proofs.lemmas.List.{append_cancel_right, length-take-le, length_push, take_all}
 use Rattle.std.proofs.lemmas.List.Sums.{count_by-le-length}
-use Rattle.std.proofs.lemmas.Str.{IsUtf8-take, IsUtf8-drop, IsCharBoundary-start, IsCharBoundary-past_char, drop_past_char, encode_same, length-encode, len_utf8_bounds}
+use Rattle.std.proofs.lemmas.Str.{IsUtf8-take, IsUtf8-drop, IsCharBoundary-start, IsCharBoundary-past_char, drop_past_char, length-encode, len_utf8_bounds}
 use lib.Utf8.{scalar, scalars, encode, encodes, scalar_cases}
 use Rattle.dart_text.specs.Units.{units_of, splits_pair}
 use Rattle.dart_text.specs.Lines.{is_line_feed, position_after, position_of}
 use Rattle.dart_text.specs.Cursors.{IsAt, IsOn}
 use Rattle.dart_text.specs.declared.cursor.Cursor.{Cursor}
-use Rattle.dart_text.specs.declared.position.Position.{Position}
 use Rattle.dart_text.proofs.UnitLemmas.{one_unit, two_units, units_of-append, units_of-char, units_of-nil, units_within}
 
 -- how many units a character has, as std says it

@@ -1,18 +1,15 @@
 -- What an edit does, where cursors stand at its two ends.
-use Rattle.std.proofs.Common.{◌≡◌, ℕ, ◌+◌, ◌-◌, ◌<◌, ◌≤◌, ◌^◌, min, Bool, true, false, cond, List, ◌++◌, inl, inr, length, take, drop, IsUtf8, IsCharBoundary, Ok, Err, Result, refl, sym, ap, ◌∙◌, subst, arith, append_assoc}
+use Rattle.std.proofs.Common.{◌≡◌, ℕ, ◌+◌, ◌-◌, ◌<◌, ◌≤◌, ◌^◌, min, true, false, List, ◌++◌, inl, inr, length, take, drop, IsUtf8, IsCharBoundary, Err, sym, ap, ◌∙◌, subst, arith}
 use Rattle.std.specs.List.{replace_range}
-use Rattle.std.specs.declared.ops.Range.{Range}
-use Rattle.std.proofs.lemmas.Bool.{cases_lt, cond-true, cond-false, lt-ltb, le-ltb}
+use Rattle.std.proofs.lemmas.Bool.{cases_lt, lt-ltb, le-ltb}
 use Rattle.std.proofs.lemmas.Str.{IsUtf8-append, IsUtf8-take, IsUtf8-drop}
 use Rattle.dart_text.specs.Units.{units_of, text_of, splits_pair}
 use Rattle.dart_text.specs.Edits.{max_text, edited, replaced, short_edit}
-use Rattle.dart_text.specs.Parts.{IsReplacedBy}
-use Rattle.dart_text.specs.Cursors.{IsAt, IsOn}
+use Rattle.dart_text.specs.Cursors.{IsAt}
 use Rattle.dart_text.specs.declared.cursor.Cursor.{Cursor}
-use Rattle.dart_text.specs.declared.edit.EditRefusal.{EditRefusal}
 use Rattle.dart_text.specs.declared.edit.EditRefusal.TheVariants.{OutOfRange, SplitsPair}
 use Rattle.dart_text.proofs.UnitLemmas.{units_of-append, text_of-units_of, units_within}
-use Rattle.dart_text.proofs.CursorLemmas.{units_bounded, units_before, units_behind, splits_none, splits_inside, all_units, offset_within}
+use Rattle.dart_text.proofs.CursorLemmas.{units_before, units_behind, splits_none, splits_inside, all_units, offset_within}
 
 -- the refusals and the edited text, each where its tests come out so
 module _ (text : List ℕ) (offset count : ℕ) (with : List ℕ) where
@@ -56,6 +53,7 @@ module _ (text : List ℕ) (u : IsUtf8 text) (short : length text ≤ max_text) 
       let counted = all_units text u end_offset end at_end all in
       edited_past text offset count with (omega arith) ∙ ap (λ n. Err (OutOfRange n)) (sym counted)
 
+  -- where the end isn't past the text, the sum is the end itself, and an offset that a cursor falls short of lies inside a pair
   module _ (apart : end.bytes ≡ length text → end.units < end_offset → ⊥) where
     end_within : end_offset ≤ length (units_of text)
     end_within = offset_within text u end_offset end at_end apart

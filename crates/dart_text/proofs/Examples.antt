@@ -5,7 +5,7 @@ use Rattle.std.specs.Char.Utf16.{utf16_chars}
 use lib.Utf8.{encode}
 use Rattle.dart_text.specs.Units.{units_of, text_of, splits_pair}
 use Rattle.dart_text.specs.Lines.{position_of}
-use Rattle.dart_text.specs.Edits.{edited, replaced, text_in_bytes, short_text}
+use Rattle.dart_text.specs.Edits.{edited, replaced, text_in_bytes}
 use Rattle.dart_text.specs.declared.edit.EditRefusal.TheVariants.{OutOfRange, SplitsPair}
 use Rattle.dart_text.specs.declared.text.TextRefusal.TheVariants.{NotUtf8}
 

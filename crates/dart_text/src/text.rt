@@ -94,15 +94,16 @@ impl Text {
     }
 
     /// Its length in UTF-16 code units.
+    #[tactic(auto, using(crate::proofs::UnitLemmas::units_counted))]
     pub fn len16(&self) -> u32
         ensures { result ≡ length (units_of self.now) }
     {
         utf16_len(self.as_str().as_bytes()) as u32
     }
 
-    /// The line and the column of an offset, in UTF-16 code units from 0; past the end of the text
-    /// they are those of the end. It walks there from the start: for many offsets of one text take
-    /// `Positions`.
+    /// The line and the column, both from 1, of an offset, in UTF-16 code units from 0; past the end of
+    /// the text they are those of the end. It walks there from the start: for many offsets of one text
+    /// take `Positions`.
     pub fn line_column(&self, offset: u32) -> Position
         ensures { result ≡ position_of offset self.now }
     {
@@ -122,7 +123,8 @@ impl Text {
         requires in_order { part.start ≤ part.end }
         requires starts { IsCharBoundary self.old part.start }
         requires ends { IsCharBoundary self.old part.end }
-        ensures { Edits result self.old self.new (short_edit (replace_range self.old part.start part.end with.now)) }
+        ensures { Edits result self.old self.new
+            (short_edit (replace_range self.old part.start part.end with.now)) }
     {
         let kept = self.text.len() - (part.end - part.start);
         let bytes = kept + with.len();

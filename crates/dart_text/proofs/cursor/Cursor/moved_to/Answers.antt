@@ -1,4 +1,4 @@
-use Rattle.std.proofs.Common.{◌≡◌, ℕ, ◌+◌, List, ◌++◌, length, drop, sym, ap, ◌∙◌, subst, arith, length-append}
+use Rattle.std.proofs.Common.{◌≡◌, ◌++◌, length, drop, sym, ap, ◌∙◌, subst, arith, length-append}
 use Rattle.std.specs.Char.{encode_utf8}
 use Rattle.std.specs.Char.Escape.{encode_utf16}
 use Rattle.std.specs.Str.Iter.{chars_rest}
@@ -28,7 +28,7 @@ loop-character-init c = record {
 -- the character that is come to reaches past the offset
 pub returns-then-offset-cursor-clause-at : goal.returns-then-offset-cursor-clause-at
 returns-then-offset-cursor-clause-at c =
-    let units = length-encode_utf16 c.in-Some.character c.len_utf16.result c.len_utf16.ensures.bmp c.len_utf16.ensures.surrogate_pair in
+    let units = length-encode_utf16 c.in-Some.character c.len_utf16-units.result c.len_utf16-units.ensures.bmp c.len_utf16-units.ensures.surrogate_pair in
     record {
       on = c.loop-character.invariant.on;
       reached = c.loop-character.invariant.reached;
@@ -39,7 +39,7 @@ returns-then-offset-cursor-clause-at c =
 
 pub loop-character-preserved : goal.loop-character-preserved
 loop-character-preserved c =
-    let units = length-encode_utf16 c.in-Some.character c.len_utf16.result c.len_utf16.ensures.bmp c.len_utf16.ensures.surrogate_pair in
+    let units = length-encode_utf16 c.in-Some.character c.len_utf16-units.result c.len_utf16-units.ensures.bmp c.len_utf16-units.ensures.surrogate_pair in
     let here : drop c.loop-character.cursor.bytes c.args.text.now ≡ encode_utf8 c.in-Some.character ++ chars_rest c.next.new.self =
     sym c.loop-character.invariant.rest ∙ c.in-Some.ensures.steps.0 in
     record {

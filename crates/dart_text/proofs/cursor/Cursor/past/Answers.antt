@@ -14,13 +14,13 @@ past-requires-clause-column c = omega (arith, units_bounded c.args.text.now c.ut
 
 pub returns : goal.returns
 returns c =
-    let units = length-encode_utf16 c.args.character c.len_utf16.result c.len_utf16.ensures.bmp c.len_utf16.ensures.surrogate_pair in
+    let units = length-encode_utf16 c.args.character c.len_utf16-units.result c.len_utf16-units.ensures.bmp c.len_utf16-units.ensures.surrogate_pair in
     record {
       on =
           on_past c.args.text.now c.utf8.text c.args.self c.requires.on
-          (record { bytes = c.args.self.bytes + c.len_utf8.result; units = c.args.self.units + c.len_utf16.result; position = c.past.result })
+          (record { bytes = c.args.self.bytes + c.len_utf8-bytes.result; units = c.args.self.units + c.len_utf16-units.result; position = c.past.result })
           c.args.character c.requires.here.0 c.requires.here.1 (omega arith) (omega arith)
           (c.past.ensures (units_of (take c.args.self.bytes c.args.text.now)) c.requires.on.position);
-      bytes = omega (arith, c.len_utf8.ensures.len);
+      bytes = omega (arith, c.len_utf8-bytes.ensures.len);
       units = omega (arith, units);
     }

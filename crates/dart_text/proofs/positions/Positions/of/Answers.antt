@@ -1,4 +1,3 @@
-use Rattle.std.proofs.Common.{arith}
 use Rattle.dart_text.proofs.CursorLemmas.{on_start}
 use Rattle.dart_text.proofs.positions.Positions.of.Goals as goal
 
