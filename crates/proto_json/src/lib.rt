@@ -8,13 +8,19 @@
 #![tactic(auto)]
 
 mod code;
+mod laws;
 mod overlay;
+mod parameters;
 mod paths;
 mod reply;
 mod request;
 
 pub use code::Code;
+pub use laws::{files_of_an_update_rise_by_path, paths_of_a_request_are_normalized};
 pub use overlay::{FileOverlay, FileOverlays, Overlay, OverlayEdit, OverlayEdits};
 pub use paths::Paths;
 pub use reply::{ErrorKind, ErrorRow, ErrorRows, Location, ReplyBody, Severity, write_reply};
 pub use request::{Asked, MAX_LINE, Request, RequestRefusal, read_request};
+
+#[cfg(test)]
+mod tests;

@@ -4,11 +4,12 @@ ghost use Rattle.std.specs.Prelude.{◌≡◌, IfOk, option_map};
 ghost use Rattle.serde_json.specs.View.{view};
 ghost use Rattle.proto_json.specs.Heads.{head_view};
 ghost use Rattle.proto_json.specs.declared.request.RequestRefusal.TheVariants.{Memory};
-ghost use Rattle.proto_json.specs.Requests.{answer, line_data, head_of, method_named, not_a_request, IsUnlessMemory};
-ghost use Rattle.proto_json.specs.Parameters.{text_at};
+ghost use Rattle.proto_json.specs.Requests.{answer, answer_to_head, line_data, head_of, method_named, not_a_request, IsUnlessMemory};
+ghost use Rattle.proto_json.specs.Parameters.{request_of};
 
 use crate::code::Code;
 use crate::overlay::FileOverlays;
+use crate::parameters::{has_paths, read_with, read_without, text_of};
 use crate::paths::Paths;
 use plain_text::PlainText;
 use serde_json::Value;
@@ -36,7 +37,7 @@ pub enum Request {
 
 // The methods that the server has.
 #[derive(Clone, Copy)]
-enum Method {
+pub(crate) enum Method {
     // `analysis.setAnalysisRoots`
     SetRoots,
     // `analysis.reanalyze`
@@ -98,13 +99,6 @@ struct Head<'v> {
     params: Option<&'v Value>,
 }
 
-// The text at a key of an object.
-fn text_of<'v>(value: &'v Value, key: &str) -> Option<&'v str>
-    ensures { option_map (λ text. text.now) result ≡ text_at key.now (view value.now) }
-{
-    value.get(key).and_then(Value::as_str)
-}
-
 fn read_head(value: &Value) -> Option<Head<'_>>
     ensures { option_map head_view result ≡ head_of (view value.now) }
 {
@@ -120,6 +114,40 @@ fn read_head(value: &Value) -> Option<Head<'_>>
         }
     };
     Some(Head { id, method, params })
+}
+
+// The request of a method and the parameters that the line has.
+fn read_request_of(
+    alloc: Global,
+    method: Method,
+    params: Option<&Value>,
+) -> Result<Option<Request>, AllocError>
+    ensures { IfOk result (λ request. request ≡ request_of method (option_map (λ p. view p.now) params.entry)) }
+{
+    match params {
+        None => Ok(read_without(method)),
+        Some(params) => read_with(alloc, method, params),
+    }
+}
+
+// The request of a request object, or its refusal, which repeats the id.
+fn read_object(alloc: Global, head: &Head<'_>) -> Result<Asked, RequestRefusal>
+    ensures { IsUnlessMemory result (answer_to_head (head_view head.now)) }
+{
+    let id = PlainText::new(alloc, head.id)?;
+    let Some(method) = method_named(head.method) else {
+        let code = Code::UnknownRequest;
+        return Err(RequestRefusal::Refused { id, code });
+    };
+    let Some(request) = read_request_of(alloc, method, head.params)? else {
+        let code = Code::InvalidParameter;
+        return Err(RequestRefusal::Refused { id, code });
+    };
+    if !has_paths(&request) {
+        let code = Code::InvalidFilePathFormat;
+        return Err(RequestRefusal::Refused { id, code });
+    }
+    Ok(Asked { id, request })
 }
 
 // The JSON value of a line.
@@ -148,5 +176,14 @@ fn not_a_request(alloc: Global) -> RequestRefusal
 pub fn read_request(alloc: Global, line: &[u8]) -> Result<Asked, RequestRefusal>
     ensures { IsUnlessMemory result (answer line.now) }
 {
-    Err(RequestRefusal::Memory)
+    if line.len() > MAX_LINE {
+        return Err(not_a_request(alloc));
+    }
+    let Some(value) = parse(alloc, line)? else {
+        return Err(not_a_request(alloc));
+    };
+    let Some(head) = read_head(&value) else {
+        return Err(not_a_request(alloc));
+    };
+    read_object(alloc, &head)
 }
