@@ -1,0 +1,4 @@
+pub mod Paths
+pub mod Order
+pub mod Places
+pub mod Requests

@@ -1,7 +1,10 @@
 //! One overlay.
 
+ghost use Rattle.std.specs.Prelude.{◌≡◌, IfOk};
+
 use dart_text::Text;
 use plain_text::PlainText;
+use std::alloc::{AllocError, Global};
 use std::marker::Model;
 use std::rc::Rc;
 
@@ -25,4 +28,39 @@ impl Model for Entry {
     ghost Value = { List ℕ × List ℕ };
 
     ghost view = { λ e. (e.shared.value.path, e.shared.value.text) };
+}
+
+impl Entry {
+    /// The path with this text.
+    pub(crate) fn new(alloc: Global, path: &PlainText, text: Text) -> Result<Entry, AllocError>
+        ensures { IfOk result (λ entry. entry ≡ (path.now, text)) }
+    {
+        let path = path.copy()?;
+        Ok(Entry {
+            shared: Rc::new(alloc, Overlaid { path, text })?,
+        })
+    }
+
+    /// The path of the file.
+    pub fn path(&self) -> &PlainText
+        ensures { result.now ≡ self.now.0 }
+    {
+        &self.shared.path
+    }
+
+    /// The text that the file has.
+    pub fn text(&self) -> &Text
+        ensures { result.now ≡ self.now.1 }
+    {
+        &self.shared.text
+    }
+
+    /// The same path and text once more, which takes a pointer.
+    pub fn share(&self) -> Result<Entry, AllocError>
+        ensures { IfOk result (λ shared. shared ≡ self.now) }
+    {
+        Ok(Entry {
+            shared: self.shared.clone()?,
+        })
+    }
 }

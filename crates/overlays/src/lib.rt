@@ -6,6 +6,7 @@
 //! and edits of `dart_text` and on the overlays that `proto_json` reads, and knows no Dart.
 #![tactic(auto)]
 
+mod change;
 mod entry;
 mod overlays;
 mod refusal;
