@@ -1,0 +1,5 @@
+mod Examples
+pub mod UnitLemmas
+pub mod CursorLemmas
+pub mod EditLemmas
+pub mod LawLemmas

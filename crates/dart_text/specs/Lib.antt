@@ -2,3 +2,5 @@ pub mod Units
 pub mod Lines
 pub mod Edits
 pub mod Results
+pub mod Cursors
+pub mod Parts

@@ -6,10 +6,17 @@
 //! 32 bits with no test anywhere above. The crate stands on `plain_text`, and knows no Dart.
 #![tactic(auto)]
 
+mod cursor;
 mod edit;
+mod laws;
 mod position;
+mod positions;
 mod text;
 
 pub use edit::EditRefusal;
 pub use position::Position;
+pub use positions::Positions;
 pub use text::{MAX_TEXT, Text, TextRefusal};
+
+#[cfg(test)]
+mod tests;

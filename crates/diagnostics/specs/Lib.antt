@@ -1,4 +1,2 @@
 pub mod Codes
-pub mod Lines
-pub mod Cursors
 pub mod Rendering

@@ -4,9 +4,9 @@ use Rattle.std.specs.List.{flat_map}
 use Rattle.judgement.specs.declared.Fault.{Fault}
 use Rattle.proto_json.specs.declared.reply.ErrorRow.{ErrorRow}
 use Rattle.proto_json.specs.declared.reply.Severity.TheVariants.{Error}
-use Rattle.diagnostics.specs.declared.cursor.Position.{Position}
+use Rattle.dart_text.specs.declared.position.Position.{Position}
+use Rattle.dart_text.specs.Lines.{position_of}
 use Rattle.diagnostics.specs.Codes.{name_of, message_of, kind_of}
-use Rattle.diagnostics.specs.Lines.{position_of}
 
 -- the row of a fault in a file, which starts at this position
 abbrev pub row_at : (file : List ℕ) → Position → Fault → ErrorRow

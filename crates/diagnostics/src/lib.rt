@@ -2,13 +2,11 @@
 //!
 //! A row has the name of the broken rule, a sentence, and the place of the fault with its line and
 //! column. `rows_of` in `specs/Rendering.antt` states the rows of a text's faults, `line_of_row` the
-//! line that a row is printed as; what a line and a column of a text are stands in
-//! `specs/Lines.antt`, the names and sentences in `specs/Codes.antt`. The crate
-//! stands on the faults of `judgement`, the rows of `proto_json`, and the code units of `plain_text`.
+//! line that a row is printed as, and `specs/Codes.antt` the names and the sentences. The crate stands
+//! on the faults of `judgement`, the rows of `proto_json`, and the lines and columns of `dart_text`.
 #![tactic(auto)]
 
 mod code;
-mod cursor;
 mod laws;
 mod lines;
 mod rows;

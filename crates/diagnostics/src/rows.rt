@@ -1,11 +1,10 @@
 //! The rows of faults.
 
-ghost use Rattle.std.specs.Prelude.{◌≡◌, ◌≤◌, length, IfOk};
-ghost use Rattle.proto_json.specs.SourceTexts.{max_text};
+ghost use Rattle.std.specs.Prelude.{◌≡◌, IfOk};
 ghost use Rattle.diagnostics.specs.Rendering.{row_at, rows_of};
 
 use crate::code::{code_name, error_kind, message};
-use crate::cursor::{Cursor, Position};
+use dart_text::{Position, Positions, Text};
 use judgement::Fault;
 use plain_text::PlainText;
 use proto_json::{ErrorRow, ErrorRows, Location, Severity};
@@ -44,18 +43,16 @@ fn render_at(
 pub fn render(
     alloc: Global,
     file: &str,
-    text: &str,
+    text: &Text,
     faults: &[Fault],
 ) -> Result<ErrorRows, AllocError>
-    requires { length text.now ≤ max_text }
     ensures { IfOk result (λ rows. rows ≡ rows_of file.now text.now faults.now) }
 {
-    let text = text.as_bytes();
-    let mut cursor = Cursor::START;
+    let mut positions = Positions::of(text);
     let mut rows = Vec::new(alloc);
     for fault in faults {
-        cursor = cursor.moved_to(text, fault.span.start);
-        let row = render_at(alloc, file, cursor.position, *fault)?;
+        let position = positions.at(fault.span.start);
+        let row = render_at(alloc, file, position, *fault)?;
         rows.push(row)?;
     }
     Ok(ErrorRows::from_vec(rows))

@@ -1,12 +1,10 @@
 //! The rows of small texts.
 
-ghost use Rattle.std.specs.Prelude.{◌≤◌, length};
-ghost use Rattle.proto_json.specs.SourceTexts.{max_text};
-
 use crate::{code_name, error_kind, line_of, lines_of, message, render};
+use dart_text::Text;
 use dart_tree::Span;
 use judgement::{DiagnosticCode, Fault};
-use proto_json::{ErrorKind, MAX_TEXT, Severity};
+use proto_json::{ErrorKind, Severity};
 use std::alloc::Global;
 use std::test::Fail;
 
@@ -16,14 +14,13 @@ fn fault(start: u32, end: u32, code: DiagnosticCode) -> Fault {
 }
 
 // The lines and columns of the offsets, in their order.
-fn positions(alloc: Global, text: &str, offsets: &[u32]) -> Result<Vec<(u32, u32)>, Fail>
-    requires { length text.now ≤ max_text }
-{
+fn positions(alloc: Global, text: &str, offsets: &[u32]) -> Result<Vec<(u32, u32)>, Fail> {
+    let text = Text::from_str(alloc, text)?;
     let mut faults = Vec::new(alloc);
     for offset in offsets {
         faults.push(fault(*offset, *offset, DiagnosticCode::SyntaxError))?;
     }
-    let rows = render(alloc, "/a.dart", text, &faults)?;
+    let rows = render(alloc, "/a.dart", &text, &faults)?;
     let mut positions = Vec::new(alloc);
     for row in rows.as_slice() {
         positions.push((row.location.start_line, row.location.start_column))?;
@@ -32,26 +29,8 @@ fn positions(alloc: Global, text: &str, offsets: &[u32]) -> Result<Vec<(u32, u32
 }
 
 #[test]
-fn lines_end_at_line_feeds(rt: HostRuntime) -> Result<(), Fail> {
-    let offsets = [0, 1, 2, 3, 4, 9];
-    let cases: [(&str, [(u32, u32); 6]); 4] = [
-        ("", [(1, 1), (1, 1), (1, 1), (1, 1), (1, 1), (1, 1)]),
-        ("a\n\nb", [(1, 1), (1, 2), (2, 1), (3, 1), (3, 2), (3, 2)]),
-        ("\r\na\rb", [(1, 1), (1, 2), (2, 1), (2, 2), (2, 3), (2, 4)]),
-        ("é\n€\n", [(1, 1), (1, 2), (2, 1), (2, 2), (3, 1), (3, 1)]),
-    ];
-    for (text, want) in cases {
-        assert!(rt; text.len() <= MAX_TEXT);
-        let found = positions(rt.alloc(), text, &offsets)?;
-        assert_eq!(rt; found.as_slice(), want.as_slice(), "{text:?}");
-    }
-    Ok(())
-}
-
-#[test]
 fn columns_count_code_units(rt: HostRuntime) -> Result<(), Fail> {
     let text = "/*😀*/void main(){bool b=1;}";
-    assert!(rt; text.len() <= MAX_TEXT);
     let found = positions(rt.alloc(), text, &[25, 2, 4])?;
     assert_eq!(rt; found.as_slice(), [(1, 26), (1, 3), (1, 5)].as_slice());
     Ok(())
@@ -59,9 +38,7 @@ fn columns_count_code_units(rt: HostRuntime) -> Result<(), Fail> {
 
 #[test]
 fn faults_may_stand_in_any_order(rt: HostRuntime) -> Result<(), Fail> {
-    let text = "a\nbc\nd";
-    assert!(rt; text.len() <= MAX_TEXT);
-    let found = positions(rt.alloc(), text, &[5, 0, 3, 3, 2])?;
+    let found = positions(rt.alloc(), "a\nbc\nd", &[5, 0, 3, 3, 2])?;
     let want = [(3, 1), (1, 1), (2, 2), (2, 2), (2, 1)];
     assert_eq!(rt; found.as_slice(), want.as_slice());
     Ok(())
@@ -70,10 +47,9 @@ fn faults_may_stand_in_any_order(rt: HostRuntime) -> Result<(), Fail> {
 #[test]
 fn a_row_tells_the_fault(rt: HostRuntime) -> Result<(), Fail> {
     let alloc = rt.alloc();
-    let text = "void main(){int x; print(x);}";
-    assert!(rt; text.len() <= MAX_TEXT);
+    let text = Text::from_str(alloc, "void main(){int x; print(x);}")?;
     let faults = [fault(25, 26, DiagnosticCode::UnassignedRead)];
-    let rows = render(alloc, "/a.dart", text, &faults)?;
+    let rows = render(alloc, "/a.dart", &text, &faults)?;
     assert_eq!(rt; rows.as_slice().len(), 1);
     for row in rows.as_slice() {
         assert_eq!(rt; row.code.as_str(), "unassigned_read");
@@ -180,13 +156,12 @@ fn each_code_has_its_words(rt: HostRuntime) {
 #[test]
 fn a_row_is_a_line(rt: HostRuntime) -> Result<(), Fail> {
     let alloc = rt.alloc();
-    let text = "void main(){int x; print(x);}\n y;";
-    assert!(rt; text.len() <= MAX_TEXT);
+    let text = Text::from_str(alloc, "void main(){int x; print(x);}\n y;")?;
     let faults = [
         fault(25, 26, DiagnosticCode::UnassignedRead),
         fault(31, 32, DiagnosticCode::UndefinedName),
     ];
-    let rows = render(alloc, "/a.dart", text, &faults)?;
+    let rows = render(alloc, "/a.dart", &text, &faults)?;
     let want = [
         "/a.dart:1:26: unassigned_read: Unassigned read.\n",
         "/a.dart:2:2: undefined_name: Undefined name.\n",
@@ -207,6 +182,7 @@ fn a_row_is_a_line(rt: HostRuntime) -> Result<(), Fail> {
 #[test]
 fn a_file_without_text_has_a_row(rt: HostRuntime) -> Result<(), Fail> {
     let alloc = rt.alloc();
+    let text = Text::from_str(alloc, "")?;
     let cases = [
         (
             DiagnosticCode::FileNotUtf8,
@@ -218,7 +194,7 @@ fn a_file_without_text_has_a_row(rt: HostRuntime) -> Result<(), Fail> {
         ),
     ];
     for (code, line) in cases {
-        let rows = render(alloc, "/a.dart", "", &[fault(0, 0, code)])?;
+        let rows = render(alloc, "/a.dart", &text, &[fault(0, 0, code)])?;
         let lines = lines_of(alloc, rows.as_slice())?;
         assert_eq!(rt; lines.as_slice(), line.as_bytes());
     }
