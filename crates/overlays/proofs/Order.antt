@@ -20,9 +20,9 @@ abbrev pub AllBehind : List ℕ → List (List ℕ) → Type 0
 AllBehind p paths = AllByRecursion (λ q. path_cmp p q ≡ Less) paths
 
 -- what comes behind a path that comes behind p comes behind p
-behind : (p q : List ℕ) → path_cmp p q ≡ Less → (paths : List (List ℕ)) → AllBehind q paths → AllBehind p paths
-behind p q before [] all = tt
-behind p q before (r ∷ paths) all = (chained p q r before all.0, behind p q before paths all.1)
+pub all_behind : (p q : List ℕ) → path_cmp p q ≡ Less → (paths : List (List ℕ)) → AllBehind q paths → AllBehind p paths
+all_behind p q before [] all = tt
+all_behind p q before (r ∷ paths) all = (chained p q r before all.0, all_behind p q before paths all.1)
 
 -- a first path before all others is in order
 first_in_order : (p : List ℕ) (paths : List (List ℕ)) → AllBehind p paths → IsStrictlySortedBy path_cmp paths → IsStrictlySortedBy path_cmp (p ∷ paths)
@@ -50,7 +50,7 @@ order-put path text (e ∷ more) order =
     let head = sorted_head path_cmp e.0 (paths_of more) order in
     let tail = sorted_tail path_cmp e.0 (paths_of more) order in
     by_order path e.0 (λ o. IsInOrder (match_ordering o ((path, text) ∷ e ∷ more) ((path, text) ∷ more) (e ∷ put_text path text more)))
-    (λ less. first_in_order path (e.0 ∷ paths_of more) (less, behind path e.0 less (paths_of more) head) order)
+    (λ less. first_in_order path (e.0 ∷ paths_of more) (less, all_behind path e.0 less (paths_of more) head) order)
     (λ equal. first_in_order path (paths_of more) (subst (λ p. AllBehind p (paths_of more)) (sym (same_path path e.0 equal)) head) tail)
     (λ greater. first_in_order e.0 (paths_of (put_text path text more)) (all_behind-put e.0 path text more (turned path e.0 Greater greater) head) (order-put path text more tail))
 

@@ -1,10 +1,11 @@
 -- The order of paths, and that two are the same exactly where neither comes first.
-use Rattle.std.proofs.Common.{◌≡◌, ℕ, Bool, true, false, List, refl, sym, ap, ◌∙◌}
+use Rattle.std.proofs.Common.{◌≡◌, ◌≢◌, ℕ, Bool, true, false, List, refl, sym, ap, ◌∙◌}
 use Rattle.std.specs.Prelude.{bytes_eq}
 use Rattle.std.specs.Cmp.Lexicographic.{slice_cmp}
 use Rattle.std.specs.Ordering.{nat_cmp, is_eq, ordering_reverse}
 use Rattle.std.specs.declared.cmp.Ordering.{Ordering}
 use Rattle.std.specs.declared.cmp.Ordering.TheVariants.{Less, Equal, Greater}
+use Rattle.std.proofs.lemmas.Bool.{false_from_ne_true}
 use Rattle.std.proofs.lemmas.Cmp.{nat_list_cmp_total, tied_itself}
 use Rattle.std.proofs.lemmas.Map.Text.{is_eq-slice_cmp}
 use Rattle.std.proofs.lemmas.Slice.Eq.{bytes_eq-Decides}
@@ -47,3 +48,11 @@ differs-below p q is = same_by p q Less is
 
 pub differs-above : (p q : List ℕ) → path_cmp p q ≡ Greater → bytes_eq p q ≡ false
 differs-above p q is = same_by p q Greater is
+
+pub differs : (p q : List ℕ) → p ≢ q → bytes_eq p q ≡ false
+differs p q other = false_from_ne_true (bytes_eq p q) (λ same. other ((bytes_eq-Decides p q).0 same))
+
+-- the same path, or another
+pub by_sameness : (p q : List ℕ) (P : Bool → Type 0) → (p ≡ q → P true) → (bytes_eq p q ≡ false → P false) → P (bytes_eq p q)
+by_sameness p q P same other =
+    elim (bytes_eq p q) as (λ b. bytes_eq p q ≡ b → P b) [ true ↦ (λ is. same ((bytes_eq-Decides p q).0 is)) | false ↦ other ] refl

@@ -32,13 +32,13 @@ comparisons_rise table order path =
 pub searched : (table : PathsAndTexts) → IsInOrder table → (path : List ℕ) (r : Result ℕ ℕ) → IsSearchInRange r (length table) → IsBinarySearchResult (λ e. path_cmp e.0 path) table r → record { found : IfOk r (StandsAt table path); absent : IfErr r (WouldStandAt table path) }
 searched table order path (Ok at) in_range equal = record { found = record { in_range = in_range; is_it = λ d. same_path _ path (equal d) }; absent = tt }
 searched table order path (Err at) in_range parted = record {
-    found = tt;
-    absent = record {
-      in_range = in_range;
-      smaller_before = λ j d before. (parted (comparisons_rise table order path)).0 j d (omega arith) before;
-      greater_after = λ j d from to. (parted (comparisons_rise table order path)).1 j d from to;
-    };
-  }
+  found = tt;
+  absent = record {
+    in_range = in_range;
+    smaller_before = λ j d before. (parted (comparisons_rise table order path)).0 j d (omega arith) before;
+    greater_after = λ j d from to. (parted (comparisons_rise table order path)).1 j d from to;
+  };
+}
 
 module _ (path : List ℕ) where
   -- the path stands behind the first text

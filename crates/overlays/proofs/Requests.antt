@@ -1,16 +1,21 @@
 -- Edits and files one after another: one more, the first that is refused, and the end.
-use Rattle.std.proofs.Common.{◌≡◌, ℕ, ◌+◌, ◌<◌, ◌≤◌, List, [], ◌∷◌, length, get_or, drop, ◌++◌, Option, Some, None, Result, Ok, Err, refl, sym, ap, ◌∙◌, ◌⊎◌, inl, inr}
+use Rattle.std.proofs.Common.{◌≡◌, ◌≢◌, ℕ, ◌+◌, ◌<◌, ◌≤◌, List, [], ◌∷◌, length, get_or, drop, ◌++◌, Option, Some, None, Result, Ok, Err, refl, sym, ap, ◌∙◌, ◌⊎◌, inl, inr}
+use Rattle.std.specs.List.{All}
+use Rattle.std.specs.Prelude.{IfOk, MatchResult}
 use Rattle.std.proofs.lemmas.List.{at_drop_more, at_drop_all}
+use Rattle.std.proofs.lemmas.List.Elements.{All-head, All-tail}
+use Rattle.std.proofs.lemmas.Result.{IfOk-weaker}
 use Rattle.dart_text.specs.Edits.{edited}
 use Rattle.dart_text.specs.declared.edit.EditRefusal.{EditRefusal}
 use Rattle.dart_text.specs.declared.edit.EditRefusal.TheVariants as edit_refusal
 use Rattle.proto_json.specs.declared.overlay.FileOverlay.{FileOverlay}
 use Rattle.proto_json.specs.declared.overlay.OverlayEdit.{OverlayEdit}
-use Rattle.overlays.specs.Tables.{PathsAndTexts, text_in, with_text}
+use Rattle.overlays.specs.Tables.{PathsAndTexts, IsInOrder, text_in, with_text}
 use Rattle.overlays.specs.Applied.{go_on, edited_by, text_after, apply_on, applied}
 use Rattle.overlays.specs.Results.{IsUnlessMemory, IsEditedUnlessMemory}
 use Rattle.overlays.specs.declared.refusal.OverlayRefusal.{OverlayRefusal}
 use Rattle.overlays.specs.declared.refusal.OverlayRefusal.TheVariants.{Memory}
+use Rattle.overlays.proofs.LookUps.{text_in-with, text_in-with_other, order-with}
 
 -- a text after an edit
 abbrev pub after_edit : List ℕ → OverlayEdit → Result (List ℕ) EditRefusal
@@ -101,3 +106,58 @@ module _ (file : FileOverlay) (table : PathsAndTexts) (result : Result (Option (
     | inl memory ↦ inl (cc)
     | inr answer ↦ inr (ap (apply_on (applied []) file.path table) (sym answer ∙ is))
   ]
+
+-- edits and then others
+pub edits-append : (edits others : List OverlayEdit) (text : List ℕ) → edited_by (edits ++ others) text ≡ go_on (edited_by others) (edited_by edits text)
+unfolding edited_by
+edits-append [] others text = refl
+edits-append (edit ∷ edits) others text =
+    elim (after_edit text edit) as (λ r. go_on (edited_by (edits ++ others)) r ≡ go_on (edited_by others) (go_on (edited_by edits) r)) [
+      | Ok after ↦ edits-append edits others after
+      | Err refusal ↦ refl
+    ]
+
+-- an applied request leaves the texts in order
+pub order-applied : (files : List FileOverlay) (table : PathsAndTexts) → IsInOrder table → IfOk (applied files table) (λ after. IsInOrder after)
+unfolding applied
+order-applied [] table order = order
+order-applied (file ∷ files) table order =
+    elim (text_after file.path file.overlay (text_in file.path table)) as (λ r. IfOk (apply_on (applied files) file.path table r) (λ after. IsInOrder after)) [
+      | Ok text ↦ order-applied files (with_text file.path text table) (order-with file.path text table order)
+      | Err refusal ↦ tt
+    ]
+
+-- a path that no file of the request has keeps its text
+pub others-applied : (other : List ℕ) (files : List FileOverlay) (table : PathsAndTexts) → All (λ file. other ≢ file.path) files → IfOk (applied files table) (λ after. text_in other after ≡ text_in other table)
+unfolding applied
+others-applied other [] table all = refl
+others-applied other (file ∷ files) table all =
+    let is_other = λ (f : FileOverlay). other ≢ f.path in
+    let kept = λ (text : Option (List ℕ)). text_in-with_other file.path text other (All-head is_other file files all) table in
+    let more = λ (text : Option (List ℕ)). others-applied other files (with_text file.path text table) (All-tail is_other file files all) in
+    elim (text_after file.path file.overlay (text_in file.path table)) as (λ r. IfOk (apply_on (applied files) file.path table r) (λ after. text_in other after ≡ text_in other table)) [
+      | Ok text ↦ IfOk-weaker (applied files (with_text file.path text table)) _ _ (λ after same. same ∙ kept text) (more text)
+      | Err refusal ↦ tt
+    ]
+
+-- a request of one file gives it the text that its overlay makes, or is refused as this is
+pub text-applied : (file : FileOverlay) (table : PathsAndTexts) → MatchResult (text_after file.path file.overlay (text_in file.path table)) (λ text. IfOk (applied (file ∷ []) table) (λ after. text_in file.path after ≡ text)) (λ refusal. applied (file ∷ []) table ≡ Err refusal)
+unfolding applied
+text-applied file table =
+    elim (text_after file.path file.overlay (text_in file.path table)) as (λ r. MatchResult r (λ text. IfOk (apply_on (applied []) file.path table r) (λ after. text_in file.path after ≡ text)) (λ refusal. apply_on (applied []) file.path table r ≡ Err refusal)) [
+      | Ok text ↦ text_in-with file.path text table
+      | Err refusal ↦ refl
+    ]
+
+-- what more edits or files make of an answer that is known
+pub edits_go_on : (edits others : List OverlayEdit) (text after : List ℕ) → edited_by edits text ≡ Ok after → edited_by (edits ++ others) text ≡ edited_by others after
+edits_go_on edits others text after is = edits-append edits others text ∙ ap (go_on (edited_by others)) is
+
+pub edits_stop : (edits others : List OverlayEdit) (text : List ℕ) (refusal : EditRefusal) → edited_by edits text ≡ Err refusal → edited_by (edits ++ others) text ≡ Err refusal
+edits_stop edits others text refusal is = edits-append edits others text ∙ ap (go_on (edited_by others)) is
+
+pub files_go_on : (files others : List FileOverlay) (table after : PathsAndTexts) → applied files table ≡ Ok after → applied (files ++ others) table ≡ applied others after
+files_go_on files others table after is = files-append files others table ∙ ap (carry_on (applied others)) is
+
+pub files_stop : (files others : List FileOverlay) (table : PathsAndTexts) (refusal : OverlayRefusal) → applied files table ≡ Err refusal → applied (files ++ others) table ≡ Err refusal
+files_stop files others table refusal is = files-append files others table ∙ ap (carry_on (applied others)) is

@@ -8,9 +8,17 @@
 
 mod change;
 mod entry;
+mod laws;
 mod overlays;
 mod refusal;
+#[cfg(test)]
+mod tests;
 
 pub use entry::Entry;
+pub use laws::{
+    drop_changes_one_text, edits_apply_in_turn, files_apply_in_turn, one_file_gets_its_text,
+    overlays_are_their_texts, put_changes_one_text, request_changes_no_other_file,
+    request_keeps_the_order,
+};
 pub use overlays::Overlays;
 pub use refusal::OverlayRefusal;

@@ -2,7 +2,7 @@
 
 ghost use Rattle.std.specs.Prelude.{◌≡◌, ◌∷◌, [], IfOk, IfErr, OnOk, OnErr};
 ghost use Rattle.std.specs.Option.{option_copied};
-ghost use Rattle.overlays.specs.Tables.{text_in, put_text, drop_text};
+ghost use Rattle.overlays.specs.Tables.{IsInOrder, text_in, put_text, drop_text};
 ghost use Rattle.overlays.specs.Places.{StandsAt, WouldStandAt};
 ghost use Rattle.overlays.specs.Applied.{applied};
 ghost use Rattle.overlays.specs.Results.{Applies};
@@ -87,6 +87,14 @@ impl Overlays {
         Ok(Overlays { entries })
     }
 
+    /// A law of all overlays: they stand in the order of their paths, each path once.
+    pub fn paths_are_in_order(&self)
+        ensures { IsInOrder self.now }
+    {
+        // Opens the invariant for the contract.
+        let _ = &self.entries;
+    }
+
     // One file of a request changes, gains or loses its text.
     fn apply_file(&mut self, alloc: Global, file: &FileOverlay) -> Result<(), OverlayRefusal>
         ensures { Applies result self.old self.new (applied (file.now ∷ []) self.old) }
@@ -110,10 +118,15 @@ impl Overlays {
     {
         let entry = Entry::new(alloc, path, text)?;
         match self.search(path.as_str()) {
-            Ok(place) => self.entries[place] = entry,
-            Err(place) => self.entries.insert(place, entry)?,
+            Ok(place) => {
+                self.entries[place] = entry;
+                Ok(())
+            }
+            Err(place) => {
+                self.entries.insert(place, entry)?;
+                Ok(())
+            }
         }
-        Ok(())
     }
 
     // The file at the path has no overlay from now on.

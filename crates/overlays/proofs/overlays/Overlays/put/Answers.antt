@@ -24,6 +24,6 @@ pub invariant_of-self : goal.invariant_of-self
 invariant_of-self c =
     subst IsInOrder (ap (put_text c.args.path.now c.args.text) c.self.view_is ∙ sym (returns-in-Ok-clause-ok c)) (order-put c.args.path.now c.args.text c.self.inside.entries.items c.self.invariant)
 
-pub invariant_of-self-in-Continue-branch-2 : goal.invariant_of-self-in-Continue-branch-2
-invariant_of-self-in-Continue-branch-2 c =
+pub invariant_of-self-in-Err : goal.invariant_of-self-in-Err
+invariant_of-self-in-Err c =
     subst IsInOrder (ap (put_text c.args.path.now c.args.text) c.self.view_is ∙ sym (returns-in_ok-insert-in-Err-clause-ok c)) (order-put c.args.path.now c.args.text c.self.inside.entries.items c.self.invariant)
