@@ -1,17 +1,14 @@
 -- What holds of each request that is read.
-use Rattle.std.proofs.Common.{◌≡◌, ℕ, List, [], ◌∷◌, ◌++◌, map, Bool, true, false, if◌then◌else◌, Option, Some, None, option_map, option_and_then, Result, Ok, Err, IfSome, IfOk, codes, nat_le, length, refl, sym, ap, ◌∙◌, subst}
-use Rattle.std.specs.Prelude.{⊤, bytes_eq}
-use Rattle.std.specs.List.{AllPass, list_all}
+use Rattle.std.proofs.Common.{◌≡◌, ℕ, List, ◌∷◌, map, Bool, true, false, if◌then◌else◌, Option, Some, None, option_map, option_and_then, Ok, Err, IfSome, IfOk, codes, nat_le, length, refl, sym, ap, subst}
+use Rattle.std.specs.Prelude.{⊤}
 use Rattle.std.specs.List.Sorted.{IsStrictlySortedBy}
 use Rattle.std.specs.Str.{is_utf8}
 use Rattle.std.proofs.lemmas.Option.{IfSome_then}
 use Rattle.serde_json.specs.Data.{Data, Members, no_members, member}
 use Rattle.serde_json.specs.Find.{get, as_object}
 use Rattle.serde_json.specs.Read.{read}
-use Rattle.proto_json.specs.Parameters.{overlay_of, files_of, update_of, get_errors_of, set_roots_of, request_with, request_without, request_of, has_paths, text_at, texts_at}
-use Rattle.proto_json.specs.Requests.{Head, head_with, head_of, head_by, params_of, line_data, max_line, method_named, answer, answer_to, answer_to_head, answer_to_method, answer_to_params, answer_to_request}
-use Rattle.proto_json.specs.declared.overlay.FileOverlay.{FileOverlay}
-use Rattle.proto_json.specs.declared.overlay.Overlay.{Overlay}
+use Rattle.proto_json.specs.Parameters.{overlay_of, files_of, update_of, set_roots_of, request_with, request_without, request_of, has_paths, text_at, texts_at}
+use Rattle.proto_json.specs.Requests.{Head, head_with, head_of, head_by, params_of, line_data, max_line, method_named, answer, answer_to, answer_to_method, answer_to_params}
 use Rattle.proto_json.specs.declared.request.Asked.{Asked}
 use Rattle.proto_json.specs.declared.request.Method.{Method}
 use Rattle.proto_json.specs.declared.request.Method.TheVariants as method

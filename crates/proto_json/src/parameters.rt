@@ -6,7 +6,7 @@ ghost use Rattle.fault_io.specs.Paths.{is_path};
 ghost use Rattle.serde_json.specs.Find.{as_str};
 ghost use Rattle.serde_json.specs.View.{view, items_view, members_view};
 ghost use Rattle.proto_json.specs.declared.overlay.Overlay.TheVariants.{Add, Change};
-ghost use Rattle.proto_json.specs.Parameters.{text_at, integer_at, list_at, read_all, edit_of, overlay_of, files_of, update_of, get_errors_of, texts_at, set_roots_of, request_with, request_without, has_paths};
+ghost use Rattle.proto_json.specs.Parameters.{text_at, integer_at, list_at, read_all, edit_of, overlay_of, files_of, update_of, get_errors_of, texts_at, set_roots_of, request_with, request_without, request_of, has_paths};
 
 use crate::overlay::{FileOverlay, FileOverlays, Overlay, OverlayEdit, OverlayEdits};
 use crate::paths::Paths;
@@ -31,10 +31,11 @@ fn integer_of(value: &Value, key: &str) -> Option<u64>
 }
 
 // The list at a key of an object.
-fn list_of<'v>(value: &'v Value, key: &str) -> Option<&'v Vec<Value>>
-    ensures { option_map (λ list. items_view list.now.items) result ≡ list_at key.now (view value.now) }
+fn list_of<'v>(value: &'v Value, key: &str) -> Option<&'v [Value]>
+    ensures { option_map (λ list. items_view list.now) result ≡ list_at key.now (view value.now) }
 {
-    value.get(key).and_then(Value::as_array)
+    let list = value.get(key).and_then(Value::as_array)?;
+    Some(list.as_slice())
 }
 
 fn read_edit(alloc: Global, edit: &Value) -> Result<Option<OverlayEdit>, AllocError>
@@ -183,11 +184,7 @@ fn read_set_roots(alloc: Global, params: &Value) -> Result<Option<Request>, Allo
 }
 
 // The request of a method and its parameters, one row for each method.
-pub(crate) fn read_with(
-    alloc: Global,
-    method: Method,
-    params: &Value,
-) -> Result<Option<Request>, AllocError>
+fn read_with(alloc: Global, method: Method, params: &Value) -> Result<Option<Request>, AllocError>
     ensures { IfOk result (λ request. request ≡ request_with method (view params.now)) }
 {
     match method {
@@ -200,7 +197,7 @@ pub(crate) fn read_with(
 }
 
 // The request of a method whose parameters are left out.
-pub(crate) fn read_without(method: Method) -> Option<Request>
+fn read_without(method: Method) -> Option<Request>
     ensures { result ≡ request_without method }
 {
     match method {
@@ -209,6 +206,20 @@ pub(crate) fn read_without(method: Method) -> Option<Request>
         Method::UpdateContent => None,
         Method::GetErrors => None,
         Method::GetWork => Some(Request::GetWork),
+    }
+}
+
+// The request of a method, whose parameters may be left out.
+pub(crate) fn read_params(
+    alloc: Global,
+    method: Method,
+    params: Option<&Value>,
+) -> Result<Option<Request>, AllocError>
+    ensures { IfOk result (λ request. request ≡ request_of method (option_map (λ p. view p.now) params.entry)) }
+{
+    match params {
+        None => Ok(read_without(method)),
+        Some(params) => read_with(alloc, method, params),
     }
 }
 

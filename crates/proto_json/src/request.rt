@@ -5,11 +5,10 @@ ghost use Rattle.serde_json.specs.View.{view};
 ghost use Rattle.proto_json.specs.Heads.{head_view};
 ghost use Rattle.proto_json.specs.declared.request.RequestRefusal.TheVariants.{Memory};
 ghost use Rattle.proto_json.specs.Requests.{answer, answer_to_head, line_data, head_of, method_named, not_a_request, IsUnlessMemory};
-ghost use Rattle.proto_json.specs.Parameters.{request_of};
 
 use crate::code::Code;
 use crate::overlay::FileOverlays;
-use crate::parameters::{has_paths, read_with, read_without, text_of};
+use crate::parameters::{has_paths, read_params, text_of};
 use crate::paths::Paths;
 use plain_text::PlainText;
 use serde_json::Value;
@@ -116,20 +115,6 @@ fn read_head(value: &Value) -> Option<Head<'_>>
     Some(Head { id, method, params })
 }
 
-// The request of a method and the parameters that the line has.
-fn read_request_of(
-    alloc: Global,
-    method: Method,
-    params: Option<&Value>,
-) -> Result<Option<Request>, AllocError>
-    ensures { IfOk result (λ request. request ≡ request_of method (option_map (λ p. view p.now) params.entry)) }
-{
-    match params {
-        None => Ok(read_without(method)),
-        Some(params) => read_with(alloc, method, params),
-    }
-}
-
 // The request of a request object, or its refusal, which repeats the id.
 fn read_object(alloc: Global, head: &Head<'_>) -> Result<Asked, RequestRefusal>
     ensures { IsUnlessMemory result (answer_to_head (head_view head.now)) }
@@ -139,7 +124,7 @@ fn read_object(alloc: Global, head: &Head<'_>) -> Result<Asked, RequestRefusal>
         let code = Code::UnknownRequest;
         return Err(RequestRefusal::Refused { id, code });
     };
-    let Some(request) = read_request_of(alloc, method, head.params)? else {
+    let Some(request) = read_params(alloc, method, head.params)? else {
         let code = Code::InvalidParameter;
         return Err(RequestRefusal::Refused { id, code });
     };

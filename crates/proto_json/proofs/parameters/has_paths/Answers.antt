@@ -1,4 +1,3 @@
-use Rattle.std.proofs.Common.{refl}
 use Rattle.std.proofs.lemmas.List.Folds.{list_all-map}
 use Rattle.fault_io.specs.Paths.{is_path}
 use Rattle.proto_json.proofs.parameters.has_paths.Goals as goal
