@@ -4,7 +4,7 @@ ghost use Rattle.std.specs.Prelude.{◌≡◌, nat_eq, codes, Some, IfOk, option
 ghost use Rattle.std.specs.List.{ends_with};
 ghost use Rattle.serve_loop.specs.Event.{event_of, line as line_event};
 ghost use Rattle.proto_json.specs.Requests.{answer};
-ghost use Rattle.protocol_rules.specs.Turns.{at_start, invalid_turn, refused_turn, overlays_turn, update_turn, analyzed, errors_turn, asked_turn, request_turn, bytes_of};
+ghost use Rattle.protocol_rules.specs.Turns.{at_start, invalid_turn, overlays_turn, update_turn, analyzed, errors_turn, asked_turn, request_turn, bytes_of};
 ghost use Rattle.dart_serve.specs.Said.{Gives, Answered};
 
 use check_library::check;
@@ -29,7 +29,7 @@ pub struct Said {
 
 /// A refusal of a request.
 fn refused(id: PlainText, code: Code) -> Said
-    ensures { (contents : Contents) → Gives result contents (refused_turn contents id code) }
+    ensures { result ≡ record { id = id; body = ReplyBody.Error code } }
 {
     let body = ReplyBody::Error(code);
     Said { id, body }

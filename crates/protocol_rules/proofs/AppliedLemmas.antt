@@ -1,5 +1,5 @@
 -- Want of memory is no answer of the definition of an update.
-use Rattle.std.proofs.Common.{◌≡◌, ◌≢◌, ℕ, ◌+◌, List, [], ◌∷◌, Bool, true, false, if◌then◌else◌, length, nat_le, nat_lt, Option, None, Some, Result, Ok, Err, refl}
+use Rattle.std.proofs.Common.{◌≢◌, ℕ, ◌+◌, List, [], ◌∷◌, Bool, true, false, if◌then◌else◌, length, nat_le, nat_lt, Option, None, Some, Result, Ok, Err, refl}
 use Rattle.dart_text.specs.Edits.{edited, replaced, max_text}
 use Rattle.dart_text.specs.Units.{units_of, splits_pair}
 use Rattle.dart_text.specs.declared.edit.EditRefusal.{EditRefusal}
@@ -11,7 +11,7 @@ use Rattle.proto_json.specs.declared.overlay.OverlayEdit.{OverlayEdit}
 use Rattle.overlays.specs.Applied.{go_on, edited_by, changed, text_after, apply_on, applied}
 use Rattle.overlays.specs.Tables.{PathsAndTexts, text_in, with_text}
 use Rattle.overlays.specs.declared.refusal.OverlayRefusal.{OverlayRefusal}
-use Rattle.overlays.specs.declared.refusal.OverlayRefusal.TheVariants.{BadChange, TooLong, Memory}
+use Rattle.overlays.specs.declared.refusal.OverlayRefusal.TheVariants.{Memory}
 
 -- what holds of both choices holds of the one that is taken
 of_choice : {T : Type 0} (P : T → Type 0) (b : Bool) (x y : T) → P x → P y → P (if b then x else y)

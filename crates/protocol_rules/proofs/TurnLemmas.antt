@@ -1,7 +1,6 @@
 -- What all refusals, all replies and all updates have in common.
-use Rattle.std.proofs.Common.{◌≡◌, ◌≢◌, ◌⊎◌, ℕ, List, [], Bool, true, false, if◌then◌else◌, Option, None, Some, Result, Ok, Err, IfSome, inl, inr, refl, sym, subst}
+use Rattle.std.proofs.Common.{◌≡◌, ◌≢◌, ℕ, List, [], Bool, true, false, if◌then◌else◌, Option, None, Some, Result, Ok, Err, IfSome, inl, inr, refl, sym, subst}
 use Rattle.std.specs.Option.{option_map_or}
-use Rattle.std.specs.Prelude.{option_and_then}
 use Rattle.serve_loop.specs.Event.{Event, line, too_long}
 use Rattle.proto_json.specs.Parameters.{has_paths, request_of}
 use Rattle.proto_json.specs.Requests.{Head, head_by, method_named, answer, answer_to, answer_to_head, answer_to_method, answer_to_params, answer_to_request}
@@ -23,7 +22,7 @@ use Rattle.protocol_rules.proofs.AppliedLemmas.{applied-is}
 use Rattle.protocol_rules.specs.Limits.{passes_limit}
 use Rattle.protocol_rules.specs.Skipped.{is_skipped}
 use Rattle.protocol_rules.specs.Turns.{Turn, turn, refused_turn, overlays_turn, updated_turn, asked_turn, request_turn}
-use Rattle.protocol_rules.specs.Updates.{TakesAll, TakesNone, TakesAllOrNone}
+use Rattle.protocol_rules.specs.Updates.{TakesNone, TakesAllOrNone}
 use Rattle.protocol_rules.specs.declared.contents.Contents.{Contents}
 
 -- what holds of the turn of a refusal, and of the turn that takes overlays within the limits, holds of the turn that tests the limits
