@@ -1,12 +1,17 @@
 -- Texts in which nothing is wrong, and their programs.
-use Rattle.std.proofs.Common.{◌≡◌, ◌≢◌, ℕ, suc, ◌==◌, ◌<◌, ◌≤◌, Bool, true, false, nat_le, List, [], ◌∷◌, length, Option, None, Some, IfSome, refl, sym, subst, ◌∙◌, arith}
+use Rattle.std.proofs.Common.{◌≡◌, ◌≢◌, ℕ, suc, ◌==◌, Bool, true, false, if◌then◌else◌, nat_le, List, [], ◌∷◌, length, Option, None, Some, Result, Ok, Err, IfSome, inl, inr, refl, sym, subst, ◌∙◌}
 use Rattle.std.specs.Option.{option_map_or}
 use Rattle.std.specs.Str.{is_utf8}
 use Rattle.std.specs.BTreeSet.{insert_key}
 use Rattle.std.specs.Ordering.{match_ordering}
 use Rattle.std.specs.declared.cmp.Ordering.{Ordering}
 use Rattle.std.specs.declared.cmp.Ordering.TheVariants.{Less, Equal, Greater}
+use Rattle.dart_text.specs.Edits.{max_text, short_text, text_in_bytes}
+use Rattle.dart_text.specs.Results.{IsUnlessMemory}
+use Rattle.dart_text.specs.declared.text.TextRefusal.{TextRefusal}
+use Rattle.dart_text.specs.declared.text.TextRefusal.TheVariants.{NotUtf8, TooLong, Memory}
 use Rattle.dart_tree.specs.Tree.{Tree}
+use Rattle.proto_json.specs.declared.reply.ErrorRow.{ErrorRow}
 use Rattle.judgement.specs.declared.Fault.{Fault}
 use Rattle.check_library.specs.Grammar.{tree_of}
 use Rattle.check_library.specs.Order.{fault_cmp, sorted_faults}
@@ -18,14 +23,11 @@ use Rattle.core_machine.specs.State.{run_of}
 use Rattle.elaborate.specs.Elaborated.{IsElaborationOf}
 use Rattle.diagnostics.specs.Rendering.{rows_of, lines_of_rows}
 use Rattle.judgement.specs.declared.DiagnosticCode.TheVariants.{FileNotUtf8, ProfileFileLength}
-use Rattle.std.specs.Str.{IsUtf8}
-use Rattle.std.proofs.lemmas.Str.{IsUtf8-from_is_utf8, is_utf8-from_IsUtf8}
 use Rattle.std.proofs.Math.Dec.{eqb-suc-zero}
 use Rattle.std.proofs.lemmas.Bool.{true≢false}
-use Rattle.std.proofs.lemmas.Bool.Decides.{nat_tests}
 use Rattle.dart_serve.specs.declared.status.Status.{Status}
 use Rattle.dart_serve.specs.declared.status.Status.TheVariants.{Errors}
-use Rattle.dart_serve.specs.Run.{file_limit, no_text, rows_of_file, Prints, ProgramGives, RowsGive}
+use Rattle.dart_serve.specs.Run.{no_text, rows_of_file, Prints, ProgramGives, RowsGive}
 use Rattle.dart_serve.proofs.WritesLemmas.{Says}
 use Rattle.dart_serve.proofs.RunLemmas.{IsSound}
 
@@ -79,26 +81,24 @@ pub given_by_rows : (file bytes text : List ℕ) (steps : ℕ) (faults : List Fa
 given_by_rows file bytes text steps [] some output status says = absurd (some refl)
 given_by_rows file bytes text steps (fault ∷ faults) some output status says = says
 
-false_of : (b : Bool) → b ≢ true → b ≡ false
-false_of true wrong = absurd (wrong refl)
-false_of false wrong = refl
+-- the rows of a file by what its bytes are
+abbrev pub RowsBy : (file bytes : List ℕ) → List ErrorRow → Result (List ℕ) TextRefusal → Type 0
+RowsBy file bytes rows (Ok text) = (text ≡ bytes) × (rows ≡ rows_of file bytes (diagnostics bytes))
+RowsBy file bytes rows (Err NotUtf8) = rows ≡ rows_of file [] (no_text FileNotUtf8 ∷ [])
+RowsBy file bytes rows (Err (TooLong count)) = rows ≡ rows_of file [] (no_text ProfileFileLength ∷ [])
+RowsBy file bytes rows (Err Memory) = Unit {0}
 
--- the rows of a file that isn't UTF-8
-pub rows_of_no_text : (file bytes : List ℕ) → (IsUtf8 bytes → ⊥) → rows_of_file file bytes ≡ rows_of file [] (no_text FileNotUtf8 ∷ [])
-rows_of_no_text file bytes not_text =
-    let is : is_utf8 bytes ≡ false = false_of (is_utf8 bytes) (λ is. not_text (IsUtf8-from_is_utf8 bytes is)) in
-    rw is refl
+rows_of_short : (file bytes : List ℕ) (short : Bool) → RowsBy file bytes (if short then rows_of file bytes (diagnostics bytes) else rows_of file [] (no_text ProfileFileLength ∷ [])) (if short then Ok bytes else Err (TooLong (length bytes)))
+rows_of_short file bytes true = (refl, refl)
+rows_of_short file bytes false = refl
 
--- the rows of a text that is too long
-pub rows_of_long_text : (file bytes : List ℕ) → IsUtf8 bytes → file_limit < length bytes → rows_of_file file bytes ≡ rows_of file [] (no_text ProfileFileLength ∷ [])
-rows_of_long_text file bytes text long =
-    let is : is_utf8 bytes ≡ true = is_utf8-from_IsUtf8 bytes text in
-    let past : nat_le (length bytes) file_limit ≡ false = grind (arith, nat_tests, long) in
-    rw (is, past) refl
+rows_of_answer : (file bytes : List ℕ) → RowsBy file bytes (rows_of_file file bytes) (text_in_bytes bytes)
+unfolding text_in_bytes short_text
+rows_of_answer file bytes =
+    elim (is_utf8 bytes) as (λ utf8. RowsBy file bytes (if utf8 then (if nat_le (length bytes) max_text then rows_of file bytes (diagnostics bytes) else rows_of file [] (no_text ProfileFileLength ∷ [])) else rows_of file [] (no_text FileNotUtf8 ∷ [])) (if utf8 then (if nat_le (length bytes) max_text then Ok bytes else Err (TooLong (length bytes))) else Err NotUtf8))
+    [ true ↦ rows_of_short file bytes (nat_le (length bytes) max_text) | false ↦ refl ]
 
--- the rows of a text that isn't
-pub rows_of_short_text : (file bytes : List ℕ) → IsUtf8 bytes → length bytes ≤ file_limit → rows_of_file file bytes ≡ rows_of file bytes (diagnostics bytes)
-rows_of_short_text file bytes text short =
-    let is : is_utf8 bytes ≡ true = is_utf8-from_IsUtf8 bytes text in
-    let within : nat_le (length bytes) file_limit ≡ true = grind (arith, nat_tests, short) in
-    rw (is, within) refl
+-- the rows of a file by what was made of its bytes
+pub rows_of_found : (file bytes : List ℕ) (found : Result (List ℕ) TextRefusal) → IsUnlessMemory found (text_in_bytes bytes) → RowsBy file bytes (rows_of_file file bytes) found
+rows_of_found file bytes found (inl memory) = subst (RowsBy file bytes (rows_of_file file bytes)) (sym memory) tt
+rows_of_found file bytes found (inr is) = subst (RowsBy file bytes (rows_of_file file bytes)) (sym is) (rows_of_answer file bytes)

@@ -3,6 +3,7 @@ use Rattle.std.specs.Prelude.{◌≡◌, ◌≢◌, ◌⊎◌, ℕ, ◌<◌, Boo
 use Rattle.std.specs.List.{ends_with}
 use Rattle.std.specs.Option.{ForSome}
 use Rattle.std.specs.Str.{is_utf8}
+use Rattle.dart_text.specs.Edits.{max_text}
 use Rattle.fault_io.specs.Bytes.{and_then}
 use Rattle.fault_io.specs.Faults.{Rose}
 use Rattle.fault_io.specs.Stored.{Stored, bytes_at}
@@ -31,10 +32,6 @@ is_library file = ends_with nat_eq file (codes ".dart")
 abbrev pub library_of : (file : List ℕ) → Option (List ℕ) → Option (List ℕ)
 library_of file given = if is_library file then given else None
 
--- the most bytes of a file that is run
-abbrev pub file_limit : ℕ
-file_limit = 4194304
-
 -- what is written where there is no library of the name
 abbrev pub no_library_line : List ℕ
 no_library_line = codes "dart_serve: no such library" ++ 10 ∷ []
@@ -51,7 +48,7 @@ no_text code = record { span = record { start = 0; end = 0 }; code = code }
 abbrev pub rows_of_file : (file bytes : List ℕ) → List ErrorRow
 rows_of_file file bytes =
     if is_utf8 bytes
-    then (if nat_le (length bytes) file_limit then rows_of file bytes (diagnostics bytes) else rows_of file [] (no_text ProfileFileLength ∷ []))
+    then (if nat_le (length bytes) max_text then rows_of file bytes (diagnostics bytes) else rows_of file [] (no_text ProfileFileLength ∷ []))
     else rows_of file [] (no_text FileNotUtf8 ∷ [])
 
 -- the whole output of a run whose steps lead there, and its status: what it printed, and where it hasn't ended, that its steps are spent; no run goes wrong

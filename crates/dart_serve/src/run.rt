@@ -1,9 +1,8 @@
 //! The run of a file.
 
-ghost use Rattle.std.specs.Prelude.{◌≡◌, ◌≢◌, ℕ, ◌<◌, ◌≤◌, List, [], ◌∷◌, ◌++◌, Ok, Err, IfOk, IfSome, OnOk, OnErr, length, take};
+ghost use Rattle.std.specs.Prelude.{◌≡◌, ◌≢◌, ℕ, ◌<◌, List, [], ◌∷◌, ◌++◌, Err, IfOk, IfSome, OnOk, OnErr, length, take};
 ghost use Rattle.fault_io.specs.Bytes.{and_then};
 ghost use Rattle.fault_io.specs.Faults.{Rose};
-ghost use Rattle.proto_json.specs.SourceTexts.{max_text};
 ghost use Rattle.check_library.specs.Checked.{IsFaultless};
 ghost use Rattle.check_library.specs.Diagnostics.{diagnostics};
 ghost use Rattle.diagnostics.specs.Rendering.{rows_of, lines_of_rows};
@@ -12,7 +11,7 @@ ghost use Rattle.core_machine.specs.Steps.{Kind};
 ghost use Rattle.core_machine.specs.State.{Wrong, run_of, step_of, told};
 ghost use Rattle.dart_serve.specs.Words.{Run};
 ghost use Rattle.dart_serve.specs.Output.{MayEnd};
-ghost use Rattle.dart_serve.specs.Run.{file_limit, no_library_line, rows_of_file, Prints, RowsGive, Writes, Counts, status_after, no_text, RunOutput};
+ghost use Rattle.dart_serve.specs.Run.{no_library_line, rows_of_file, Prints, RowsGive, Writes, Counts, status_after, no_text, RunOutput};
 
 use crate::session::is_dart;
 use crate::status::Status;
@@ -21,15 +20,13 @@ use core_check::{Accepted, accept, faults_are_clauses_that_fail};
 use core_machine::{
     Machine, Turn, a_run_that_is_over_stays, never_wrong, steps_add_to_what_was_printed,
 };
+use dart_text::{Text, TextRefusal};
 use dart_tree::Span;
 use diagnostics::{lines_of, render};
 use elaborate::elaborate;
 use fault_io::{Files, FilesRefusal, Sink, WriteRefusal, write_all_of};
 use judgement::{DiagnosticCode, Fault};
 use std::alloc::{AllocError, Global};
-
-/// The most bytes of a file that is run: 4 MiB.
-const FILE_LIMIT: usize = 4_194_304;
 
 /// What a run prints is written where it has come to so many bytes, and at its end.
 const PIECE: usize = 65_536;
@@ -59,16 +56,27 @@ fn report<K: Sink>(
     alloc: Global,
     sink: &mut K,
     file: &str,
-    text: &str,
+    text: &Text,
     faults: &[Fault],
 ) -> Result<Status, WriteRefusal>
-    requires { length text.now ≤ max_text }
     ensures writes { Writes (λ output s. (output ≡ lines_of_rows (rows_of file.now text.now faults.now)) × (s ≡ Status.Errors)) (K.written sink.old) (K.written sink.new) result }
     ensures counts { Counts result (K.faults sink.old) (K.faults sink.new) }
 {
     let rows = render(alloc, file, text, faults)?;
     let lines = lines_of(alloc, rows.as_slice())?;
     say(alloc, sink, lines.as_slice(), Status::Errors)
+}
+
+/// The empty text.
+#[tactic(auto, unfolding(dart_text::specs::Edits::short_text))]
+fn empty_text(alloc: Global) -> Result<Text, AllocError>
+    ensures { IfOk result (λ text. text ≡ []) }
+{
+    match Text::from_str(alloc, "") {
+        Ok(text) => Ok(text),
+        Err(TextRefusal::NotUtf8 | TextRefusal::TooLong { .. }) => unreachable!(),
+        Err(TextRefusal::Memory) => Err(AllocError),
+    }
 }
 
 /// Prints the line of a file that holds no text.
@@ -82,7 +90,8 @@ fn report_file<K: Sink>(
     ensures counts { Counts result (K.faults sink.old) (K.faults sink.new) }
 {
     let span = Span { start: 0, end: 0 };
-    report(alloc, sink, file, "", &[Fault { span, code }])
+    let empty = empty_text(alloc)?;
+    report(alloc, sink, file, &empty, &[Fault { span, code }])
 }
 
 /// The core program of a library in whose text nothing is wrong. It is accepted, and no number of
@@ -166,14 +175,13 @@ fn run_text<K: Sink>(
     alloc: Global,
     sink: &mut K,
     file: &str,
-    text: &str,
+    text: &Text,
     steps: u64,
 ) -> Result<Status, WriteRefusal>
-    requires { length text.now ≤ file_limit }
     ensures writes { Writes (RowsGive text.now steps (rows_of file.now text.now (diagnostics text.now))) (K.written sink.old) (K.written sink.new) result }
     ensures counts { Counts result (K.faults sink.old) (K.faults sink.new) }
 {
-    let checked = check(alloc, file, text)?;
+    let checked = check(alloc, file, text.as_str())?;
     let faults = checked.diagnostics.as_slice();
     if !faults.is_empty() {
         return report(alloc, sink, file, text, faults);
@@ -193,13 +201,14 @@ fn run_bytes<K: Sink>(
     ensures writes { Writes (RowsGive bytes.now steps (rows_of_file file.now bytes.now)) (K.written sink.old) (K.written sink.new) result }
     ensures counts { Counts result (K.faults sink.old) (K.faults sink.new) }
 {
-    let Ok(text) = str::from_utf8(bytes) else {
-        return report_file(alloc, sink, file, DiagnosticCode::FileNotUtf8);
-    };
-    if text.len() > FILE_LIMIT {
-        return report_file(alloc, sink, file, DiagnosticCode::ProfileFileLength);
+    match Text::new(alloc, bytes) {
+        Ok(text) => run_text(alloc, sink, file, &text, steps),
+        Err(TextRefusal::NotUtf8) => report_file(alloc, sink, file, DiagnosticCode::FileNotUtf8),
+        Err(TextRefusal::TooLong { .. }) => {
+            report_file(alloc, sink, file, DiagnosticCode::ProfileFileLength)
+        }
+        Err(TextRefusal::Memory) => Err(WriteRefusal::Memory),
     }
-    run_text(alloc, sink, file, text, steps)
 }
 
 /// The status of an end.

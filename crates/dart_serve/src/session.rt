@@ -4,17 +4,19 @@ ghost use Rattle.std.specs.Prelude.{◌≡◌, nat_eq, codes, Some, IfOk, option
 ghost use Rattle.std.specs.List.{ends_with};
 ghost use Rattle.serve_loop.specs.Event.{event_of, line as line_event};
 ghost use Rattle.proto_json.specs.Requests.{answer};
-ghost use Rattle.protocol_rules.specs.Turns.{at_start, invalid_turn, update_turn, analyzed, errors_turn, asked_turn, request_turn, bytes_of};
+ghost use Rattle.protocol_rules.specs.Turns.{at_start, invalid_turn, overlays_turn, update_turn, analyzed, errors_turn, asked_turn, request_turn, bytes_of};
 ghost use Rattle.dart_serve.specs.Said.{Gives, Answered};
 
 use check_library::check;
+use dart_text::Text;
 use diagnostics::render;
 use fault_io::Files;
+use overlays::{OverlayRefusal, Overlays};
 use plain_text::PlainText;
 use proto_json::{
-    Asked, Code, ReplyBody, Request, RequestRefusal, SourceText, read_request, write_reply,
+    Asked, Code, FileOverlay, ReplyBody, Request, RequestRefusal, read_request, write_reply,
 };
-use protocol_rules::{Contents, Texts, is_skipped};
+use protocol_rules::{Contents, is_skipped, passes_limit};
 use serve_loop::{Answerer, Heard};
 use std::alloc::{AllocError, Global};
 
@@ -25,27 +27,50 @@ pub struct Said {
     body: ReplyBody,
 }
 
+/// A refusal of a request.
+fn refused(id: PlainText, code: Code) -> Said
+    ensures { result ≡ record { id = id; body = ReplyBody.Error code } }
+{
+    let body = ReplyBody::Error(code);
+    Said { id, body }
+}
+
 /// What is said to a line that is no request.
 fn invalid(alloc: Global, contents: &Contents) -> Result<Said, AllocError>
     ensures { IfOk result (λ said. Gives said contents.now (invalid_turn contents.now)) }
 {
     let id = PlainText::new(alloc, "")?;
-    let body = ReplyBody::Error(Code::InvalidRequest);
-    Ok(Said { id, body })
+    Ok(refused(id, Code::InvalidRequest))
 }
 
-/// The file has the text from now on.
+/// The client has given these texts from now on, unless they pass a limit.
+fn put_in_place(contents: &mut Contents, id: PlainText, overlays: Overlays) -> Said
+    ensures { Gives result contents.new (overlays_turn contents.old id overlays) }
+{
+    if passes_limit(&overlays) {
+        return refused(id, Code::ProfileLimit);
+    }
+    contents.overlays = overlays;
+    let body = ReplyBody::Plain;
+    Said { id, body }
+}
+
+/// The files change, gain or lose their texts, all of them or none.
 fn update(
+    alloc: Global,
     contents: &mut Contents,
     id: PlainText,
-    path: PlainText,
-    content: SourceText,
+    files: &[FileOverlay],
 ) -> Result<Said, AllocError>
-    ensures { IfOk result (λ said. Gives said contents.new (update_turn contents.old id path content)) }
+    ensures { IfOk result (λ said. Gives said contents.new (update_turn contents.old id files.now)) }
 {
-    contents.texts.put(path, content)?;
-    let body = ReplyBody::Plain;
-    Ok(Said { id, body })
+    let mut overlays = contents.overlays.copy()?;
+    match overlays.apply(alloc, files) {
+        Ok(()) => Ok(put_in_place(contents, id, overlays)),
+        Err(OverlayRefusal::BadChange { .. }) => Ok(refused(id, Code::InvalidOverlayChange)),
+        Err(OverlayRefusal::TooLong { .. }) => Ok(refused(id, Code::ProfileLimit)),
+        Err(OverlayRefusal::Memory) => Err(AllocError),
+    }
 }
 
 /// The name ends in `.dart`.
@@ -56,11 +81,11 @@ pub fn is_dart(file: &str) -> bool
 }
 
 /// The text of the file, if it is analyzed.
-fn analyzed<'c>(contents: &'c Contents, file: &str) -> Option<&'c SourceText>
+fn analyzed<'c>(contents: &'c Contents, file: &str) -> Option<&'c Text>
     ensures { option_copied result ≡ analyzed contents.now file.now }
 {
     if is_dart(file) {
-        contents.texts.get(file)
+        contents.overlays.text(file)
     } else {
         None
     }
@@ -71,11 +96,10 @@ fn errors(alloc: Global, contents: &Contents, id: PlainText, file: &str) -> Resu
     ensures { IfOk result (λ said. Gives said contents.now (errors_turn contents.now id file.now)) }
 {
     let Some(text) = analyzed(contents, file) else {
-        let body = ReplyBody::Error(Code::GetErrorsInvalidFile);
-        return Ok(Said { id, body });
+        return Ok(refused(id, Code::GetErrorsInvalidFile));
     };
     let checked = check(alloc, file, text.as_str())?;
-    let rows = render(alloc, file, text.as_str(), checked.diagnostics.as_slice())?;
+    let rows = render(alloc, file, text, checked.diagnostics.as_slice())?;
     let body = ReplyBody::Errors(rows);
     Ok(Said { id, body })
 }
@@ -86,8 +110,11 @@ fn said_to_request(alloc: Global, contents: &mut Contents, asked: Asked) -> Resu
 {
     let Asked { id, request } = asked;
     match request {
-        Request::Update { path, content } => update(contents, id, path, content),
+        Request::SetRoots { .. } => Ok(refused(id, Code::UnknownRequest)),
+        Request::Reanalyze => Ok(refused(id, Code::UnknownRequest)),
+        Request::Update { files } => update(alloc, contents, id, files.as_slice()),
         Request::GetErrors { file } => errors(alloc, contents, id, file.as_str()),
+        Request::GetWork => Ok(refused(id, Code::UnknownRequest)),
     }
 }
 
@@ -97,10 +124,7 @@ fn said_to_line(alloc: Global, contents: &mut Contents, line: &[u8]) -> Result<S
 {
     match read_request(alloc, line) {
         Ok(asked) => said_to_request(alloc, contents, asked),
-        Err(RequestRefusal::Refused { id, code }) => {
-            let body = ReplyBody::Error(code);
-            Ok(Said { id, body })
-        }
+        Err(RequestRefusal::Refused { id, code }) => Ok(refused(id, code)),
         Err(RequestRefusal::Memory) => Err(AllocError),
     }
 }
@@ -126,7 +150,7 @@ impl Session {
     {
         Session {
             contents: Contents {
-                texts: Texts::new(alloc),
+                overlays: Overlays::new(alloc),
             },
         }
     }

@@ -9,6 +9,7 @@ use std::test::Fail;
 
 mod programs;
 mod runs;
+mod updates;
 
 const ADD_CLEAN: &str =
     "{\"id\":\"1\",\"method\":\"analysis.updateContent\",\"params\":{\"files\":{\"/a.dart\":{\"type\":\"add\",\"content\":\"void main() {}\"}}}}\n";
@@ -129,7 +130,7 @@ fn sessions_are_served(rt: HostRuntime) -> Result<(), Fail> {
 #[test]
 fn a_refused_line_changes_nothing(rt: HostRuntime) -> Result<(), Fail> {
     let a = rt.alloc();
-    let refusals: [(&str, &str); 9] = [
+    let refusals: [(&str, &str); 18] = [
         // The line is no request, whatever else is wrong with it.
         (
             r#"{"id":"3","method":"analysis.getErrors","params":{"file":"/a.dart"}"#,
@@ -154,12 +155,50 @@ fn a_refused_line_changes_nothing(rt: HostRuntime) -> Result<(), Fail> {
         ),
         // The parameters are of another form.
         (
-            r#"{"id":"5","method":"analysis.updateContent","params":{"files":{"/a.dart":{"type":"remove"}}}}"#,
+            r#"{"id":"5","method":"analysis.updateContent","params":{"files":{"/a.dart":{"type":"remove"},"a.dart":{"type":"delete"}}}}"#,
+            r#"{"error":{"code":"INVALID_PARAMETER","message":"A parameter is missing or of another kind."},"id":"5"}"#,
+        ),
+        (
+            r#"{"id":"5","method":"analysis.updateContent","params":{"files":{"/a.dart":{"type":"change","edits":[{"offset":0.0,"length":0,"replacement":" "}]}}}}"#,
+            r#"{"error":{"code":"INVALID_PARAMETER","message":"A parameter is missing or of another kind."},"id":"5"}"#,
+        ),
+        (
+            r#"{"id":"5","method":"analysis.updateContent","params":{"files":{"/a.dart":{"type":"change","edits":[{"offset":0,"length":18446744073709551616,"replacement":" "}]}}}}"#,
             r#"{"error":{"code":"INVALID_PARAMETER","message":"A parameter is missing or of another kind."},"id":"5"}"#,
         ),
         (
             r#"{"id":"5","method":"analysis.getErrors"}"#,
             r#"{"error":{"code":"INVALID_PARAMETER","message":"A parameter is missing or of another kind."},"id":"5"}"#,
+        ),
+        (
+            r#"{"id":"5","method":"analysis.setAnalysisRoots","params":{"included":["/"]}}"#,
+            r#"{"error":{"code":"INVALID_PARAMETER","message":"A parameter is missing or of another kind."},"id":"5"}"#,
+        ),
+        // A path isn't absolute, or isn't normalized.
+        (
+            r#"{"id":"6","method":"analysis.getErrors","params":{"file":"a.dart"}}"#,
+            r#"{"error":{"code":"INVALID_FILE_PATH_FORMAT","message":"The path is not absolute and normalized."},"id":"6"}"#,
+        ),
+        (
+            r#"{"id":"6","method":"analysis.updateContent","params":{"files":{"/a.dart":{"type":"remove"},"/b/../a.dart":{"type":"change","edits":[]}}}}"#,
+            r#"{"error":{"code":"INVALID_FILE_PATH_FORMAT","message":"The path is not absolute and normalized."},"id":"6"}"#,
+        ),
+        (
+            r#"{"id":"6","method":"analysis.setAnalysisRoots","params":{"included":["/"],"excluded":["/a/"]}}"#,
+            r#"{"error":{"code":"INVALID_FILE_PATH_FORMAT","message":"The path is not absolute and normalized."},"id":"6"}"#,
+        ),
+        // The method has a form, but isn't served.
+        (
+            r#"{"id":"7","method":"analysis.setAnalysisRoots","params":{"included":["/"],"excluded":[]}}"#,
+            r#"{"error":{"code":"UNKNOWN_REQUEST","message":"The method is not known."},"id":"7"}"#,
+        ),
+        (
+            r#"{"id":"7","method":"analysis.reanalyze"}"#,
+            r#"{"error":{"code":"UNKNOWN_REQUEST","message":"The method is not known."},"id":"7"}"#,
+        ),
+        (
+            r#"{"id":"7","method":"profile.getWork"}"#,
+            r#"{"error":{"code":"UNKNOWN_REQUEST","message":"The method is not known."},"id":"7"}"#,
         ),
         // The file was given no text, or its name is not that of a library.
         (

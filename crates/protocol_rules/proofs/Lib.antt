@@ -1,1 +1,2 @@
+pub mod AppliedLemmas
 pub mod TurnLemmas

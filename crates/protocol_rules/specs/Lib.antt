@@ -1,3 +1,4 @@
 pub mod Skipped
 pub mod Limits
 pub mod Turns
+pub mod Updates

@@ -1,12 +1,16 @@
 //! Laws of replies and states, over their definitions alone.
 
-ghost use Rattle.std.specs.Prelude.{◌≡◌, [], IfSome};
+ghost use Rattle.std.specs.Prelude.{◌≡◌, ℕ, List, [], false, Ok, IfSome};
 ghost use Rattle.std.specs.Option.{option_map_or};
 ghost use Rattle.serve_loop.specs.Event.{Event, line as line_event};
-ghost use Rattle.proto_json.specs.Requests.{head_by};
+ghost use Rattle.proto_json.specs.Requests.{answer, head_by};
 ghost use Rattle.proto_json.specs.declared.code.Code.{Code};
+ghost use Rattle.proto_json.specs.declared.overlay.FileOverlay.{FileOverlay};
 ghost use Rattle.proto_json.specs.declared.reply.ReplyBody.TheVariants.{Error};
-ghost use Rattle.protocol_rules.specs.Turns.{turn};
+ghost use Rattle.proto_json.specs.declared.request.Request.TheVariants.{Update};
+ghost use Rattle.protocol_rules.specs.Limits.{passes_limit};
+ghost use Rattle.protocol_rules.specs.Turns.{at_start, turn};
+ghost use Rattle.protocol_rules.specs.Updates.{TakesAllOrNone};
 
 use crate::contents::Contents;
 
@@ -19,4 +23,16 @@ pub fn a_refusal_changes_nothing(_contents: &Contents)
 /// where the line is none.
 pub fn a_reply_repeats_the_id(_contents: &Contents, _line: &[u8])
     ensures { IfSome (turn _contents.now (line_event _line.now)) (λ t. t.id ≡ option_map_or (λ h. h.id) (head_by _line.now) []) }
+{}
+
+/// The files of an update are all applied, one after another, and the texts are then within the
+/// limits; or the update is refused, and the state is as it was.
+pub fn an_update_is_taken_whole_or_not_at_all(_contents: &Contents, _line: &[u8])
+    ensures { (id : List ℕ) (files : List FileOverlay) → answer _line.now ≡ Ok record { id = id; request = Update files } → IfSome (turn _contents.now (line_event _line.now)) (TakesAllOrNone _contents.now files) }
+{}
+
+/// At the start the texts are within the limits, and no event takes them past these.
+pub fn texts_keep_within_the_limits(_contents: &Contents)
+    ensures start { passes_limit at_start.overlays ≡ false }
+    ensures next { passes_limit _contents.now.overlays ≡ false → (event : Event) → IfSome (turn _contents.now event) (λ t. passes_limit t.after.overlays ≡ false) }
 {}
