@@ -1,8 +1,8 @@
 //! Small programs and their diagnostics, worked out by hand from the rules of the language.
 
 use check_library::check;
+use dart_text::MAX_TEXT;
 use diagnostics::code_name;
-use proto_json::MAX_TEXT;
 use std::alloc::Global;
 use std::process::Abort;
 use std::test::Fail;
