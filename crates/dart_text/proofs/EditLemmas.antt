@@ -53,6 +53,7 @@ module _ (text : List ℕ) (u : IsUtf8 text) (short : length text ≤ max_text) 
       let counted = all_units text u end_offset end at_end all in
       edited_past text offset count with (omega arith) ∙ ap (λ n. Err (OutOfRange n)) (sym counted)
 
+  -- where the end isn't past the text, the sum is the end itself, and an offset that a cursor falls short of lies inside a pair
   module _ (apart : end.bytes ≡ length text → end.units < end_offset → ⊥) where
     end_within : end_offset ≤ length (units_of text)
     end_within = offset_within text u end_offset end at_end apart

@@ -25,6 +25,7 @@ record Cut (cs : List ℕ) (offset : ℕ) : Type 0 where
   before : take offset (units cs) ≡ units front
   behind : drop offset (units cs) ≡ units back
 
+-- one more character of one unit, and one of two
 cut_one : (c : ℕ) (cs : List ℕ) (offset : ℕ) → encode_utf16 c ≡ c ∷ [] → Cut cs offset → Cut (c ∷ cs) (suc offset)
 cut_one c cs offset one cut = record {
   front = c ∷ cut.front;
@@ -69,6 +70,7 @@ cut_at (c ∷ cs) (suc (suc offset)) within whole = elim (cases_lt c 0x1_0000) [
       )
 ]
 
+-- characters that are put together, and parts of characters
 scalars-append : (xs ys : List ℕ) → scalars xs ≡ true → scalars ys ≡ true → scalars (xs ++ ys) ≡ true
 scalars-append [] ys left right = right
 scalars-append (c ∷ xs) ys left right =
@@ -91,7 +93,8 @@ unfolding units_of text_of
 units_spelt cs ok = ap (λ l. units (chars (encodes l))) (all_spelt cs ok) ∙ ap units (chars-encodes cs ok)
 
 -- so are those of parts of texts that are put together, where they were cut between characters
-module _ (cs ds : List ℕ) (offset end : ℕ) (ok : scalars cs ≡ true) (ok' : scalars ds ≡ true) (start : Cut cs offset) (stop : Cut cs end) where
+module _ (cs ds : List ℕ) (offset end : ℕ) (ok : scalars cs ≡ true) (others : scalars ds ≡ true) (start : Cut cs offset) (stop : Cut cs end) where
+  -- the characters of the parts
   joined : List ℕ
   joined = (start.front ++ ds) ++ stop.back
 
@@ -107,18 +110,18 @@ module _ (cs ds : List ℕ) (offset end : ℕ) (ok : scalars cs ≡ true) (ok' :
   unfolding joined
   joined_scalars =
       scalars-append (start.front ++ ds) stop.back
-      (scalars-append start.front ds (scalars_front start.front start.back (subst (λ l. scalars l ≡ true) start.is ok)) ok')
+      (scalars-append start.front ds (scalars_front start.front start.back (subst (λ l. scalars l ≡ true) start.is ok)) others)
       (scalars_back stop.front stop.back (subst (λ l. scalars l ≡ true) stop.is ok))
 
   joined_spelt : units_of (text_of ((take offset (units cs) ++ units ds) ++ drop end (units cs))) ≡ (take offset (units cs) ++ units ds) ++ drop end (units cs)
   joined_spelt = subst (λ l. units_of (text_of l) ≡ l) (sym joined_units) (units_spelt joined joined_scalars)
 
 -- an edit is done where each test fails
-tests_fail : (past splits splits' short : Bool) (a b c d : EditRefusal) (text new : List ℕ)
-    → (if past then Err a else (if splits then Err b else (if splits' then Err c else (if short then Ok text else Err d)))) ≡ Ok new
-    → (past ≡ false) × (splits ≡ false) × (splits' ≡ false) × (text ≡ new)
-tests_fail true splits splits' short a b c d text new done = absurd cc
-tests_fail false true splits' short a b c d text new done = absurd cc
+tests_fail : (past starts ends short : Bool) (a b c d : EditRefusal) (text new : List ℕ)
+    → (if past then Err a else (if starts then Err b else (if ends then Err c else (if short then Ok text else Err d)))) ≡ Ok new
+    → (past ≡ false) × (starts ≡ false) × (ends ≡ false) × (text ≡ new)
+tests_fail true starts ends short a b c d text new done = absurd cc
+tests_fail false true ends short a b c d text new done = absurd cc
 tests_fail false false true short a b c d text new done = absurd cc
 tests_fail false false false true a b c d text new done = (refl, refl, refl, cc)
 tests_fail false false false false a b c d text new done = absurd cc

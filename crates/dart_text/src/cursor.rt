@@ -9,7 +9,7 @@ ghost use Rattle.dart_text.specs.Lines.{position_of};
 use crate::position::Position;
 
 /// A place between two characters of a text, and what is counted up to it.
-#[derive(Clone, Copy, Debug, PartialEq, Eq)]
+#[derive(Clone, Copy)]
 pub(crate) struct Cursor {
     /// How many bytes stand before it.
     pub(crate) bytes: usize,
@@ -31,7 +31,8 @@ impl Cursor {
     fn past(self, text: &str, character: char) -> Cursor
         requires short { length text.now ≤ max_text }
         requires on { IsOn text.now self }
-        requires here { (rest : List ℕ) × (drop self.bytes text.now ≡ encode_utf8 character ++ rest) }
+        requires here { (rest : List ℕ)
+            × (drop self.bytes text.now ≡ encode_utf8 character ++ rest) }
         ensures on { IsOn text.now result }
         ensures bytes { result.bytes ≡ self.bytes + length (encode_utf8 character) }
         ensures units { result.units ≡ self.units + length (encode_utf16 character) }

@@ -37,11 +37,12 @@ impl From<AllocError> for EditRefusal {
     }
 }
 
-// The bytes of the `count` units behind the first `offset` ones.
+// The bytes of the `count` UTF-16 code units that stand behind the first `offset` ones.
 fn replaced_part(text: &str, offset: u64, count: u64) -> Result<Range<usize>, EditRefusal>
     requires { length text.now ≤ max_text }
     ensures ok { IfOk result (IsReplacedBy text.now offset count) }
-    ensures err { IfErr result (λ refusal. (with : List ℕ) → edited text.now offset count with ≡ Err refusal) }
+    ensures err { IfErr result (λ refusal. (with : List ℕ)
+        → edited text.now offset count with ≡ Err refusal) }
 {
     let end_offset = offset.saturating_add(count);
     let start = Cursor::START.moved_to(text, offset);

@@ -25,7 +25,8 @@ pub fn units_are_counted_over_bytes(text: &Text)
 /// lost on the way from units to UTF-8 and back.
 pub fn an_edit_replaces_units(text: &Text, offset: u64, length: u64, with: &str)
     ensures { (new : List ℕ) → edited text.now offset length with.now ≡ Ok new
-        → units_of new ≡ take offset (units_of text.now) ++ units_of with.now ++ drop (offset + length) (units_of text.now) }
+        → units_of new ≡ take offset (units_of text.now) ++ units_of with.now
+        ++ drop (offset + length) (units_of text.now) }
 {
     let _text = text.as_str();
 }

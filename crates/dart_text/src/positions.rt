@@ -41,8 +41,8 @@ impl<'t> Positions<'t> {
         }
     }
 
-    /// The position of an offset, in UTF-16 code units from 0; past the end of the text it is that of
-    /// the end.
+    /// The line and the column, both from 1, of an offset, in UTF-16 code units from 0; past the end of
+    /// the text they are those of the end.
     pub fn at(&mut self, offset: u32) -> Position
         ensures text { self.new ≡ self.old }
         ensures position { result ≡ position_of offset self.old }

@@ -95,10 +95,8 @@ fn a_text_has_at_most_4_mebibytes(rt: HostRuntime) -> Result<(), Fail> {
     text.edit(0, 2, "é")?;
     assert_eq!(rt; text.as_str().len(), MAX_TEXT);
     letters.push('e')?;
-    match Text::from_str(alloc, letters.as_str()) {
-        Ok(_) => assert!(rt; false),
-        Err(refusal) => assert_eq!(rt; refusal, TextRefusal::TooLong { bytes: 4_194_305 }),
-    }
+    let refused = Text::from_str(alloc, letters.as_str()).err();
+    assert_eq!(rt; refused, Some(TextRefusal::TooLong { bytes: 4_194_305 }));
     Ok(())
 }
 
@@ -111,10 +109,7 @@ fn a_text_is_utf8(rt: HostRuntime) -> Result<(), Fail> {
     assert_eq!(rt; text.copy()?.as_str(), "aé😀");
     let cases = [[0xff, 0x61], [0xc3, 0x28], [0x61, 0xc3]];
     for bytes in cases {
-        match Text::new(alloc, &bytes) {
-            Ok(_) => assert!(rt; false),
-            Err(refusal) => assert_eq!(rt; refusal, TextRefusal::NotUtf8),
-        }
+        assert_eq!(rt; Text::new(alloc, &bytes).err(), Some(TextRefusal::NotUtf8));
     }
     Ok(())
 }

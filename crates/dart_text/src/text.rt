@@ -101,9 +101,9 @@ impl Text {
         utf16_len(self.as_str().as_bytes()) as u32
     }
 
-    /// The line and the column of an offset, in UTF-16 code units from 0; past the end of the text
-    /// they are those of the end. It walks there from the start: for many offsets of one text take
-    /// `Positions`.
+    /// The line and the column, both from 1, of an offset, in UTF-16 code units from 0; past the end of
+    /// the text they are those of the end. It walks there from the start: for many offsets of one text
+    /// take `Positions`.
     pub fn line_column(&self, offset: u32) -> Position
         ensures { result ≡ position_of offset self.now }
     {
@@ -123,7 +123,8 @@ impl Text {
         requires in_order { part.start ≤ part.end }
         requires starts { IsCharBoundary self.old part.start }
         requires ends { IsCharBoundary self.old part.end }
-        ensures { Edits result self.old self.new (short_edit (replace_range self.old part.start part.end with.now)) }
+        ensures { Edits result self.old self.new
+            (short_edit (replace_range self.old part.start part.end with.now)) }
     {
         let kept = self.text.len() - (part.end - part.start);
         let bytes = kept + with.len();
