@@ -13,6 +13,7 @@ use proto_json::{FileOverlay, Overlay, OverlayEdit};
 use std::alloc::Global;
 
 /// The text that a file has after its overlay, by the one that it had: None where it has none.
+#[tactic(auto, unfolding(crate::specs::Applied::text_after))]
 pub(crate) fn text_after(
     alloc: Global,
     file: &FileOverlay,
@@ -24,16 +25,14 @@ pub(crate) fn text_after(
         Overlay::Add { content } => added(alloc, &file.path, content),
         Overlay::Change { edits } => match old {
             Some(text) => changed(&file.path, text, edits.as_slice()),
-            None => {
-                let path = file.path.copy()?;
-                Err(OverlayRefusal::BadChange { path })
-            }
+            None => Err(OverlayRefusal::bad_change(&file.path)?),
         },
         Overlay::Remove => Ok(None),
     }
 }
 
 // The text that is added.
+#[tactic(auto, unfolding(crate::specs::Applied::text_after, dart_text::specs::Edits::short_text))]
 fn added(
     alloc: Global,
     path: &PlainText,
@@ -44,15 +43,13 @@ fn added(
     match Text::from_str(alloc, content.as_str()) {
         Ok(text) => Ok(Some(text)),
         Err(TextRefusal::NotUtf8) => unreachable!(),
-        Err(TextRefusal::TooLong { bytes }) => {
-            let path = path.copy()?;
-            Err(OverlayRefusal::TooLong { path, bytes })
-        }
+        Err(TextRefusal::TooLong { bytes }) => Err(OverlayRefusal::too_long(path, bytes)?),
         Err(TextRefusal::Memory) => Err(OverlayRefusal::Memory),
     }
 }
 
 // The text that is there, changed.
+#[tactic(auto, unfolding(crate::specs::Applied::text_after))]
 fn changed(
     path: &PlainText,
     text: &Text,
@@ -62,18 +59,9 @@ fn changed(
 {
     match edited_by(text, edits) {
         Ok(text) => Ok(Some(text)),
-        Err(EditRefusal::OutOfRange { .. }) => {
-            let path = path.copy()?;
-            Err(OverlayRefusal::BadChange { path })
-        }
-        Err(EditRefusal::SplitsPair { .. }) => {
-            let path = path.copy()?;
-            Err(OverlayRefusal::BadChange { path })
-        }
-        Err(EditRefusal::TooLong { bytes }) => {
-            let path = path.copy()?;
-            Err(OverlayRefusal::TooLong { path, bytes })
-        }
+        Err(EditRefusal::OutOfRange { .. }) => Err(OverlayRefusal::bad_change(path)?),
+        Err(EditRefusal::SplitsPair { .. }) => Err(OverlayRefusal::bad_change(path)?),
+        Err(EditRefusal::TooLong { bytes }) => Err(OverlayRefusal::too_long(path, bytes)?),
         Err(EditRefusal::Memory) => Err(OverlayRefusal::Memory),
     }
 }

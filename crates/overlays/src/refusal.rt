@@ -1,7 +1,7 @@
 //! Why the files of a request are refused.
 
-ghost use Rattle.std.specs.Prelude.{◌≡◌};
-ghost use Rattle.overlays.specs.declared.refusal.OverlayRefusal.TheVariants.{Memory};
+ghost use Rattle.std.specs.Prelude.{◌≡◌, IfOk};
+ghost use Rattle.overlays.specs.declared.refusal.OverlayRefusal.TheVariants.{BadChange, TooLong, Memory};
 
 use plain_text::PlainText;
 use std::alloc::AllocError;
@@ -27,5 +27,23 @@ impl From<AllocError> for OverlayRefusal {
 
     fn from(_error: AllocError) -> OverlayRefusal {
         OverlayRefusal::Memory
+    }
+}
+
+impl OverlayRefusal {
+    // A change of the file at the path doesn't fit.
+    pub(crate) fn bad_change(path: &PlainText) -> Result<OverlayRefusal, AllocError>
+        ensures { IfOk result (λ refusal. refusal ≡ BadChange path.now) }
+    {
+        let path = path.copy()?;
+        Ok(OverlayRefusal::BadChange { path })
+    }
+
+    // The text of the file at the path would have so many bytes.
+    pub(crate) fn too_long(path: &PlainText, bytes: u64) -> Result<OverlayRefusal, AllocError>
+        ensures { IfOk result (λ refusal. refusal ≡ TooLong path.now bytes) }
+    {
+        let path = path.copy()?;
+        Ok(OverlayRefusal::TooLong { path, bytes })
     }
 }

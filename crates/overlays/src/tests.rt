@@ -50,19 +50,17 @@ fn files_of(alloc: Global, request: &str) -> Result<FileOverlays, Fail> {
 }
 
 // Applies a request, and tells what becomes of it.
-fn told(
-    alloc: Global,
-    overlays: &mut Overlays,
-    files: &[FileOverlay],
-) -> Result<String, AllocError> {
-    match overlays.apply(alloc, files) {
-        Ok(()) => String::from_str(alloc, "done"),
-        Err(OverlayRefusal::BadChange { path }) => format!(in alloc; "{} stays", path.as_str()),
+fn outcome_of(alloc: Global, overlays: &mut Overlays, request: &str) -> Result<String, Fail> {
+    let files = files_of(alloc, request)?;
+    let said = match overlays.apply(alloc, files.as_slice()) {
+        Ok(()) => String::from_str(alloc, "done")?,
+        Err(OverlayRefusal::BadChange { path }) => format!(in alloc; "{} stays", path.as_str())?,
         Err(OverlayRefusal::TooLong { path, bytes }) => {
-            format!(in alloc; "{} has {bytes}", path.as_str())
+            format!(in alloc; "{} has {bytes}", path.as_str())?
         }
-        Err(OverlayRefusal::Memory) => Err(AllocError),
-    }
+        Err(OverlayRefusal::Memory) => String::from_str(alloc, "no memory")?,
+    };
+    Ok(said)
 }
 
 // The overlays, `PATH TEXT|PATH TEXT|..`, if each path finds its text.
@@ -84,72 +82,70 @@ fn shown(alloc: Global, overlays: &Overlays) -> Result<String, AllocError> {
     Ok(shown)
 }
 
+// Applies a request, and tells what becomes of it and which overlays there are, `OUTCOME: PATH TEXT|..`.
+fn told(alloc: Global, overlays: &mut Overlays, request: &str) -> Result<String, Fail> {
+    let mut told = outcome_of(alloc, overlays, request)?;
+    told.push_str(": ")?;
+    told.push_str(shown(alloc, overlays)?.as_str())?;
+    Ok(told)
+}
+
 #[test]
 fn requests_change_the_texts(rt: HostRuntime) -> Result<(), Fail> {
     let alloc = rt.alloc();
     let mut overlays = Overlays::new(alloc);
-    assert_eq!(rt; shown(alloc, &overlays)?.as_str(), "");
     let table = [
         // nothing to change
-        ("remove /b ", "done", ""),
-        ("change /b 0 0 ", "/b stays", ""),
+        ("remove /b ", "done: "),
+        ("change /b 0 0 ", "/b stays: "),
         // texts that are added, in any order, and again
-        ("add /b x", "done", "/b x"),
+        ("add /b x", "done: /b x"),
         (
             "add /ba |add /a ab|add /B c|add /b é😀z",
-            "done",
-            "/B c|/a ab|/b é😀z|/ba ",
+            "done: /B c|/a ab|/b é😀z|/ba ",
         ),
         // edits of one file, each to the text that the one before it leaves
         (
             "change /a 2 0 cd,0 1 ,1 2 xyz",
-            "done",
-            "/B c|/a bxyzd|/b é😀z|/ba ",
+            "done: /B c|/a bxyz|/b é😀z|/ba ",
         ),
-        // a text that is removed, and one that comes and goes
+        // a text that is removed, one that isn't there, and one that comes and goes
         (
             "remove /B |remove /C |add /C q|remove /C ",
-            "done",
-            "/a bxyzd|/b é😀z|/ba ",
+            "done: /a bxyz|/b é😀z|/ba ",
         ),
-        ("remove /ba |add /ba 1", "done", "/a bxyzd|/b é😀z|/ba 1"),
+        ("remove /ba |add /ba 1", "done: /a bxyz|/b é😀z|/ba 1"),
         // edits at the end of a text, and behind it
-        ("change /ba 1 0 2,2 0 3", "done", "/a bxyzd|/b é😀z|/ba 123"),
-        ("change /ba 4 0 ", "/ba stays", "/a bxyzd|/b é😀z|/ba 123"),
-        ("change /ba 2 2 ", "/ba stays", "/a bxyzd|/b é😀z|/ba 123"),
+        ("change /ba 1 0 2,2 0 3", "done: /a bxyz|/b é😀z|/ba 123"),
+        ("change /ba 4 0 ", "/ba stays: /a bxyz|/b é😀z|/ba 123"),
+        ("change /ba 2 2 ", "/ba stays: /a bxyz|/b é😀z|/ba 123"),
         (
             "change /ba 1 18446744073709551615 ",
-            "/ba stays",
-            "/a bxyzd|/b é😀z|/ba 123",
+            "/ba stays: /a bxyz|/b é😀z|/ba 123",
         ),
         // edits that begin or end inside the surrogate pair, and one around it
-        ("change /b 2 1 ", "/b stays", "/a bxyzd|/b é😀z|/ba 123"),
-        ("change /b 0 2 ", "/b stays", "/a bxyzd|/b é😀z|/ba 123"),
-        ("change /b 1 2 e", "done", "/a bxyzd|/b éez|/ba 123"),
+        ("change /b 2 1 ", "/b stays: /a bxyz|/b é😀z|/ba 123"),
+        ("change /b 0 2 ", "/b stays: /a bxyz|/b é😀z|/ba 123"),
+        ("change /b 1 2 e", "done: /a bxyz|/b éez|/ba 123"),
         // of several files that are refused the first is told, and none is applied
         (
             "add /c 1|change /d 0 0 ",
-            "/d stays",
-            "/a bxyzd|/b éez|/ba 123",
+            "/d stays: /a bxyz|/b éez|/ba 123",
         ),
         (
             "remove /a |change /b 0 3 ,0 1 |change /ba 9 0 ",
-            "/b stays",
-            "/a bxyzd|/b éez|/ba 123",
+            "/b stays: /a bxyz|/b éez|/ba 123",
         ),
         // a file that stands twice is changed twice
         (
-            "change /a 0 5 1|change /a 1 0 2",
-            "done",
-            "/a 12|/b éez|/ba 123",
+            "change /a 0 4 1|change /a 1 0 2",
+            "done: /a 12|/b éez|/ba 123",
         ),
-        ("remove /a |remove /ba |remove /b ", "done", ""),
+        ("remove /a |remove /ba |remove /b ", "done: "),
     ];
-    for (request, outcome, texts) in table {
-        let files = files_of(alloc, request)?;
-        let said = told(alloc, &mut overlays, files.as_slice())?;
-        assert_eq!(rt; said.as_str(), outcome, "{request}");
-        assert_eq!(rt; shown(alloc, &overlays)?.as_str(), texts, "{request}");
+    for (request, want) in table {
+        let said = told(alloc, &mut overlays, request)?;
+        assert_eq!(rt; said.as_str(), want, "{request}");
     }
     assert!(rt; overlays.text("/a").is_none());
     Ok(())
@@ -159,19 +155,11 @@ fn requests_change_the_texts(rt: HostRuntime) -> Result<(), Fail> {
 fn copies_are_independent(rt: HostRuntime) -> Result<(), Fail> {
     let alloc = rt.alloc();
     let mut overlays = Overlays::new(alloc);
-    told(
-        alloc,
-        &mut overlays,
-        files_of(alloc, "add /a 1|add /b 2")?.as_slice(),
-    )?;
+    outcome_of(alloc, &mut overlays, "add /a 1|add /b 2")?;
     let mut copied = overlays.copy()?;
-    told(
-        alloc,
-        &mut copied,
-        files_of(alloc, "change /a 0 0 0|remove /b ")?.as_slice(),
-    )?;
+    let said = told(alloc, &mut copied, "change /a 0 0 0|remove /b ")?;
+    assert_eq!(rt; said.as_str(), "done: /a 01");
     assert_eq!(rt; shown(alloc, &overlays)?.as_str(), "/a 1|/b 2");
-    assert_eq!(rt; shown(alloc, &copied)?.as_str(), "/a 01");
     for entry in overlays.entries() {
         assert_eq!(rt; entry.share()?.path().as_str(), entry.path().as_str());
     }
@@ -181,34 +169,24 @@ fn copies_are_independent(rt: HostRuntime) -> Result<(), Fail> {
 #[test]
 fn a_text_is_as_long_as_a_file(rt: HostRuntime) -> Result<(), Fail> {
     let alloc = rt.alloc();
-    let mut longest = String::from_str(alloc, "add /a ")?;
-    let mut half = String::from_str(alloc, "x")?;
+    let mut text = String::from_str(alloc, "x")?;
     for _ in 0..22 {
-        let copied = half.clone()?;
-        half.push_str(copied.as_str())?;
+        let half = text.clone()?;
+        text.push_str(half.as_str())?;
     }
-    longest.push_str(half.as_str())?;
-    let mut overlays = Overlays::new(alloc);
-    let files = files_of(alloc, longest.as_str())?;
-    assert_eq!(rt;
-        told(alloc, &mut overlays, files.as_slice())?.as_str(),
-        "done"
-    );
-    longest.push_str("é")?;
-    let files = files_of(alloc, longest.as_str())?;
-    assert_eq!(rt;
-        told(alloc, &mut overlays, files.as_slice())?.as_str(),
-        "/a has 4194306"
-    );
+    let longest = format!(in alloc; "add /a {text}")?;
+    let longer = format!(in alloc; "add /a {text}é")?;
     let table = [
+        (longest.as_str(), "done"),
+        (longer.as_str(), "/a has 4194306"),
         ("add /b |change /a 0 0 y", "/a has 4194305"),
         ("change /a 0 2 é", "done"),
         ("change /a 0 1 é€", "/a has 4194307"),
     ];
+    let mut overlays = Overlays::new(alloc);
     for (request, outcome) in table {
-        let files = files_of(alloc, request)?;
-        let said = told(alloc, &mut overlays, files.as_slice())?;
-        assert_eq!(rt; said.as_str(), outcome, "{request}");
+        let said = outcome_of(alloc, &mut overlays, request)?;
+        assert_eq!(rt; said.as_str(), outcome);
     }
     assert_eq!(rt; overlays.entries().len(), 1);
     Ok(())
