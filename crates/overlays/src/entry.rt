@@ -10,7 +10,7 @@ use std::rc::Rc;
 
 // The text that a client has given of the file at a path.
 #[derive(Debug, Drop)]
-pub struct Overlaid {
+struct Overlaid {
     path: PlainText,
     text: Text,
 }

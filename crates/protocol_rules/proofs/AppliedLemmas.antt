@@ -18,47 +18,51 @@ of_choice : {T : Type 0} (P : T → Type 0) (b : Bool) (x y : T) → P x → P y
 of_choice P true x y h k = h
 of_choice P false x y h k = k
 
--- an answer to an edit
-abbrev IsEdit : Result (List ℕ) EditRefusal → Type 0
-IsEdit r = r ≢ Err edit_refusal.Memory
+-- an edit that isn't refused for want of memory
+abbrev NoEditMemory : Result (List ℕ) EditRefusal → Type 0
+NoEditMemory r = r ≢ Err edit_refusal.Memory
 
-edited-is : (text : List ℕ) (offset count : ℕ) (with : List ℕ) → IsEdit (edited text offset count with)
+-- nor the overlay of a file
+abbrev NoMemory : {T : Type 0} → Result T OverlayRefusal → Type 0
+NoMemory r = r ≢ Err Memory
+
+edited-no_memory : (text : List ℕ) (offset count : ℕ) (with : List ℕ) → NoEditMemory (edited text offset count with)
 unfolding edited
-edited-is text offset count with =
-    of_choice IsEdit (nat_lt (length (units_of text)) (offset + count)) _ _ (λ is. cc)
-    (of_choice IsEdit (splits_pair offset (units_of text)) _ _ (λ is. cc)
-    (of_choice IsEdit (splits_pair (offset + count) (units_of text)) _ _ (λ is. cc)
-    (of_choice IsEdit (nat_le (length (replaced text offset count with)) max_text) _ _ (λ is. cc) (λ is. cc))))
+edited-no_memory text offset count with =
+    of_choice NoEditMemory (nat_lt (length (units_of text)) (offset + count)) _ _ (λ is. cc)
+    (of_choice NoEditMemory (splits_pair offset (units_of text)) _ _ (λ is. cc)
+    (of_choice NoEditMemory (splits_pair (offset + count) (units_of text)) _ _ (λ is. cc)
+    (of_choice NoEditMemory (nat_le (length (replaced text offset count with)) max_text) _ _ (λ is. cc) (λ is. cc))))
 
-go_on-is : (more : List ℕ → Result (List ℕ) EditRefusal) (r : Result (List ℕ) EditRefusal) → ((text : List ℕ) → IsEdit (more text)) → IsEdit r → IsEdit (go_on more r)
-go_on-is more (Ok text) h k = h text
-go_on-is more (Err refusal) h k = k
+go_on-no_memory : (more : List ℕ → Result (List ℕ) EditRefusal) (r : Result (List ℕ) EditRefusal) → ((text : List ℕ) → NoEditMemory (more text)) → NoEditMemory r → NoEditMemory (go_on more r)
+go_on-no_memory more (Ok text) h k = h text
+go_on-no_memory more (Err refusal) h k = k
 
-edited_by-is : (edits : List OverlayEdit) (text : List ℕ) → IsEdit (edited_by edits text)
+edited_by-no_memory : (edits : List OverlayEdit) (text : List ℕ) → NoEditMemory (edited_by edits text)
 unfolding edited_by
-edited_by-is [] text = λ is. cc
-edited_by-is (edit ∷ edits) text = go_on-is (edited_by edits) (edited text edit.offset edit.length edit.replacement) (edited_by-is edits) (edited-is text edit.offset edit.length edit.replacement)
+edited_by-no_memory [] text = λ is. cc
+edited_by-no_memory (edit ∷ edits) text = go_on-no_memory (edited_by edits) (edited text edit.offset edit.length edit.replacement) (edited_by-no_memory edits) (edited-no_memory text edit.offset edit.length edit.replacement)
 
-changed-is : (path : List ℕ) (r : Result (List ℕ) EditRefusal) → IsEdit r → changed path r ≢ Err Memory
-changed-is path (Ok text) h = λ is. cc
-changed-is path (Err (edit_refusal.OutOfRange length)) h = λ is. cc
-changed-is path (Err (edit_refusal.SplitsPair at)) h = λ is. cc
-changed-is path (Err (edit_refusal.TooLong bytes)) h = λ is. cc
-changed-is path (Err edit_refusal.Memory) h = λ is. h refl
+changed-no_memory : (path : List ℕ) (r : Result (List ℕ) EditRefusal) → NoEditMemory r → NoMemory (changed path r)
+changed-no_memory path (Ok text) h = λ is. cc
+changed-no_memory path (Err (edit_refusal.OutOfRange length)) h = λ is. cc
+changed-no_memory path (Err (edit_refusal.SplitsPair at)) h = λ is. cc
+changed-no_memory path (Err (edit_refusal.TooLong bytes)) h = λ is. cc
+changed-no_memory path (Err edit_refusal.Memory) h = λ is. h refl
 
-text_after-is : (path : List ℕ) (overlay : Overlay) (old : Option (List ℕ)) → text_after path overlay old ≢ Err Memory
+text_after-no_memory : (path : List ℕ) (overlay : Overlay) (old : Option (List ℕ)) → NoMemory (text_after path overlay old)
 unfolding text_after
-text_after-is path (Add content) old = of_choice (λ (r : Result (Option (List ℕ)) OverlayRefusal). r ≢ Err Memory) (nat_le (length content) max_text) _ _ (λ is. cc) (λ is. cc)
-text_after-is path (Change edits) None = λ is. cc
-text_after-is path (Change edits) (Some text) = changed-is path (edited_by edits text) (edited_by-is edits text)
-text_after-is path Remove old = λ is. cc
+text_after-no_memory path (Add content) old = of_choice (NoMemory {T = Option (List ℕ)}) (nat_le (length content) max_text) _ _ (λ is. cc) (λ is. cc)
+text_after-no_memory path (Change edits) None = λ is. cc
+text_after-no_memory path (Change edits) (Some text) = changed-no_memory path (edited_by edits text) (edited_by-no_memory edits text)
+text_after-no_memory path Remove old = λ is. cc
 
-apply_on-is : (more : PathsAndTexts → Result PathsAndTexts OverlayRefusal) (path : List ℕ) (table : PathsAndTexts) (r : Result (Option (List ℕ)) OverlayRefusal) → ((table : PathsAndTexts) → more table ≢ Err Memory) → r ≢ Err Memory → apply_on more path table r ≢ Err Memory
-apply_on-is more path table (Ok text) h k = h (with_text path text table)
-apply_on-is more path table (Err refusal) h k = λ is. k cc
+apply_on-no_memory : (more : PathsAndTexts → Result PathsAndTexts OverlayRefusal) (path : List ℕ) (table : PathsAndTexts) (r : Result (Option (List ℕ)) OverlayRefusal) → ((table : PathsAndTexts) → NoMemory (more table)) → NoMemory r → NoMemory (apply_on more path table r)
+apply_on-no_memory more path table (Ok text) h k = h (with_text path text table)
+apply_on-no_memory more path table (Err refusal) h k = λ is. k cc
 
 -- the files of a request, applied one after another
-pub applied-is : (files : List FileOverlay) (table : PathsAndTexts) → applied files table ≢ Err Memory
+pub applied-no_memory : (files : List FileOverlay) (table : PathsAndTexts) → NoMemory (applied files table)
 unfolding applied
-applied-is [] table = λ is. cc
-applied-is (file ∷ files) table = apply_on-is (applied files) file.path table (text_after file.path file.overlay (text_in file.path table)) (applied-is files) (text_after-is file.path file.overlay (text_in file.path table))
+applied-no_memory [] table = λ is. cc
+applied-no_memory (file ∷ files) table = apply_on-no_memory (applied files) file.path table (text_after file.path file.overlay (text_in file.path table)) (applied-no_memory files) (text_after-no_memory file.path file.overlay (text_in file.path table))

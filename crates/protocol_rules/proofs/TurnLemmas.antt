@@ -18,7 +18,7 @@ use Rattle.overlays.specs.Tables.{PathsAndTexts}
 use Rattle.overlays.specs.declared.refusal.OverlayRefusal.{OverlayRefusal}
 use Rattle.overlays.specs.declared.refusal.OverlayRefusal.TheVariants.{BadChange, TooLong}
 use Rattle.overlays.specs.declared.refusal.OverlayRefusal.TheVariants as overlay_refusal
-use Rattle.protocol_rules.proofs.AppliedLemmas.{applied-is}
+use Rattle.protocol_rules.proofs.AppliedLemmas.{applied-no_memory}
 use Rattle.protocol_rules.specs.Limits.{passes_limit}
 use Rattle.protocol_rules.specs.Skipped.{is_skipped}
 use Rattle.protocol_rules.specs.Turns.{Turn, turn, refused_turn, overlays_turn, updated_turn, asked_turn, request_turn}
@@ -80,7 +80,7 @@ updated_turn-id s id (Err overlay_refusal.Memory) answered = absurd (answered re
 asked_turn-id : (s : Contents) (id : List ℕ) (request : Request) → HasId id (asked_turn s id request)
 asked_turn-id s id (SetRoots included excluded) = refl
 asked_turn-id s id Reanalyze = refl
-asked_turn-id s id (Update files) = updated_turn-id s id (applied files s.overlays) (applied-is files s.overlays)
+asked_turn-id s id (Update files) = updated_turn-id s id (applied files s.overlays) (applied-no_memory files s.overlays)
 asked_turn-id s id (GetErrors file) = refl
 asked_turn-id s id GetWork = refl
 

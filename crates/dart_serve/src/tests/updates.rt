@@ -17,6 +17,54 @@ fn answers(alloc: Global, session: &[(&str, &str)]) -> Result<bool, Fail> {
     serves(alloc, &input, &output)
 }
 
+/// The lines and replies of `docs/PROTOCOL.md`, in their order.
+const DOCUMENTED: [(&str, &str); 11] = [
+    (
+        r#"{"id":"1","method":"analysis.updateContent","params":{"files":{"/a.dart":{"type":"add","content":"void main(){bool b=1;}"}}}}"#,
+        r#"{"id":"1"}"#,
+    ),
+    (
+        r#"{"id":"2","method":"analysis.getErrors","params":{"file":"/a.dart"}}"#,
+        r#"{"id":"2","result":{"errors":[{"code":"invalid_assignment","location":{"file":"/a.dart","length":1,"offset":19,"startColumn":20,"startLine":1},"message":"Invalid assignment.","severity":"ERROR","type":"COMPILE_TIME_ERROR"}]}}"#,
+    ),
+    (
+        r#"{"id":"3","method":"analysis.updateContent","params":{"files":{"/a.dart":{"type":"change","edits":[{"offset":19,"length":1,"replacement":"true"},{"offset":0,"length":0,"replacement":"/*😀*/"}]},"/b.dart":{"type":"remove"}}}}"#,
+        r#"{"id":"3"}"#,
+    ),
+    (
+        r#"{"id":"4","method":"analysis.getErrors","params":{"file":"/a.dart"}}"#,
+        r#"{"id":"4","result":{"errors":[]}}"#,
+    ),
+    (
+        r#"{"id":"5","method":"analysis.getErrors","params":null}"#,
+        r#"{"error":{"code":"INVALID_REQUEST","message":"The line is not a request."},"id":""}"#,
+    ),
+    (
+        r#"{"id":"6","method":"server.getVersion"}"#,
+        r#"{"error":{"code":"UNKNOWN_REQUEST","message":"The method is not known."},"id":"6"}"#,
+    ),
+    (
+        r#"{"id":"7","method":"analysis.getErrors"}"#,
+        r#"{"error":{"code":"INVALID_PARAMETER","message":"A parameter is missing or of another kind."},"id":"7"}"#,
+    ),
+    (
+        r#"{"id":"8","method":"analysis.getErrors","params":{"file":"a.dart"}}"#,
+        r#"{"error":{"code":"INVALID_FILE_PATH_FORMAT","message":"The path is not absolute and normalized."},"id":"8"}"#,
+    ),
+    (
+        r#"{"id":"9","method":"analysis.reanalyze"}"#,
+        r#"{"error":{"code":"UNKNOWN_REQUEST","message":"The method is not known."},"id":"9"}"#,
+    ),
+    (
+        r#"{"id":"10","method":"analysis.updateContent","params":{"files":{"/a.dart":{"type":"change","edits":[{"offset":3,"length":0,"replacement":"a"}]}}}}"#,
+        r#"{"error":{"code":"INVALID_OVERLAY_CHANGE","message":"The change does not fit the overlay."},"id":"10"}"#,
+    ),
+    (
+        r#"{"id":"11","method":"analysis.getErrors","params":{"file":"/never_added.dart"}}"#,
+        r#"{"error":{"code":"GET_ERRORS_INVALID_FILE","message":"The file is not analyzed."},"id":"11"}"#,
+    ),
+];
+
 /// Edits of one text.
 const EDITS: [(&str, &str); 22] = [
     (
@@ -227,6 +275,7 @@ const FILES: [(&str, &str); 24] = [
 #[test]
 fn texts_are_added_changed_and_removed(rt: HostRuntime) -> Result<(), Fail> {
     let a = rt.alloc();
+    assert!(rt; answers(a, &DOCUMENTED)?);
     assert!(rt; answers(a, &EDITS)?);
     assert!(rt; answers(a, &FILES)?);
     Ok(())

@@ -1,7 +1,6 @@
-use Rattle.std.proofs.Common.{inr, sym, ap, ◌∙◌, arith}
+use Rattle.std.proofs.Common.{inr, sym, ◌∙◌, arith}
 use Rattle.std.proofs.lemmas.Result.{err_from_is_err_and}
-use Rattle.dart_text.specs.Edits.{edited}
-use Rattle.overlays.proofs.Requests.{after_edit, one_more_edit, refused_edit, no_more_edits}
+use Rattle.overlays.proofs.Requests.{one_more_edit, refused_edit, no_more_edits}
 use Rattle.overlays.proofs.change.edited_by.Goals as goal
 
 -- a refused edit refuses all

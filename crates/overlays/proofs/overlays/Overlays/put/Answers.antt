@@ -1,6 +1,6 @@
 use Rattle.std.proofs.Common.{sym, ap, ◌∙◌, subst, set}
 use Rattle.std.specs.List.{insert}
-use Rattle.overlays.specs.Tables.{PathsAndTexts, IsInOrder, put_text}
+use Rattle.overlays.specs.Tables.{IsInOrder, put_text}
 use Rattle.overlays.proofs.Order.{order-put}
 use Rattle.overlays.proofs.Places.{put_there, put_absent}
 use Rattle.overlays.proofs.overlays.Overlays.put.Goals as goal
