@@ -63,7 +63,7 @@ fn outcome_of(alloc: Global, overlays: &mut Overlays, request: &str) -> Result<S
     Ok(said)
 }
 
-// The overlays, `PATH TEXT|PATH TEXT|..`, if each path finds its text.
+// The overlays, `PATH TEXT|PATH TEXT|..`; a `?` follows a path that does not find its text.
 fn shown(alloc: Global, overlays: &Overlays) -> Result<String, AllocError> {
     let mut shown = String::new(alloc);
     for entry in overlays.entries() {
