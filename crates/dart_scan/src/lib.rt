@@ -1,0 +1,15 @@
+//! The scanner: from the text of a file to its tokens.
+//!
+//! `pieces` in `specs/Pieces.antt` cuts a text into gaps and lexemes, `specs/Scanned.antt` makes
+//! tokens, words and faults of them, and `scan` gives exactly those; `string_value` in
+//! `specs/Values.antt` states what a string stands for. No state of a scanner occurs in any of it.
+//! The crate stands on the texts of `dart_text` and the tokens of `dart_tokens`.
+#![tactic(auto)]
+
+mod cut;
+mod piece;
+mod scanner;
+mod value;
+
+pub use scanner::scan;
+pub use value::string_value;
