@@ -3,6 +3,7 @@ pub mod Lexemes
 pub mod Comments
 pub mod Strings
 pub mod Pieces
+pub mod Openings
 pub mod Values
 pub mod Faults
 pub mod Scanned

@@ -3,6 +3,13 @@
 ghost use Rattle.std.specs.Prelude.{◌≡◌, ◌<◌, IfOk, All, sum_by, length};
 ghost use Rattle.dart_scan.specs.Pieces.{pieces, spelled};
 
+mod comment;
+mod form;
+mod lexeme;
+mod mark;
+mod name;
+mod number;
+
 use crate::piece::Piece;
 use std::alloc::{AllocError, Global};
 

@@ -7,6 +7,7 @@
 #![tactic(auto)]
 
 mod cut;
+mod laws;
 mod piece;
 mod scanner;
 mod value;
