@@ -14,30 +14,31 @@ use Rattle.dart_scan.specs.Strings.{Form, opening_of, forms, first_form, string_
 pub begins-split : (bytes text : List ℕ) → begins text bytes ≡ true → text ≡ bytes ++ drop (length bytes) text
 begins-split [] text h = refl
 begins-split (b ∷ bytes) [] h = absurd (cc)
-begins-split (b ∷ bytes) (c ∷ text) h = both (nat_eq b c) (begins text bytes) refl refl h
+begins-split (b ∷ bytes) (c ∷ text) h = both (nat_eq b c) (begins text bytes) refl refl h (begins-split bytes text)
   where
-    both : (s t : Bool) → nat_eq b c ≡ s → begins text bytes ≡ t → (s && t) ≡ true → c ∷ text ≡ b ∷ (bytes ++ drop (length bytes) text)
-    both true true e f g = ap (λ x. x ∷ text) (sym (eqb-true b c e)) ∙ ap (λ xs. b ∷ xs) (begins-split bytes text f)
-    both true false e f g = absurd (cc)
-    both false t e f g = absurd (cc)
+    both : (s t : Bool) → nat_eq b c ≡ s → begins text bytes ≡ t → (s && t) ≡ true → (begins text bytes ≡ true → text ≡ bytes ++ drop (length bytes) text) → c ∷ text ≡ b ∷ (bytes ++ drop (length bytes) text)
+    both true true e f g rest = ap (λ x. x ∷ text) (sym (eqb-true b c e)) ∙ ap (λ xs. b ∷ xs) (rest f)
+    both true false e f g rest = absurd (cc)
+    both false t e f g rest = absurd (cc)
 
 -- the bytes of a class at the front stand before the rest
 pub front-split : (p : ℕ → Bool) (text : List ℕ) → take_while p text ++ drop (length (take_while p text)) text ≡ text
 front-split p [] = refl
-front-split p (b ∷ text) = rw (take_while-cons p b text) (chosen (p b))
+front-split p (b ∷ text) = rw (take_while-cons p b text) (chosen (front-split p text) (p b))
   where
-    chosen : (s : Bool) → (if s then b ∷ take_while p text else []) ++ drop (length (if s then b ∷ take_while p text else [])) (b ∷ text) ≡ b ∷ text
-    chosen true = ap (λ xs. b ∷ xs) (front-split p text)
-    chosen false = refl
+    chosen : take_while p text ++ drop (length (take_while p text)) text ≡ text → (s : Bool) → (if s then b ∷ take_while p text else []) ++ drop (length (if s then b ∷ take_while p text else [])) (b ∷ text) ≡ b ∷ text
+    chosen rest true = ap (λ xs. b ∷ xs) rest
+    chosen rest false = refl
 
 front-past : (p : ℕ → Bool) (bytes text : List ℕ) → list_all p bytes ≡ true → take_while p (bytes ++ text) ≡ bytes ++ take_while p text
 front-past p [] text h = refl
-front-past p (b ∷ bytes) text h = both (p b) (list_all p bytes) refl refl h
+front-past p (b ∷ bytes) text h = both (p b) (list_all p bytes) refl refl h (front-past p bytes text)
   where
-    both : (s t : Bool) → p b ≡ s → list_all p bytes ≡ t → (s && t) ≡ true → take_while p (b ∷ (bytes ++ text)) ≡ b ∷ (bytes ++ take_while p text)
-    both true true e f g = take_while-cons p b (bytes ++ text) ∙ rw e (ap (λ xs. b ∷ xs) (front-past p bytes text f))
-    both true false e f g = absurd (cc)
-    both false t e f g = absurd (cc)
+    both : (s t : Bool) → p b ≡ s → list_all p bytes ≡ t → (s && t) ≡ true → (list_all p bytes ≡ true → take_while p (bytes ++ text) ≡ bytes ++ take_while p text)
+        → take_while p (b ∷ (bytes ++ text)) ≡ b ∷ (bytes ++ take_while p text)
+    both true true e f g rest = take_while-cons p b (bytes ++ text) ∙ rw e (ap (λ xs. b ∷ xs) (rest f))
+    both true false e f g rest = absurd (cc)
+    both false t e f g rest = absurd (cc)
 
 -- a form has one quote at least and three at most, and opens within a line
 abbrev pub is_fine : Form → Bool
@@ -62,13 +63,14 @@ fine form text e h = of (nat_lt 0 (length form.quotes)) (nat_le (length form.quo
 -- the first form of a table of fine ones
 first : (table : List Form) (text : List ℕ) (form : Form) → list_all is_fine table ≡ true → first_form table text ≡ Some form → Opens form text
 first [] text form fines e = absurd (cc)
-first (f ∷ more) text form fines e = both (is_fine f) (list_all is_fine more) (begins text (opening_of f)) refl refl refl fines e
+first (f ∷ more) text form fines e = both (is_fine f) (list_all is_fine more) (begins text (opening_of f)) refl refl refl fines e (first more text form)
   where
-    both : (s t b : Bool) → is_fine f ≡ s → list_all is_fine more ≡ t → begins text (opening_of f) ≡ b → (s && t) ≡ true → (if b then Some f else first_form more text) ≡ Some form → Opens form text
-    both true true true p q r g h = let same : f ≡ form = cc in subst (λ x. Opens x text) same (fine f text p r)
-    both true true false p q r g h = first more text form q h
-    both true false b p q r g h = absurd (cc)
-    both false t b p q r g h = absurd (cc)
+    both : (s t b : Bool) → is_fine f ≡ s → list_all is_fine more ≡ t → begins text (opening_of f) ≡ b → (s && t) ≡ true → (if b then Some f else first_form more text) ≡ Some form
+        → (list_all is_fine more ≡ true → first_form more text ≡ Some form → Opens form text) → Opens form text
+    both true true true p q r g h rest = let same : f ≡ form = cc in subst (λ x. Opens x text) same (fine f text p r)
+    both true true false p q r g h rest = rest q h
+    both true false b p q r g h rest = absurd (cc)
+    both false t b p q r g h rest = absurd (cc)
 
 pub opens : (text : List ℕ) (form : Form) → string_form text ≡ Some form → Opens form text
 opens text form e = first forms text form refl e

@@ -5,3 +5,4 @@ pub mod PieceLemmas
 pub mod PlainLemmas
 pub mod FormLemmas
 pub mod StepLemmas
+pub mod ResumeLemmas

@@ -123,9 +123,9 @@ expression-fair fewer fair form text some e =
 ended : (class : Class) (begun plain quotes text : List ℕ) → 1 ≤ length quotes → begins text quotes ≡ true
     → Fair (begun ++ (plain ++ text)) (length (plain ++ text)) (record { pieces = (class, begun ++ plain ++ quotes) ∷ []; rest = drop (length quotes) text })
 ended class begun plain quotes text some e = record {
-  cover = append_assoc (begun ++ (plain ++ quotes)) [] (drop (length quotes) text) ∙ append_assoc begun (plain ++ quotes) (drop (length quotes) text)
-    ∙ ap (λ xs. begun ++ xs) (append_assoc plain quotes (drop (length quotes) text) ∙ ap (λ xs. plain ++ xs) (sym (begins-split quotes text e)));
-  some = one (class, begun ++ plain ++ quotes) (omega (arith, length-append begun (plain ++ quotes), length-append plain quotes));
+  cover = append_assoc ((begun ++ plain) ++ quotes) [] (drop (length quotes) text) ∙ append_assoc (begun ++ plain) quotes (drop (length quotes) text)
+    ∙ ap (λ xs. (begun ++ plain) ++ xs) (sym (begins-split quotes text e)) ∙ append_assoc begun plain text;
+  some = one (class, begun ++ plain ++ quotes) (omega (arith, some, length-append (begun ++ plain) quotes));
   shrinks = omega (arith, length-drop (length quotes) text, length-append plain text);
 }
 
@@ -249,7 +249,7 @@ after-agrees m n a b same fair form begun plain text some h k =
         (λ _. if-same (begins text (codes "${")) _ _ _ _ (λ _. expression-agrees m n a b same fair form text some h k)
           (λ _. if-same (begins_name text) _ None _ None (λ _. name-agrees m n a b same form text some h k) (λ _. refl)))))
 
-parts-agree : (m n : ℕ) (a b : Fewer) → Agree m n a b → IsFair b → (form : Form) (begun text : List ℕ) → 1 ≤ length form.quotes → length text ≤ suc m → length text ≤ suc n
+pub parts-agree : (m n : ℕ) (a b : Fewer) → Agree m n a b → IsFair b → (form : Form) (begun text : List ℕ) → 1 ≤ length form.quotes → length text ≤ suc m → length text ≤ suc n
     → parts_row a form begun text ≡ parts_row b form begun text
 parts-agree m n a b same fair form begun text some h k =
     after-agrees m n a b same fair form begun (take (plain_size form text) text) (drop (plain_size form text) text) some
@@ -271,7 +271,7 @@ next-agrees m n a b same first byte text h k = of (string_form (byte ∷ text)) 
           (record { pieces = (UnterminatedString, within_reach form (byte ∷ text)) ∷ []; rest = drop (length (within_reach form (byte ∷ text))) (byte ∷ text) }))
         (same.parts form (opening_of form) (drop (length (opening_of form)) (within_reach form (byte ∷ text))) o.some (omega (arith, h, less)) (omega (arith, k, less)))
 
-pieces-agree : (m n : ℕ) (a b : Fewer) → Agree m n a b → IsFair b → (braces : ℕ) (text : List ℕ) → length text ≤ suc m → length text ≤ suc n → expression_pieces a braces text ≡ expression_pieces b braces text
+pub pieces-agree : (m n : ℕ) (a b : Fewer) → Agree m n a b → IsFair b → (braces : ℕ) (text : List ℕ) → length text ≤ suc m → length text ≤ suc n → expression_pieces a braces text ≡ expression_pieces b braces text
 pieces-agree m n a b same fair braces [] h k = refl
 pieces-agree m n a b same fair braces (byte ∷ text) h k =
     let less : length text ≤ m = omega (arith, h) in

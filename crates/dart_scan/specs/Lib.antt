@@ -4,6 +4,7 @@ pub mod Comments
 pub mod Strings
 pub mod Pieces
 pub mod Openings
+pub mod Suspended
 pub mod Values
 pub mod Faults
 pub mod Scanned

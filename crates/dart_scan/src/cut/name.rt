@@ -1,9 +1,9 @@
 //! Names behind a `$` in a string.
 
-ghost use Rattle.std.specs.Prelude.{◌≡◌, ◌+◌, ◌≤◌, IsTrue, bytes_eq, codes, drop, length};
+ghost use Rattle.std.specs.Prelude.{◌≡◌, ◌≤◌, ◌&&◌, bytes_eq, length, nat_lt, take};
 ghost use Rattle.std.specs.List.{list_any};
 ghost use Rattle.dart_tokens.specs.Words.{is_reserved};
-ghost use Rattle.dart_scan.specs.Lexemes.{begins, run};
+ghost use Rattle.dart_scan.specs.Lexemes.{run};
 ghost use Rattle.dart_scan.specs.Strings.{is_name_start, is_name_part, name_size, is_interpolated, begins_name};
 
 use crate::cut::lexeme::{identifier_part, identifier_start};
@@ -98,13 +98,17 @@ pub fn name_size(text: &[u8]) -> usize
     }
 }
 
+/// The text begins with a name that may stand behind a `$`.
+fn begins_interpolated(text: &[u8]) -> bool
+    ensures { result ≡ (nat_lt 0 (name_size text.now) && is_interpolated (take (name_size text.now) text.now)) }
+{
+    let size = name_size(text);
+    size > 0 && is_interpolated(&text[..size])
+}
+
 /// The text begins with a `$` and a name.
 pub fn begins_name(text: &[u8]) -> bool
     ensures { result ≡ begins_name text.now }
 {
-    if !text.starts_with(b"$") {
-        return false;
-    }
-    let size = name_size(&text[1..]);
-    size > 0 && is_interpolated(&text[1..1 + size])
+    text.starts_with(b"$") && begins_interpolated(&text[1..])
 }
