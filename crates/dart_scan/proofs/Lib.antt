@@ -6,3 +6,6 @@ pub mod PlainLemmas
 pub mod FormLemmas
 pub mod StepLemmas
 pub mod ResumeLemmas
+pub mod RangeLemmas
+pub mod GrowthLemmas
+pub mod CuttingLemmas

@@ -121,7 +121,8 @@ pub closing-step : (string : Suspended) (around : List Suspended) (done : List S
     → resumed (string ∷ around) done (byte ∷ text) ≡ resumed_within string around (done ++ (InterpolationClosing, codes "}") ∷ []) [] text
 unfolding resumed
 closing-step string around done byte text h =
-    ap (λ o. finished (resumed around) string done (then_parts string.form o)) (expression-step string.braces (byte ∷ text) ∙ rw h refl)
+    let step : enough.expression string.braces (byte ∷ text) ≡ Some (record { pieces = (InterpolationClosing, codes "}") ∷ []; rest = text }) = expression-step string.braces (byte ∷ text) ∙ rw h refl in
+    ap (λ o. finished (resumed around) string done (then_parts string.form o)) step
     ∙ finished-behind (resumed around) string done ((InterpolationClosing, codes "}") ∷ []) (enough.parts string.form [] text)
 
 -- an interpolation whose text ends
@@ -132,9 +133,31 @@ ending-step string around done = ap (λ o. finished (resumed around) string done
 
 -- Within a string, behind its plain bytes.
 
-plain-done : (string : Suspended) (around : List Suspended) (done : List Spelled) (begun text : List ℕ) → 1 ≤ length string.form.quotes
-    → resumed_within string around done begun text ≡ (let size = plain_size string.form text in finished (resumed around) string done (after_plain enough string.form begun (take size text) (drop size text)))
-plain-done string around done begun text some = ap (finished (resumed around) string done) (parts-step string.form begun text some)
+plain-done : (string : Suspended) (around : List Suspended) (done : List Spelled) (begun text : List ℕ) (size : ℕ) → 1 ≤ length string.form.quotes → size ≡ plain_size string.form text
+    → resumed_within string around done begun text ≡ finished (resumed around) string done (after_plain enough string.form begun (take size text) (drop size text))
+plain-done string around done begun text size some is =
+    ap (finished (resumed around) string done) (parts-step string.form begun text some)
+    ∙ ap (λ n. finished (resumed around) string done (after_plain enough string.form begun (take n text) (drop n text))) (sym is)
+
+-- what follows the plain bytes, by the tests for it
+ends-row : (ends : Bool) (x y : Option Read) → ends ≡ true → (if ends then x else y) ≡ x
+ends-row true x y e = refl
+ends-row false x y e = absurd (cc)
+
+expression-chosen : (ends raw opens : Bool) (x a b : Option Read) (f : Option Read → Option Read) → ends ≡ false → raw ≡ false → opens ≡ true
+    → (if ends then x else f (if raw then None else (if opens then a else b))) ≡ f a
+expression-chosen false false true x a b f e g h = refl
+expression-chosen false false false x a b f e g h = absurd (cc)
+expression-chosen false true opens x a b f e g h = absurd (cc)
+expression-chosen true raw opens x a b f e g h = absurd (cc)
+
+name-chosen : (ends raw opens named : Bool) (x a b : Option Read) (f : Option Read → Option Read) → ends ≡ false → raw ≡ false → opens ≡ false → named ≡ true
+    → (if ends then x else f (if raw then None else (if opens then a else (if named then b else None)))) ≡ f b
+name-chosen false false false true x a b f e g h k = refl
+name-chosen false false false false x a b f e g h k = absurd (cc)
+name-chosen false false true named x a b f e g h k = absurd (cc)
+name-chosen false true opens named x a b f e g h k = absurd (cc)
+name-chosen true raw opens named x a b f e g h k = absurd (cc)
 
 -- its quotes
 pub quotes-step : (string : Suspended) (around : List Suspended) (done : List Spelled) (begun text : List ℕ) (size : ℕ) → 1 ≤ length string.form.quotes → size ≡ plain_size string.form text
@@ -142,7 +165,10 @@ pub quotes-step : (string : Suspended) (around : List Suspended) (done : List Sp
     → resumed_within string around done begun text
     ≡ resumed around (done ++ (last_class begun, begun ++ take size text ++ string.form.quotes) ∷ []) (drop (length string.form.quotes) (drop size text) ++ string.beyond)
 quotes-step string around done begun text size some is ends =
-    plain-done string around done begun text some ∙ rw (← is) (rw ends refl)
+    let row : after_plain enough string.form begun (take size text) (drop size text)
+    ≡ Some (record { pieces = (last_class begun, begun ++ take size text ++ string.form.quotes) ∷ []; rest = drop (length string.form.quotes) (drop size text) }) =
+    ends-row (begins (drop size text) string.form.quotes) _ _ ends in
+    plain-done string around done begun text size some is ∙ ap (finished (resumed around) string done) row
 
 -- an interpolation of an expression
 pub opening-step : (string : Suspended) (around : List Suspended) (done : List Spelled) (begun text : List ℕ) (size : ℕ) → 1 ≤ length string.form.quotes → size ≡ plain_size string.form text
@@ -151,10 +177,12 @@ pub opening-step : (string : Suspended) (around : List Suspended) (done : List S
     ≡ resumed (record string { braces = 0 } ∷ around) ((done ++ part_before begun (take size text)) ++ (InterpolationOpening, codes "${") ∷ []) (drop 2 (drop size text))
 unfolding resumed
 opening-step string around done begun text size some is ends raw opens =
-    plain-done string around done begun text some ∙ rw (← is) (rw (ends, raw, opens) (
-      finished-behind (resumed around) string done (part_before begun (take size text)) (expression_row enough string.form (drop size text))
-      ∙ of (enough.expression 0 (drop 2 (drop size text)))
-    ))
+    let row : after_plain enough string.form begun (take size text) (drop size text) ≡ option_map (behind (part_before begun (take size text))) (expression_row enough string.form (drop size text)) =
+    expression-chosen (begins (drop size text) string.form.quotes) string.form.raw (begins (drop size text) (codes "${")) _ (expression_row enough string.form (drop size text)) _ (option_map (behind (part_before begun (take size text)))) ends raw opens in
+    plain-done string around done begun text size some is
+    ∙ ap (finished (resumed around) string done) row
+    ∙ finished-behind (resumed around) string done (part_before begun (take size text)) (expression_row enough string.form (drop size text))
+    ∙ of (enough.expression 0 (drop 2 (drop size text)))
   where
     behind-all : (inner : Read) (o : Option Read)
         → finished (resumed around) string (done ++ part_before begun (take size text)) (option_map (behind ((InterpolationOpening, codes "${") ∷ inner.pieces)) o)
@@ -174,17 +202,20 @@ pub name-step : (string : Suspended) (around : List Suspended) (done : List Spel
     → resumed_within string around done begun text ≡ (let name = name_size (drop 1 (drop size text)) in
       resumed_within string around ((done ++ part_before begun (take size text)) ++ (InterpolationMark, codes "$") ∷ (Word, take name (drop 1 (drop size text))) ∷ []) [] (drop (1 + name) (drop size text)))
 name-step string around done begun text size some is ends raw opens named =
-    plain-done string around done begun text some ∙ rw (← is) (rw (ends, raw, opens, named) (
-      finished-behind (resumed around) string done (part_before begun (take size text)) (name_row enough string.form (drop size text))
-      ∙ finished-behind (resumed around) string (done ++ part_before begun (take size text)) _ _
-    ))
+    let row : after_plain enough string.form begun (take size text) (drop size text) ≡ option_map (behind (part_before begun (take size text))) (name_row enough string.form (drop size text)) =
+    name-chosen (begins (drop size text) string.form.quotes) string.form.raw (begins (drop size text) (codes "${")) (begins_name (drop size text)) _ _ (name_row enough string.form (drop size text)) (option_map (behind (part_before begun (take size text)))) ends raw opens named in
+    plain-done string around done begun text size some is
+    ∙ ap (finished (resumed around) string done) row
+    ∙ finished-behind (resumed around) string done (part_before begun (take size text)) (name_row enough string.form (drop size text))
+    ∙ finished-behind (resumed around) string (done ++ part_before begun (take size text)) ((InterpolationMark, codes "$") ∷ (Word, take (name_size (drop 1 (drop size text))) (drop 1 (drop size text))) ∷ [])
+    (enough.parts string.form [] (drop (1 + name_size (drop 1 (drop size text))) (drop size text)))
 
 -- nothing, since the text ends
 pub never-step : (string : Suspended) (around : List Suspended) (done : List Spelled) (begun text : List ℕ) (size : ℕ) → 1 ≤ length string.form.quotes → size ≡ plain_size string.form text
     → begins (drop size text) string.form.quotes ≡ false → (string.form.raw ≡ false → (begins (drop size text) (codes "${") ≡ false) × (begins_name (drop size text) ≡ false))
     → resumed_within string around done begun text ≡ resumed around (string.before ++ (UnterminatedString, string.reach) ∷ []) string.beyond
 never-step string around done begun text size some is ends neither =
-    plain-done string around done begun text some ∙ rw (← is) (rw ends (of string.form.raw neither))
+    plain-done string around done begun text size some is ∙ rw ends (of string.form.raw neither)
   where
     of : (raw : Bool) → (raw ≡ false → (begins (drop size text) (codes "${") ≡ false) × (begins_name (drop size text) ≡ false))
         → finished (resumed around) string done (option_map (behind (part_before begun (take size text)))

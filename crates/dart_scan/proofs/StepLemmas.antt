@@ -85,8 +85,8 @@ pub name-some : (text : List ℕ) → 0 < name_size text → 0 < length (take (n
 name-some [] h = absurd (omega (arith, h))
 name-some (b ∷ text) h = omega (arith, h, length-take (name_size (b ∷ text)) (b ∷ text))
 
-named : (text : List ℕ) (b : Bool) → (begins text (codes "$") && (nat_lt 0 (name_size (drop 1 text)) && b)) ≡ true → (begins text (codes "$") ≡ true) × (0 < name_size (drop 1 text))
-named text b h = of (begins text (codes "$")) (nat_lt 0 (name_size (drop 1 text))) refl refl h
+pub named-parts : (text : List ℕ) (b : Bool) → (begins text (codes "$") && (nat_lt 0 (name_size (drop 1 text)) && b)) ≡ true → (begins text (codes "$") ≡ true) × (0 < name_size (drop 1 text))
+named-parts text b h = of (begins text (codes "$")) (nat_lt 0 (name_size (drop 1 text))) refl refl h
   where
     of : (s t : Bool) → begins text (codes "$") ≡ s → nat_lt 0 (name_size (drop 1 text)) ≡ t → (s && (t && b)) ≡ true → (begins text (codes "$") ≡ true) × (0 < name_size (drop 1 text))
     of true true e f h = (e, grind (arith, nat_tests, f))
@@ -106,7 +106,7 @@ name-of-size fewer fair form text size some e h =
 
 name-fair : (fewer : Fewer) → IsFair fewer → (form : Form) (text : List ℕ) → 1 ≤ length form.quotes → begins_name text ≡ true → IfSome (name_row fewer form text) (Fair text (length text))
 name-fair fewer fair form text some h =
-    let known : (begins text (codes "$") ≡ true) × (0 < name_size (drop 1 text)) = named text (is_interpolated (take (name_size (drop 1 text)) (drop 1 text))) h in
+    let known : (begins text (codes "$") ≡ true) × (0 < name_size (drop 1 text)) = named-parts text (is_interpolated (take (name_size (drop 1 text)) (drop 1 text))) h in
     name-of-size fewer fair form text (name_size (drop 1 text)) some known.0 (name-some (drop 1 text) known.1)
 
 expression-fair : (fewer : Fewer) → IsFair fewer → (form : Form) (text : List ℕ) → 1 ≤ length form.quotes → begins text (codes "${") ≡ true → IfSome (expression_row fewer form text) (Fair text (length text))

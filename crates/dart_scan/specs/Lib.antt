@@ -4,7 +4,9 @@ pub mod Comments
 pub mod Strings
 pub mod Pieces
 pub mod Openings
+pub mod Endings
 pub mod Suspended
+pub mod Cutting
 pub mod Values
 pub mod Faults
 pub mod Scanned

@@ -4,12 +4,17 @@ ghost use Rattle.std.specs.Prelude.{◌≡◌, ◌<◌, IfOk, All, sum_by, lengt
 ghost use Rattle.dart_scan.specs.Pieces.{pieces, spelled};
 
 mod comment;
+mod cutting;
+mod ending;
 mod form;
 mod lexeme;
+mod line;
 mod mark;
 mod name;
 mod number;
+mod open;
 
+use crate::cut::cutting::Cutting;
 use crate::piece::Piece;
 use std::alloc::{AllocError, Global};
 
@@ -19,5 +24,7 @@ pub fn cut(alloc: Global, text: &[u8]) -> Result<Vec<Piece>, AllocError>
     ensures cover { IfOk result (λ cut. sum_by (λ piece. piece.size) cut.items ≡ length text.now) }
     ensures some { IfOk result (λ cut. All (λ piece. 0 < piece.size) cut.items) }
 {
-    Err(AllocError)
+    let mut cutting = Cutting::begin(alloc, text)?;
+    while cutting.step()? {}
+    Ok(cutting.into_pieces())
 }

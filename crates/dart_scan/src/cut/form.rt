@@ -1,7 +1,7 @@
 //! The forms of strings, and what ends a piece of one.
 
-ghost use Rattle.std.specs.Prelude.{◌≡◌, ◌<◌, ◌≤◌, false, length, option_map, true};
-ghost use Rattle.dart_scan.specs.Strings.{opening_of, string_form, begins_escape, begins_interpolation, ends_piece, plain_size};
+ghost use Rattle.std.specs.Prelude.{◌≡◌, ◌<◌, ◌≤◌, ◌==◌, ◌&&◌, false, length, not, option_map, true};
+ghost use Rattle.dart_scan.specs.Strings.{form_of, opening_of, string_form, begins_interpolation, ends_piece, plain_size};
 ghost use Rattle.dart_scan.specs.Openings.{shape, taken};
 
 use crate::cut::name::begins_name;
@@ -26,48 +26,12 @@ impl StringForm {
         }
     }
 
-    /// A piece of such a string ends where the text begins: the string ends, or an interpolation begins.
-    fn ends_piece(self, text: &[u8]) -> bool
-        ensures { result ≡ ends_piece (shape self) text.now }
-    {
-        text.starts_with(self.quotes) || !self.raw && begins_interpolation(text)
-    }
-
-    /// A backslash that takes the byte behind it with it.
-    fn begins_escape(self, byte: u8) -> bool
-        ensures { result ≡ begins_escape (shape self) byte }
-    {
-        !self.raw && byte == b'\\'
-    }
-
-    /// How many bytes are plain together, where no piece of such a string ends: two, where an escape
-    /// takes the byte behind it.
-    fn taken(self, text: &[u8]) -> usize
-        requires { 0 < length text.now }
-        ensures size { result ≡ taken (shape self) text.now }
-        ensures some { 0 < result }
-        ensures within { result ≤ length text.now }
-    {
-        match text {
-            [first, _, ..] if self.begins_escape(*first) => 2,
-            _ => 1,
-        }
-    }
-
     /// How many bytes stand before the end of a piece of such a string, or before the end of the text.
     pub fn plain_size(self, text: &[u8]) -> usize
         ensures size { result ≡ plain_size (shape self) text.now }
         ensures within { result ≤ length text.now }
     {
-        let mut at = 0;
-        while at < text.len() {
-            let rest = &text[at..];
-            if self.ends_piece(rest) {
-                return at;
-            }
-            at += self.taken(rest);
-        }
-        at
+        plain_size(self.raw, self.quotes, text)
     }
 }
 
@@ -76,6 +40,50 @@ fn begins_interpolation(text: &[u8]) -> bool
     ensures { result ≡ begins_interpolation text.now }
 {
     text.starts_with(b"${") || begins_name(text)
+}
+
+/// A piece of a string ends where the text begins: the string ends, or an interpolation begins.
+fn ends_piece(raw: bool, quotes: &[u8], text: &[u8]) -> bool
+    ensures { result ≡ ends_piece (form_of raw quotes.now) text.now }
+{
+    text.starts_with(quotes) || !raw && begins_interpolation(text)
+}
+
+/// A backslash that takes the byte behind it with it.
+fn begins_escape(raw: bool, byte: u8) -> bool
+    ensures { result ≡ (not raw && byte == 92) }
+{
+    !raw && byte == b'\\'
+}
+
+/// How many bytes are plain together, where no piece of a string ends: two, where an escape takes the
+/// byte behind it.
+fn taken(raw: bool, text: &[u8]) -> usize
+    requires { 0 < length text.now }
+    ensures size { result ≡ taken raw text.now }
+    ensures some { 0 < result }
+    ensures within { result ≤ length text.now }
+{
+    match text {
+        [first, _, ..] if begins_escape(raw, *first) => 2,
+        _ => 1,
+    }
+}
+
+/// How many bytes stand before the end of a piece of a string, or before the end of the text.
+fn plain_size(raw: bool, quotes: &[u8], text: &[u8]) -> usize
+    ensures size { result ≡ plain_size (form_of raw quotes.now) text.now }
+    ensures within { result ≤ length text.now }
+{
+    let mut at = 0;
+    while at < text.len() {
+        let rest = &text[at..];
+        if ends_piece(raw, quotes, rest) {
+            return at;
+        }
+        at += taken(raw, rest);
+    }
+    at
 }
 
 fn raw(quotes: &'static [u8]) -> StringForm
