@@ -1,7 +1,8 @@
 -- Each step of a cut leads to the same pieces.
-use Rattle.std.proofs.Common.{◌≡◌, ◌≢◌, ℕ, zero, suc, ◌+◌, ◌-◌, ◌*◌, ◌≤◌, ◌<◌, ◌==◌, ◌&&◌, Bool, true, false, List, [], ◌∷◌, ◌++◌, length, take, drop, codes, if◌then◌else◌, Option, Some, None, refl, sym, ap, subst, ◌∙◌, arith, length-append, length-drop, length-take, append_assoc, append-nil}
-use Rattle.std.specs.Prelude.{All, slice_range}
+use Rattle.std.proofs.Common.{◌≡◌, ◌≢◌, ℕ, zero, suc, ◌+◌, ◌-◌, ◌*◌, ◌≤◌, ◌<◌, ◌==◌, ◌&&◌, Bool, true, false, List, [], ◌∷◌, ◌++◌, length, take, drop, codes, if◌then◌else◌, Option, Some, None, refl, sym, ap, subst, ◌∙◌, arith, length-append, length-drop, length-take, append_assoc, append-nil, OnOk, min}
+use Rattle.std.specs.Prelude.{All, slice_range, Ok, Err}
 use Rattle.std.specs.Option.{option_map_or}
+use Rattle.std.specs.declared.result.Result.{Result}
 use Rattle.std.proofs.lemmas.List.{take-take, take-append-le, take_all, drop-drop}
 use Rattle.std.proofs.lemmas.List.Elements.{All-nil, All-push, All-take}
 use Rattle.std.proofs.lemmas.List.Sums.{sum_by_push, sum_by-take-le}
@@ -10,11 +11,12 @@ use Rattle.dart_scan.specs.declared.piece.Class.{Class}
 use Rattle.dart_scan.specs.declared.piece.Class.TheVariants.{Gap, Word, StringLiteral, StringOpening, StringPart, StringClosing, UnterminatedString, InterpolationMark, InterpolationOpening, InterpolationClosing}
 use Rattle.dart_scan.specs.declared.piece.Piece.{Piece}
 use Rattle.dart_scan.specs.declared.cut.form.StringForm.{StringForm}
-use Rattle.dart_scan.specs.declared.cut.open.OpenString.{OpenString}
+use Rattle.dart_scan.specs.declared.cut.strings.OpenString.{OpenString}
 use Rattle.dart_scan.specs.declared.cut.line.Line.{Line}
 use Rattle.dart_scan.specs.declared.cut.cutting.Within.{Within}
 use Rattle.dart_scan.specs.declared.cut.cutting.Within.TheVariants.{InCode, InString}
-use Rattle.dart_scan.specs.Lexemes.{begins}
+use Rattle.dart_scan.specs.Characters.{is_within_line}
+use Rattle.dart_scan.specs.Lexemes.{begins, run}
 use Rattle.dart_scan.specs.Strings.{Form, opening_of, string_form, within_reach, name_size, is_interpolated, begins_name, plain_size}
 use Rattle.dart_scan.specs.Pieces.{Spelled, spelled, piece_at, string_at, braces_behind, last_class, part_before, within_steps, pieces_within, pieces}
 use Rattle.dart_scan.specs.Openings.{shape}
@@ -26,6 +28,7 @@ use Rattle.dart_scan.proofs.FormLemmas.{begins-split, Opens, opens, Reaches, rea
 use Rattle.dart_scan.proofs.StepLemmas.{opening-some, named-parts, pieces-enough}
 use Rattle.dart_scan.proofs.ResumeLemmas.{braced, ends_interpolation, piece-step, string-step, closing-step, ending-step, quotes-step, opening-step, name-step, never-step}
 use Rattle.dart_scan.proofs.RangeLemmas.{range-length, range-drop, range-take, range-join, range-last, range-none, front-is, spelled-push}
+use Rattle.dart_scan.proofs.LineLemmas.{line-reach}
 use Rattle.dart_scan.proofs.GrowthLemmas.{same-front, all-same, nested-same, nested-within, Counted, Grows, grows-added, grows-twice, grows-part, part-at, part-text, part-end, part-line}
 
 -- What is known of a cut.
@@ -38,23 +41,22 @@ record CodeAt (cut : Cut) (braces : ℕ) : Type 0 where
   sound : Sound cut
   here : cut.within ≡ InCode braces
   few : braces ≤ cut.at
-  nested : Nested cut.text cut.pieces cut.end cut.open
+  nested : Nested cut.text cut.pieces cut.end cut.around
   within : cut.end ≤ length cut.text
   size : length (rest_of cut) ≡ cut.end - cut.at
   comes : to_come cut ≡ to_come_within (InCode braces) cut
-  left : steps_left cut.within cut ≡ 2 * (length cut.text - cut.at) + length cut.open
+  left : steps_left cut.within cut ≡ 2 * (length cut.text - cut.at) + length cut.around
 
 code-at : (cut : Cut) (braces : ℕ) → Sound cut → cut.within ≡ InCode braces → CodeAt cut braces
 code-at cut braces s e =
     let stands : Stands (InCode braces) cut = subst (λ w. Stands w cut) e s.stands in
-    let within : cut.end ≤ length cut.text = nested-within cut.text cut.pieces cut.end cut.open stands.1 in
     record {
       sound = s;
       here = e;
       few = stands.0;
       nested = stands.1;
-      within = within;
-      size = range-length cut.text cut.at cut.end s.within within;
+      within = s.inside;
+      size = range-length cut.text cut.at cut.end s.within s.inside;
       comes = ap (λ w. to_come_within w cut) e;
       left = ap (λ w. steps_left w cut) e;
     }
@@ -64,26 +66,25 @@ record StringAt (cut : Cut) (string : OpenString) (begun : ℕ) : Type 0 where
   sound : Sound cut
   known : cut.at + begun ≤ cut.end
   lies : Lies cut.pieces cut.end string
-  around : Nested cut.text (take string.pieces cut.pieces) string.outside cut.open
-  nested : Nested cut.text cut.pieces cut.end (string ∷ cut.open)
+  around : Nested cut.text (take string.pieces cut.pieces) string.outside cut.around
+  nested : Nested cut.text cut.pieces cut.end (string ∷ cut.around)
   within : cut.end ≤ length cut.text
   size : length (rest_of cut) ≡ cut.end - cut.at
   comes : to_come cut ≡ to_come_within (InString string begun) cut
-  left : steps_left cut.within cut ≡ 2 * (length cut.text - (cut.at + begun)) + length cut.open + 1
+  left : steps_left cut.within cut ≡ 2 * (length cut.text - (cut.at + begun)) + length cut.around + 1
 
 string-at : (cut : Cut) (string : OpenString) (begun : ℕ) → Sound cut → cut.within ≡ InString string begun → StringAt cut string begun
 unfolding Nested
 string-at cut string begun s e =
     let stands : Stands (InString string begun) cut = subst (λ w. Stands w cut) e s.stands in
-    let within : cut.end ≤ length cut.text = nested-within cut.text cut.pieces cut.end (string ∷ cut.open) stands.1 in
     record {
       sound = s;
       known = stands.0;
       lies = stands.1.0;
       around = stands.1.1;
       nested = stands.1;
-      within = within;
-      size = range-length cut.text cut.at cut.end s.within within;
+      within = s.inside;
+      size = range-length cut.text cut.at cut.end s.within s.inside;
       comes = ap (λ w. to_come_within w cut) e;
       left = ap (λ w. steps_left w cut) e;
     }
@@ -94,8 +95,8 @@ and-both : (a b : Bool) → a ≡ true → b ≡ true → (a && b) ≡ true
 and-both true b e f = f
 and-both false b e f = absurd (cc)
 
-goes-on : (text : List ℕ) (pieces : List Piece) (end braces : ℕ) (open : List OpenString) (rest : List ℕ) → (begins rest (codes "}") ≡ true → braces ≡ 0 → open ≡ [])
-    → ends_interpolation (all_suspended text pieces end braces open) rest ≡ false
+goes-on : (text : List ℕ) (pieces : List Piece) (end braces : ℕ) (opened : List OpenString) (rest : List ℕ) → (begins rest (codes "}") ≡ true → braces ≡ 0 → opened ≡ [])
+    → ends_interpolation (all_suspended text pieces end braces opened) rest ≡ false
 unfolding all_suspended
 goes-on text pieces end braces [] rest h = refl
 goes-on text pieces end zero (string ∷ around) rest h = of (begins rest (codes "}")) refl
@@ -106,14 +107,16 @@ goes-on text pieces end zero (string ∷ around) rest h = of (begins rest (codes
         nothing : string ∷ around ≡ [] → ⊥
         nothing e = absurd (cc)
     of false e = refl
-goes-on text pieces end (suc braces) (string ∷ around) rest h = of (begins rest (codes "}"))
+goes-on text pieces end (suc braces) (string ∷ around) rest h =
+    let test : (suc braces == 0) ≡ false = grind arith in
+    rw test (of (begins rest (codes "}")))
   where
     of : (b : Bool) → (b && false) ≡ false
     of true = refl
     of false = refl
 
-braced-all : (text : List ℕ) (pieces : List Piece) (end braces : ℕ) (open : List OpenString) (rest : List ℕ)
-    → braced (all_suspended text pieces end braces open) rest ≡ all_suspended text pieces end (braces_behind braces rest) open
+braced-all : (text : List ℕ) (pieces : List Piece) (end braces : ℕ) (opened : List OpenString) (rest : List ℕ)
+    → braced (all_suspended text pieces end braces opened) rest ≡ all_suspended text pieces end (braces_behind braces rest) opened
 unfolding all_suspended
 braced-all text pieces end braces [] rest = refl
 braced-all text pieces end braces (string ∷ around) rest = refl
@@ -133,20 +136,20 @@ piece-next : (strings : List Suspended) (done : List Spelled) (text : List ℕ) 
 piece-next strings done [] h e f = absurd (omega (arith, h))
 piece-next strings done (byte ∷ text) h e f = piece-step strings done byte text e f
 
-pub passes : (old : Cut) (piece : Piece) (braces after : ℕ) → Sound old → old.within ≡ InCode braces → old.at < old.end → (begins (rest_of old) (codes "}") ≡ true → braces ≡ 0 → old.open ≡ [])
+pub passes : (old : Cut) (piece : Piece) (braces after : ℕ) → Sound old → old.within ≡ InCode braces → old.at < old.end → (begins (rest_of old) (codes "}") ≡ true → braces ≡ 0 → old.around ≡ [])
     → string_form (rest_of old) ≡ None → piece ≡ piece_at false (rest_of old) → 0 < piece.size → piece.size ≤ length (rest_of old) → after ≡ braces_behind braces (rest_of old)
     → Steps old (passed piece after old)
 passes old piece braces after s e some outside none is least within behind =
     let at : CodeAt old braces = code-at old braces s e in
     let grown : Grows old (added piece.class piece.size old) ((piece.class, take piece.size (rest_of old)) ∷ []) = grows-added old piece.class piece.size (counted old s) least (omega (arith, at.size, within)) in
     let here : 1 ≤ length (rest_of old) = omega (arith, at.size, some) in
-    let strings : all_suspended old.text (old.pieces ++ piece ∷ []) old.end after old.open ≡ braced (all_suspended old.text old.pieces old.end braces old.open) (rest_of old) =
-    all-same old.text (length old.pieces) (old.pieces ++ piece ∷ []) old.pieces old.end after old.open grown.kept at.nested
-    ∙ ap (λ b. all_suspended old.text old.pieces old.end b old.open) behind ∙ sym (braced-all old.text old.pieces old.end braces old.open (rest_of old)) in
-    let step = piece-next (all_suspended old.text old.pieces old.end braces old.open) (spelled old.pieces old.text) (rest_of old) here (goes-on old.text old.pieces old.end braces old.open (rest_of old) outside) none in
-    let onward : resumed (braced (all_suspended old.text old.pieces old.end braces old.open) (rest_of old)) (spelled old.pieces old.text ++ (piece.class, take piece.size (rest_of old)) ∷ []) (drop piece.size (rest_of old))
-    ≡ resumed (all_suspended old.text old.pieces old.end braces old.open) (spelled old.pieces old.text) (rest_of old) =
-    ap (λ p. resumed (braced (all_suspended old.text old.pieces old.end braces old.open) (rest_of old)) (spelled old.pieces old.text ++ (p.class, take p.size (rest_of old)) ∷ []) (drop p.size (rest_of old))) is ∙ sym step in
+    let strings : all_suspended old.text (old.pieces ++ piece ∷ []) old.end after old.around ≡ braced (all_suspended old.text old.pieces old.end braces old.around) (rest_of old) =
+    all-same old.text (length old.pieces) (old.pieces ++ piece ∷ []) old.pieces old.end after old.around grown.kept at.nested
+    ∙ ap (λ b. all_suspended old.text old.pieces old.end b old.around) behind ∙ sym (braced-all old.text old.pieces old.end braces old.around (rest_of old)) in
+    let step = piece-next (all_suspended old.text old.pieces old.end braces old.around) (spelled old.pieces old.text) (rest_of old) here (goes-on old.text old.pieces old.end braces old.around (rest_of old) outside) none in
+    let onward : resumed (braced (all_suspended old.text old.pieces old.end braces old.around) (rest_of old)) (spelled old.pieces old.text ++ (piece.class, take piece.size (rest_of old)) ∷ []) (drop piece.size (rest_of old))
+    ≡ resumed (all_suspended old.text old.pieces old.end braces old.around) (spelled old.pieces old.text) (rest_of old) =
+    ap (λ p. resumed (braced (all_suspended old.text old.pieces old.end braces old.around) (rest_of old)) (spelled old.pieces old.text ++ (p.class, take p.size (rest_of old)) ∷ []) (drop p.size (rest_of old))) is ∙ sym step in
     let bound : after ≤ braces + 1 = omega (arith, behind, braces-few braces (rest_of old)) in
     record {
       text = refl;
@@ -154,13 +157,14 @@ passes old piece braces after s e some outside none is least within behind =
         pieces = grown.counted.pieces;
         some = grown.counted.some;
         within = omega (arith, at.size, within, s.within);
+        inside = s.inside;
         line = s.line;
         from = omega (arith, s.from);
-        stands = (omega (arith, bound, least, at.few), nested-same old.text (length old.pieces) (old.pieces ++ piece ∷ []) old.pieces old.end old.open grown.kept at.nested);
+        stands = (omega (arith, bound, least, at.few), nested-same old.text (length old.pieces) (old.pieces ++ piece ∷ []) old.pieces old.end old.around grown.kept at.nested);
       };
       same = ap (λ ss. resumed ss (spelled (old.pieces ++ piece ∷ []) old.text) (slice_range old.text (old.at + piece.size) old.end)) strings
-        ∙ ap (λ d. resumed (braced (all_suspended old.text old.pieces old.end braces old.open) (rest_of old)) d (slice_range old.text (old.at + piece.size) old.end)) grown.spells
-        ∙ ap (resumed (braced (all_suspended old.text old.pieces old.end braces old.open) (rest_of old)) (spelled old.pieces old.text ++ (piece.class, take piece.size (rest_of old)) ∷ []))
+        ∙ ap (λ d. resumed (braced (all_suspended old.text old.pieces old.end braces old.around) (rest_of old)) d (slice_range old.text (old.at + piece.size) old.end)) grown.spells
+        ∙ ap (resumed (braced (all_suspended old.text old.pieces old.end braces old.around) (rest_of old)) (spelled old.pieces old.text ++ (piece.class, take piece.size (rest_of old)) ∷ []))
         (sym (range-drop old.text old.at old.end piece.size (omega (arith, at.size, within, s.within))))
         ∙ onward ∙ sym at.comes;
       less = omega (arith, at.left, least, within, at.size, at.within, s.within);
@@ -194,7 +198,7 @@ abbrev entering : Form → Cut → (ps : List Piece) → List Suspended → (rea
 entering form old ps around reach beyond begun =
     resumed_within (record { form = form; before = spelled ps old.text; reach = reach; beyond = beyond; braces = 0 }) around (spelled old.pieces old.text) begun (drop (length (opening_of form)) reach)
 
-pub enters : (old : Cut) (form : StringForm) (braces : ℕ) (line : Line) → Sound old → old.within ≡ InCode braces → old.at < old.end → (begins (rest_of old) (codes "}") ≡ true → braces ≡ 0 → old.open ≡ [])
+pub enters : (old : Cut) (form : StringForm) (braces : ℕ) (line : Line) → Sound old → old.within ≡ InCode braces → old.at < old.end → (begins (rest_of old) (codes "}") ≡ true → braces ≡ 0 → old.around ≡ [])
     → string_form (rest_of old) ≡ Some (shape form) → Ends old.text line → line.from ≤ old.at
     → Steps old (entered form braces (old.at + length (within_reach (shape form) (rest_of old))) line old)
 unfolding Nested
@@ -205,7 +209,7 @@ enters old form braces line s e some outside is ends from =
     let reach = within_reach (shape form) (rest_of old) in
     let opening = opening_of (shape form) in
     let end = old.at + length reach in
-    let around = all_suspended old.text old.pieces old.end braces old.open in
+    let around = all_suspended old.text old.pieces old.end braces old.around in
     let here : 1 ≤ length (rest_of old) = omega (arith, at.size, some) in
     let begun : 1 ≤ length opening = opening-some (shape form) o.some in
     let far : length opening ≤ length reach = omega (arith, ap length r.opened, length-append opening (drop (length opening) reach)) in
@@ -217,51 +221,54 @@ enters old form braces line s e some outside is ends from =
     let front : take (length opening) reach ≡ opening = front-is opening (drop (length opening) reach) reach (sym r.opened) in
     let pieces : take (length old.pieces) old.pieces ≡ old.pieces = take_all (length old.pieces) old.pieces (omega arith) in
     let strings : around ≡ braced around (rest_of old) =
-    ap (λ b. all_suspended old.text old.pieces old.end b old.open) (sym (braces-kept braces (rest_of old) (shape form) is)) ∙ sym (braced-all old.text old.pieces old.end braces old.open (rest_of old)) in
+    ap (λ b. all_suspended old.text old.pieces old.end b old.around) (sym (braces-kept braces (rest_of old) (shape form) is)) ∙ sym (braced-all old.text old.pieces old.end braces old.around (rest_of old)) in
     record {
       text = refl;
       sound = record {
         pieces = s.pieces;
         some = s.some;
         within = omega arith;
+        inside = omega (arith, near, s.within, s.inside);
         line = ends;
         from = from;
         stands = (
           omega (arith, far),
-          record {
-            some = o.some;
-            short = o.few;
-            few = omega arith;
-            start = ap size_of pieces ∙ s.pieces;
-            forward = omega (arith, begun, far);
-            outside = omega (arith, near, s.within);
-            braces = at.few;
-          },
-          subst (λ ps. Nested old.text ps old.end old.open) (sym pieces) at.nested,
+          (
+            record {
+              some = o.some;
+              short = o.few;
+              few = omega arith;
+              start = ap size_of pieces ∙ s.pieces;
+              forward = omega (arith, begun, far);
+              outside = omega (arith, near, s.within);
+              braces = at.few;
+            },
+            subst (λ ps. Nested old.text ps old.end old.around) (sym pieces) at.nested,
+          ),
         );
       };
-      same = ap (λ ps. entering (shape form) old ps (all_suspended old.text ps old.end braces old.open) (slice_range old.text old.at end) (slice_range old.text end old.end) (take (length opening) (slice_range old.text old.at end))) pieces
+      same = ap (λ ps. entering (shape form) old ps (all_suspended old.text ps old.end braces old.around) (slice_range old.text old.at end) (slice_range old.text end old.end) (take (length opening) (slice_range old.text old.at end))) pieces
         ∙ ap (λ w. entering (shape form) old old.pieces around w (slice_range old.text end old.end) (take (length opening) w)) whole
         ∙ ap (λ b. entering (shape form) old old.pieces around reach b (take (length opening) reach)) beyond
         ∙ ap (λ b. entering (shape form) old old.pieces around reach (drop (length reach) (rest_of old)) b) front
         ∙ ap (λ ss. entering (shape form) old old.pieces ss reach (drop (length reach) (rest_of old)) opening) strings
-        ∙ sym (string-next around (spelled old.pieces old.text) (rest_of old) (shape form) here (goes-on old.text old.pieces old.end braces old.open (rest_of old) outside) is) ∙ sym at.comes;
+        ∙ sym (string-next around (spelled old.pieces old.text) (rest_of old) (shape form) here (goes-on old.text old.pieces old.end braces old.around (rest_of old) outside) is) ∙ sym at.comes;
       less = omega (arith, at.left, begun, far, near, at.within, s.within);
     }
 
 -- an open string and those around it, where these pieces stand before it
 abbrev resumed_in : (text : List ℕ) → OpenString → (end : ℕ) → List OpenString → (ps : List Piece) → (done : List Spelled) → (begun rest : List ℕ) → List Spelled
-resumed_in text string end open ps done begun rest =
+resumed_in text string end opened ps done begun rest =
     resumed_within (record { form = shape string.form; before = spelled ps text; reach = slice_range text string.start end; beyond = slice_range text end string.outside; braces = 0 })
-    (all_suspended text ps string.outside string.braces open) done begun rest
+    (all_suspended text ps string.outside string.braces opened) done begun rest
 
 closing-next : (string : Suspended) (around : List Suspended) (done : List Spelled) (text : List ℕ) → 1 ≤ length text → ends_interpolation (string ∷ around) text ≡ true
     → resumed (string ∷ around) done text ≡ resumed_within string around (done ++ (InterpolationClosing, codes "}") ∷ []) [] (drop 1 text)
 closing-next string around done [] h e = absurd (omega (arith, h))
 closing-next string around done (byte ∷ text) h e = closing-step string around done byte text e
 
-pub continues : (old : Cut) (string : OpenString) (around : List OpenString) → Sound old → old.within ≡ InCode 0 → old.at < old.end → begins (rest_of old) (codes "}") ≡ true → old.open ≡ string ∷ around
-    → Steps old (continued string (record old { open = around }))
+pub continues : (old : Cut) (string : OpenString) (around : List OpenString) → Sound old → old.within ≡ InCode 0 → old.at < old.end → begins (rest_of old) (codes "}") ≡ true → old.around ≡ string ∷ around
+    → Steps old (continued string (record old { around = around }))
 unfolding Nested all_suspended
 continues old string around s e some closes is =
     let at : CodeAt old 0 = code-at old 0 s e in
@@ -272,13 +279,14 @@ continues old string around s e some closes is =
     let kept : take string.pieces pieces ≡ take string.pieces old.pieces = same-front (length old.pieces) string.pieces pieces old.pieces grown.kept nested.0.few in
     let byte : take 1 (rest_of old) ≡ codes "}" = ap (take 1) (begins-split (codes "}") (rest_of old) closes) in
     let ends : (begins (rest_of old) (codes "}") && 0 == 0) ≡ true = and-both (begins (rest_of old) (codes "}")) (0 == 0) closes refl in
-    let less : length old.open ≡ length around + 1 = omega (arith, ap length is) in
+    let less : length old.around ≡ length around + 1 = omega (arith, ap length is) in
     record {
       text = refl;
       sound = record {
         pieces = grown.counted.pieces;
         some = grown.counted.some;
         within = omega arith;
+        inside = s.inside;
         line = s.line;
         from = omega (arith, s.from);
         stands = (omega arith, nested-same old.text (length old.pieces) pieces old.pieces old.end (string ∷ around) grown.kept nested);
@@ -296,22 +304,22 @@ continues old string around s e some closes is =
 push-kept : (ps : List Piece) (p : Piece) → take (length ps) (ps ++ p ∷ []) ≡ ps
 push-kept ps p = take-append-le (length ps) ps (p ∷ []) (omega arith) ∙ take_all (length ps) ps (omega arith)
 
-abandoned-comes : (cut : Cut) (string : OpenString) → Lies cut.pieces cut.end string → Nested cut.text (take string.pieces cut.pieces) string.outside cut.open
+abandoned-comes : (cut : Cut) (string : OpenString) → Lies cut.pieces cut.end string → Nested cut.text (take string.pieces cut.pieces) string.outside cut.around
     → to_come (abandoned string cut)
-    ≡ resumed (all_suspended cut.text (take string.pieces cut.pieces) string.outside string.braces cut.open)
+    ≡ resumed (all_suspended cut.text (take string.pieces cut.pieces) string.outside string.braces cut.around)
     (spelled (take string.pieces cut.pieces) cut.text ++ (UnterminatedString, slice_range cut.text string.start cut.end) ∷ []) (slice_range cut.text cut.end string.outside)
 abandoned-comes cut string lies around =
     let before = take string.pieces cut.pieces in
     let piece : Piece = record { class = UnterminatedString; size = cut.end - string.start } in
     let place : string.start + (cut.end - string.start) ≡ cut.end = omega (arith, lies.forward) in
     ap (λ ss. resumed ss (spelled (before ++ piece ∷ []) cut.text) (slice_range cut.text (string.start + (cut.end - string.start)) string.outside))
-    (all-same cut.text (length before) (before ++ piece ∷ []) before string.outside string.braces cut.open (push-kept before piece) around)
-    ∙ ap (λ d. resumed (all_suspended cut.text before string.outside string.braces cut.open) d (slice_range cut.text (string.start + (cut.end - string.start)) string.outside))
+    (all-same cut.text (length before) (before ++ piece ∷ []) before string.outside string.braces cut.around (push-kept before piece) around)
+    ∙ ap (λ d. resumed (all_suspended cut.text before string.outside string.braces cut.around) d (slice_range cut.text (string.start + (cut.end - string.start)) string.outside))
     (spelled-push before piece cut.text ∙ ap (λ n. spelled before cut.text ++ (UnterminatedString, take (cut.end - string.start) (drop n cut.text)) ∷ []) lies.start)
-    ∙ ap (λ n. resumed (all_suspended cut.text before string.outside string.braces cut.open) (spelled before cut.text ++ (UnterminatedString, slice_range cut.text string.start cut.end) ∷ []) (slice_range cut.text n string.outside)) place
+    ∙ ap (λ n. resumed (all_suspended cut.text before string.outside string.braces cut.around) (spelled before cut.text ++ (UnterminatedString, slice_range cut.text string.start cut.end) ∷ []) (slice_range cut.text n string.outside)) place
 
 abandoned-sound : (cut : Cut) (string : OpenString) → All (λ (p : Piece). 0 < p.size) cut.pieces → Ends cut.text cut.line → cut.line.from ≤ cut.end → Lies cut.pieces cut.end string
-    → Nested cut.text (take string.pieces cut.pieces) string.outside cut.open → Sound (abandoned string cut)
+    → Nested cut.text (take string.pieces cut.pieces) string.outside cut.around → Sound (abandoned string cut)
 abandoned-sound cut string some ends from lies around =
     let before = take string.pieces cut.pieces in
     let piece : Piece = record { class = UnterminatedString; size = cut.end - string.start } in
@@ -319,32 +327,33 @@ abandoned-sound cut string some ends from lies around =
       pieces = sum_by_push (λ (p : Piece). p.size) before piece ∙ ap (λ n. n + (cut.end - string.start)) lies.start;
       some = All-push (λ (p : Piece). 0 < p.size) before piece (All-take (λ (p : Piece). 0 < p.size) string.pieces cut.pieces some) (omega (arith, lies.forward));
       within = omega (arith, lies.forward, lies.outside);
+      inside = nested-within cut.text (take string.pieces cut.pieces) string.outside cut.around around;
       line = ends;
       from = omega (arith, from, lies.forward);
-      stands = (omega (arith, lies.braces), nested-same cut.text (length before) (before ++ piece ∷ []) before string.outside cut.open (push-kept before piece) around);
+      stands = (omega (arith, lies.braces), nested-same cut.text (length before) (before ++ piece ∷ []) before string.outside cut.around (push-kept before piece) around);
     }
 
 ending-next : (string : Suspended) (around : List Suspended) (done : List Spelled) (text : List ℕ) → text ≡ [] → resumed (string ∷ around) done text ≡ resumed around (string.before ++ (UnterminatedString, string.reach) ∷ []) string.beyond
 ending-next string around done text e = ap (resumed (string ∷ around) done) e ∙ ending-step string around done
 
-pub runs-out : (old : Cut) (string : OpenString) (around : List OpenString) (braces : ℕ) → Sound old → old.within ≡ InCode braces → old.at ≡ old.end → old.open ≡ string ∷ around → Steps old (abandoned string (record old { open = around }))
+pub runs-out : (old : Cut) (string : OpenString) (around : List OpenString) (braces : ℕ) → Sound old → old.within ≡ InCode braces → old.at ≡ old.end → old.around ≡ string ∷ around → Steps old (abandoned string (record old { around = around }))
 unfolding Nested all_suspended
 runs-out old string around braces s e out is =
     let at : CodeAt old braces = code-at old braces s e in
     let nested : Nested old.text old.pieces old.end (string ∷ around) = subst (λ o. Nested old.text old.pieces old.end o) is at.nested in
     let none : rest_of old ≡ [] = ap (λ n. slice_range old.text n old.end) out ∙ range-none old.text old.end in
-    let less : length old.open ≡ length around + 1 = omega (arith, ap length is) in
+    let less : length old.around ≡ length around + 1 = omega (arith, ap length is) in
     record {
       text = refl;
-      sound = abandoned-sound (record old { open = around }) string s.some s.line (omega (arith, s.from, out)) nested.0 nested.1;
-      same = abandoned-comes (record old { open = around }) string nested.0 nested.1
+      sound = abandoned-sound (record old { around = around }) string s.some s.line (omega (arith, s.from, out)) nested.0 nested.1;
+      same = abandoned-comes (record old { around = around }) string nested.0 nested.1
         ∙ sym (ending-next (suspended old.text old.pieces old.end braces string) (all_suspended old.text (take string.pieces old.pieces) string.outside string.braces around) (spelled old.pieces old.text) (rest_of old) none)
         ∙ ap (λ o. resumed (all_suspended old.text old.pieces old.end braces o) (spelled old.pieces old.text) (rest_of old)) (sym is) ∙ sym at.comes;
       less = omega (arith, at.left, less, out, nested.0.forward, at.within);
     }
 
 -- nothing is left
-pub done : (old : Cut) (braces : ℕ) → Sound old → old.within ≡ InCode braces → old.at ≡ old.end → old.open ≡ [] → IsDone old (record old { open = [] })
+pub done : (old : Cut) (braces : ℕ) → Sound old → old.within ≡ InCode braces → old.at ≡ old.end → old.around ≡ [] → IsDone old (record old { around = [] })
 unfolding Nested all_suspended resumed pieces_within
 done old braces s e out is =
     let at : CodeAt old braces = code-at old braces s e in
@@ -356,9 +365,10 @@ done old braces s e out is =
         pieces = s.pieces;
         some = s.some;
         within = s.within;
+        inside = s.inside;
         line = s.line;
         from = s.from;
-        stands = subst (λ w. Stands w (record old { open = [] })) (sym e) (at.few, nested);
+        stands = subst (λ w. Stands w (record old { around = [] })) (sym e) (at.few, nested);
       };
       all = sym (at.comes ∙ ap (λ o. resumed (all_suspended old.text old.pieces old.end braces o) (spelled old.pieces old.text) (rest_of old)) is
         ∙ ap (resumed [] (spelled old.pieces old.text)) none ∙ append-nil (spelled old.pieces old.text));
@@ -367,19 +377,20 @@ done old braces s e out is =
 
 -- Steps in a string.
 
-quotes-next : (class : Class) (begun size count quotes : ℕ) (rest quoted : List ℕ) → length quoted ≡ quotes → begins (drop size (drop begun rest)) quoted ≡ true → count ≡ begun + size
-    → take (count + quotes) rest ≡ (take begun rest ++ take size (drop begun rest)) ++ quoted
-quotes-next class begun size count quotes rest quoted same e is =
-    let back : drop count rest ≡ drop size (drop begun rest) = ap (λ n. drop n rest) is ∙ sym (drop-drop size begun rest) in
-    let last : take quotes (drop count rest) ≡ quoted = ap (take quotes) (back ∙ begins-split quoted (drop size (drop begun rest)) e)
-    ∙ ap (λ n. take n (quoted ++ drop (length quoted) (drop size (drop begun rest)))) (sym same) ∙ take-append_seam quoted (drop (length quoted) (drop size (drop begun rest))) in
-    take-add count quotes rest ∙ ap (λ t. t ++ take quotes (drop count rest)) (ap (λ n. take n rest) is ∙ take-add begun size rest) ∙ ap (λ t. (take begun rest ++ take size (drop begun rest)) ++ t) last
+quotes-next : (begun size count : ℕ) (rest quoted : List ℕ) → begins (drop size (drop begun rest)) quoted ≡ true → count ≡ begun + size + length quoted
+    → take count rest ≡ (take begun rest ++ take size (drop begun rest)) ++ quoted
+quotes-next begun size count rest quoted e is =
+    let back : drop (begun + size) rest ≡ drop size (drop begun rest) = sym (drop-drop size begun rest) in
+    let last : take (length quoted) (drop (begun + size) rest) ≡ quoted = ap (take (length quoted)) (back ∙ begins-split quoted (drop size (drop begun rest)) e)
+    ∙ take-append_seam quoted (drop (length quoted) (drop size (drop begun rest))) in
+    ap (λ n. take n rest) is ∙ take-add (begun + size) (length quoted) rest ∙ ap (λ t. t ++ take (length quoted) (drop (begun + size) rest)) (take-add begun size rest)
+    ∙ ap (λ t. (take begun rest ++ take size (drop begun rest)) ++ t) last
 
 class-is : (begun : List ℕ) → last_class begun ≡ (if length begun == 0 then StringClosing else StringLiteral)
 class-is [] = refl
-class-is (b ∷ begun) = refl
+class-is (b ∷ begun) = let test : (suc (length begun) == 0) ≡ false = grind arith in rw test refl
 
-pub closes : (old : Cut) (string : OpenString) (begun size count : ℕ) → Sound old → old.within ≡ InString string begun → size ≡ plain_size (shape string.form) (drop begun (rest_of old)) → count ≡ begun + size
+pub closes : (old : Cut) (string : OpenString) (begun size count : ℕ) → Sound old → old.within ≡ InString string begun → size ≡ plain_size (shape string.form) (drop begun (rest_of old)) → count ≡ begun + size + length string.form.quotes.now
     → begins (drop size (drop begun (rest_of old))) string.form.quotes.now ≡ true → Steps old (closed string begun count old)
 unfolding Nested
 closes old string begun size count s e plain all ends =
@@ -392,33 +403,34 @@ closes old string begun size count s e plain all ends =
     let split : drop size (drop begun rest) ≡ quotes ++ drop q (drop size (drop begun rest)) = begins-split quotes (drop size (drop begun rest)) ends in
     let fits : begun + size + q ≤ old.end - old.at =
     omega (arith, at.size, at.lies.some, ap length split, length-append quotes (drop q (drop size (drop begun rest))), length-drop size (drop begun rest), length-drop begun rest) in
-    let grown : Grows old (added class (count + q) old) ((class, take (count + q) rest) ∷ []) = grows-added old class (count + q) (counted old s) (omega (arith, at.lies.some)) (omega (arith, fits, all)) in
-    let pieces = old.pieces ++ record { class = class; size = count + q } ∷ [] in
+    let grown : Grows old (added class count old) ((class, take count rest) ∷ []) = grows-added old class count (counted old s) (omega (arith, at.lies.some)) (omega (arith, fits, all)) in
+    let pieces = old.pieces ++ record { class = class; size = count } ∷ [] in
     let kept : take string.pieces pieces ≡ before = same-front (length old.pieces) string.pieces pieces old.pieces grown.kept at.lies.few in
     let named-class : class ≡ last_class (take begun rest) =
     sym (class-is (take begun rest) ∙ ap (λ n. if n == 0 then StringClosing else StringLiteral) (omega (arith, at.size, at.known, length-take begun rest))) in
-    let bytes : take (count + q) rest ≡ (take begun rest ++ take size (drop begun rest)) ++ quotes = quotes-next class begun size count q rest quotes refl ends all in
-    let place : drop q (drop size (drop begun rest)) ≡ slice_range old.text (old.at + (count + q)) old.end =
-    ap (drop q) (drop-drop size begun rest) ∙ drop-drop q (begun + size) rest ∙ ap (λ n. drop (n + q) rest) (sym all) ∙ range-drop old.text old.at old.end (count + q) (omega (arith, fits, all, s.within)) in
+    let bytes : take count rest ≡ (take begun rest ++ take size (drop begun rest)) ++ quotes = quotes-next begun size count rest quotes ends all in
+    let place : drop q (drop size (drop begun rest)) ≡ slice_range old.text (old.at + count) old.end =
+    ap (drop q) (drop-drop size begun rest) ∙ drop-drop q (begun + size) rest ∙ ap (λ n. drop n rest) (sym all) ∙ range-drop old.text old.at old.end count (omega (arith, fits, all, s.within)) in
     record {
       text = refl;
       sound = record {
         pieces = grown.counted.pieces;
         some = grown.counted.some;
         within = omega (arith, fits, all, at.lies.outside, s.within);
+        inside = nested-within old.text (take string.pieces old.pieces) string.outside old.around at.around;
         line = s.line;
         from = omega (arith, s.from);
         stands = (
           omega (arith, at.lies.braces, at.lies.start, s.pieces, sum_by-take-le (λ (p : Piece). p.size) old.pieces string.pieces),
-          nested-same old.text string.pieces pieces before string.outside old.open kept at.around,
+          nested-same old.text string.pieces pieces before string.outside old.around kept at.around,
         );
       };
-      same = ap (λ ss. resumed ss (spelled pieces old.text) (slice_range old.text (old.at + (count + q)) string.outside)) (all-same old.text string.pieces pieces before string.outside string.braces old.open kept at.around)
-        ∙ ap (λ d. resumed (all_suspended old.text before string.outside string.braces old.open) d (slice_range old.text (old.at + (count + q)) string.outside))
+      same = ap (λ ss. resumed ss (spelled pieces old.text) (slice_range old.text (old.at + count) string.outside)) (all-same old.text string.pieces pieces before string.outside string.braces old.around kept at.around)
+        ∙ ap (λ d. resumed (all_suspended old.text before string.outside string.braces old.around) d (slice_range old.text (old.at + count) string.outside))
         (grown.spells ∙ ap (λ b. spelled old.pieces old.text ++ (class, b) ∷ []) bytes ∙ ap (λ c. spelled old.pieces old.text ++ (c, (take begun rest ++ take size (drop begun rest)) ++ quotes) ∷ []) named-class)
-        ∙ ap (resumed (all_suspended old.text before string.outside string.braces old.open) (spelled old.pieces old.text ++ (last_class (take begun rest), (take begun rest ++ take size (drop begun rest)) ++ quotes) ∷ []))
-        (sym (ap (λ t. t ++ slice_range old.text old.end string.outside) place ∙ range-join old.text (old.at + (count + q)) old.end string.outside (omega (arith, fits, all, s.within)) at.lies.outside))
-        ∙ sym (quotes-step (suspended old.text old.pieces old.end 0 string) (all_suspended old.text before string.outside string.braces old.open) (spelled old.pieces old.text) (take begun rest) (drop begun rest) size at.lies.some plain ends)
+        ∙ ap (resumed (all_suspended old.text before string.outside string.braces old.around) (spelled old.pieces old.text ++ (last_class (take begun rest), (take begun rest ++ take size (drop begun rest)) ++ quotes) ∷ []))
+        (sym (ap (λ t. t ++ slice_range old.text old.end string.outside) place ∙ range-join old.text (old.at + count) old.end string.outside (omega (arith, fits, all, s.within)) at.lies.outside))
+        ∙ sym (quotes-step (suspended old.text old.pieces old.end 0 string) (all_suspended old.text before string.outside string.braces old.around) (spelled old.pieces old.text) (take begun rest) (drop begun rest) size at.lies.some plain ends)
         ∙ sym at.comes;
       less = omega (arith, at.left, fits, all, at.lies.some, at.within, s.within);
     }
@@ -431,7 +443,7 @@ gives-up old string begun size s e plain ends none =
       text = refl;
       sound = abandoned-sound old string s.some s.line (omega (arith, s.from, s.within)) at.lies at.around;
       same = abandoned-comes old string at.lies at.around
-        ∙ sym (never-step (suspended old.text old.pieces old.end 0 string) (all_suspended old.text (take string.pieces old.pieces) string.outside string.braces old.open) (spelled old.pieces old.text) (take begun (rest_of old)) (drop begun (rest_of old)) size
+        ∙ sym (never-step (suspended old.text old.pieces old.end 0 string) (all_suspended old.text (take string.pieces old.pieces) string.outside string.braces old.around) (spelled old.pieces old.text) (take begun (rest_of old)) (drop begun (rest_of old)) size
           at.lies.some plain ends (λ r. ((none r).no_brace, (none r).no_name)))
         ∙ sym at.comes;
       less = omega (arith, at.left, at.known, at.lies.forward, at.within);
@@ -439,9 +451,9 @@ gives-up old string begun size s e plain ends none =
 
 -- Interpolations in a string.
 
-part-open : (begun size : ℕ) (cut : Cut) → (with_part begun size cut).open ≡ cut.open
+part-open : (begun size : ℕ) (cut : Cut) → (with_part begun size cut).around ≡ cut.around
 part-open begun zero cut = refl
-part-open begun (suc size) cut = refl
+part-open begun (suc size) cut = let test : (suc size == 0) ≡ false = grind arith in rw test refl
 
 rest-behind : (old between : Cut) (n : ℕ) → between.text ≡ old.text → between.end ≡ old.end → between.at ≡ old.at + n → old.at + n ≤ old.end → rest_of between ≡ drop n (rest_of old)
 rest-behind old between n t e a h =
@@ -468,8 +480,8 @@ opens-expression old string begun size count s e plain all ends raw opens =
     let grown : Grows old (added InterpolationOpening 2 between) (part_before (take begun rest) (take size (drop begun rest)) ++ (InterpolationOpening, codes "${") ∷ []) =
     grows-twice old between (added InterpolationOpening 2 between) _ _ (part-text begun count old) first second in
     let pieces = between.pieces ++ record { class = InterpolationOpening; size = 2 } ∷ [] in
-    let strings : all_suspended old.text pieces old.end 0 (string ∷ old.open) ≡ all_suspended old.text old.pieces old.end 0 (string ∷ old.open) =
-    all-same old.text (length old.pieces) pieces old.pieces old.end 0 (string ∷ old.open) grown.kept at.nested in
+    let strings : all_suspended old.text pieces old.end 0 (string ∷ old.around) ≡ all_suspended old.text old.pieces old.end 0 (string ∷ old.around) =
+    all-same old.text (length old.pieces) pieces old.pieces old.end 0 (string ∷ old.around) grown.kept at.nested in
     let place : drop 2 (drop size (drop begun rest)) ≡ slice_range old.text (between.at + 2) old.end =
     ap (drop 2) (drop-drop size begun rest) ∙ drop-drop 2 (begun + size) rest ∙ range-drop old.text old.at old.end (begun + size + 2) (omega (arith, fits, s.within))
     ∙ ap (λ n. slice_range old.text n old.end) (omega (arith, there, all)) in
@@ -479,21 +491,22 @@ opens-expression old string begun size count s e plain all ends raw opens =
         pieces = grown.counted.pieces;
         some = grown.counted.some;
         within = omega (arith, fits, all, there, part-end begun count old, s.within);
+        inside = omega (arith, s.inside, part-end begun count old, ap length (part-text begun count old));
         line = subst (λ t. Ends t between.line) (sym (part-text begun count old)) (subst (λ l. Ends old.text l) (sym (part-line begun count old)) s.line);
         from = omega (arith, s.from, there, ap (λ (l : Line). l.from) (part-line begun count old));
         stands = (
           omega arith,
-          subst (λ t. Nested t pieces between.end (string ∷ old.open)) (sym (part-text begun count old))
-          (subst (λ n. Nested old.text pieces n (string ∷ old.open)) (sym (part-end begun count old)) (nested-same old.text (length old.pieces) pieces old.pieces old.end (string ∷ old.open) grown.kept at.nested)),
+          subst (λ t. Nested t pieces between.end (string ∷ old.around)) (sym (part-text begun count old))
+          (subst (λ n. Nested old.text pieces n (string ∷ old.around)) (sym (part-end begun count old)) (nested-same old.text (length old.pieces) pieces old.pieces old.end (string ∷ old.around) grown.kept at.nested)),
         );
       };
-      same = ap (λ t. resumed (all_suspended t pieces between.end 0 (string ∷ old.open)) (spelled pieces t) (slice_range t (between.at + 2) between.end)) (part-text begun count old)
-        ∙ ap (λ n. resumed (all_suspended old.text pieces n 0 (string ∷ old.open)) (spelled pieces old.text) (slice_range old.text (between.at + 2) n)) (part-end begun count old)
+      same = ap (λ t. resumed (all_suspended t pieces between.end 0 (string ∷ old.around)) (spelled pieces t) (slice_range t (between.at + 2) between.end)) (part-text begun count old)
+        ∙ ap (λ n. resumed (all_suspended old.text pieces n 0 (string ∷ old.around)) (spelled pieces old.text) (slice_range old.text (between.at + 2) n)) (part-end begun count old)
         ∙ ap (λ ss. resumed ss (spelled pieces old.text) (slice_range old.text (between.at + 2) old.end)) strings
-        ∙ ap (λ d. resumed (all_suspended old.text old.pieces old.end 0 (string ∷ old.open)) d (slice_range old.text (between.at + 2) old.end))
+        ∙ ap (λ d. resumed (all_suspended old.text old.pieces old.end 0 (string ∷ old.around)) d (slice_range old.text (between.at + 2) old.end))
         (grown.spells ∙ sym (append_assoc (spelled old.pieces old.text) (part_before (take begun rest) (take size (drop begun rest))) ((InterpolationOpening, codes "${") ∷ [])))
-        ∙ ap (resumed (all_suspended old.text old.pieces old.end 0 (string ∷ old.open)) ((spelled old.pieces old.text ++ part_before (take begun rest) (take size (drop begun rest))) ++ (InterpolationOpening, codes "${") ∷ [])) (sym place)
-        ∙ sym (opening-step (suspended old.text old.pieces old.end 0 string) (all_suspended old.text (take string.pieces old.pieces) string.outside string.braces old.open) (spelled old.pieces old.text) (take begun rest) (drop begun rest) size
+        ∙ ap (resumed (all_suspended old.text old.pieces old.end 0 (string ∷ old.around)) ((spelled old.pieces old.text ++ part_before (take begun rest) (take size (drop begun rest))) ++ (InterpolationOpening, codes "${") ∷ [])) (sym place)
+        ∙ sym (opening-step (suspended old.text old.pieces old.end 0 string) (all_suspended old.text (take string.pieces old.pieces) string.outside string.braces old.around) (spelled old.pieces old.text) (take begun rest) (drop begun rest) size
           at.lies.some plain ends raw opens)
         ∙ sym at.comes;
       less = omega (arith, at.left, fits, all, there, at.within, s.within, ap length (part-text begun count old));
@@ -538,24 +551,25 @@ opens-name old string begun size count name s e plain all ends raw names =
         pieces = grown.counted.pieces;
         some = grown.counted.some;
         within = omega (arith, fits, all, there, part-end begun count old, s.within);
+        inside = omega (arith, s.inside, part-end begun count old, ap length (part-text begun count old));
         line = subst (λ t. Ends t between.line) (sym (part-text begun count old)) (subst (λ l. Ends old.text l) (sym (part-line begun count old)) s.line);
         from = omega (arith, s.from, there, ap (λ (l : Line). l.from) (part-line begun count old));
         stands = (
           omega (arith, fits, all, there, part-end begun count old, s.within),
-          subst (λ t. Nested t pieces between.end (string ∷ between.open)) (sym (part-text begun count old))
-          (subst (λ n. Nested old.text pieces n (string ∷ between.open)) (sym (part-end begun count old))
-            (subst (λ o. Nested old.text pieces old.end (string ∷ o)) (sym (part-open begun count old)) (nested-same old.text (length old.pieces) pieces old.pieces old.end (string ∷ old.open) grown.kept at.nested))),
+          subst (λ t. Nested t pieces between.end (string ∷ between.around)) (sym (part-text begun count old))
+          (subst (λ n. Nested old.text pieces n (string ∷ between.around)) (sym (part-end begun count old))
+            (subst (λ o. Nested old.text pieces old.end (string ∷ o)) (sym (part-open begun count old)) (nested-same old.text (length old.pieces) pieces old.pieces old.end (string ∷ old.around) grown.kept at.nested))),
         );
       };
-      same = ap (λ t. resumed_in t string between.end between.open (take string.pieces pieces) (spelled pieces t) [] (slice_range t stop between.end)) (part-text begun count old)
-        ∙ ap (λ n. resumed_in old.text string n between.open (take string.pieces pieces) (spelled pieces old.text) [] (slice_range old.text stop n)) (part-end begun count old)
+      same = ap (λ t. resumed_in t string between.end between.around (take string.pieces pieces) (spelled pieces t) [] (slice_range t stop between.end)) (part-text begun count old)
+        ∙ ap (λ n. resumed_in old.text string n between.around (take string.pieces pieces) (spelled pieces old.text) [] (slice_range old.text stop n)) (part-end begun count old)
         ∙ ap (λ o. resumed_in old.text string old.end o (take string.pieces pieces) (spelled pieces old.text) [] (slice_range old.text stop old.end)) (part-open begun count old)
-        ∙ ap (λ ps. resumed_in old.text string old.end old.open ps (spelled pieces old.text) [] (slice_range old.text stop old.end)) kept
-        ∙ ap (λ d. resumed_in old.text string old.end old.open (take string.pieces old.pieces) d [] (slice_range old.text stop old.end))
+        ∙ ap (λ ps. resumed_in old.text string old.end old.around ps (spelled pieces old.text) [] (slice_range old.text stop old.end)) kept
+        ∙ ap (λ d. resumed_in old.text string old.end old.around (take string.pieces old.pieces) d [] (slice_range old.text stop old.end))
         (grown.spells ∙ sym (append_assoc (spelled old.pieces old.text) part ((InterpolationMark, codes "$") ∷ (Word, take name (drop 1 here)) ∷ [])))
-        ∙ ap (resumed_in old.text string old.end old.open (take string.pieces old.pieces) ((spelled old.pieces old.text ++ part) ++ (InterpolationMark, codes "$") ∷ (Word, take name (drop 1 here)) ∷ []) []) (sym place)
-        ∙ ap (λ n. resumed_in old.text string old.end old.open (take string.pieces old.pieces) ((spelled old.pieces old.text ++ part) ++ (InterpolationMark, codes "$") ∷ (Word, take n (drop 1 here)) ∷ []) [] (drop (1 + n) here)) names.size
-        ∙ sym (name-step (suspended old.text old.pieces old.end 0 string) (all_suspended old.text (take string.pieces old.pieces) string.outside string.braces old.open) (spelled old.pieces old.text) (take begun rest) (drop begun rest) size
+        ∙ ap (resumed_in old.text string old.end old.around (take string.pieces old.pieces) ((spelled old.pieces old.text ++ part) ++ (InterpolationMark, codes "$") ∷ (Word, take name (drop 1 here)) ∷ []) []) (sym place)
+        ∙ ap (λ n. resumed_in old.text string old.end old.around (take string.pieces old.pieces) ((spelled old.pieces old.text ++ part) ++ (InterpolationMark, codes "$") ∷ (Word, take n (drop 1 here)) ∷ []) [] (drop (1 + n) here)) names.size
+        ∙ sym (name-step (suspended old.text old.pieces old.end 0 string) (all_suspended old.text (take string.pieces old.pieces) string.outside string.braces old.around) (spelled old.pieces old.text) (take begun rest) (drop begun rest) size
           at.lies.some plain ends raw names.no_brace names.name)
         ∙ sym at.comes;
       less = omega (arith, at.left, fits, all, there, some, at.within, s.within, ap length (part-text begun count old), ap length (part-open begun count old));
@@ -569,6 +583,7 @@ begins-cut text line ends from = record {
   pieces = refl;
   some = All-nil (λ (p : Piece). 0 < p.size);
   within = omega arith;
+  inside = omega arith;
   line = ends;
   from = omega (arith, from);
   stands = (omega arith, refl);
@@ -615,6 +630,7 @@ marked-sound text line ends from some =
       pieces = grown.counted.pieces;
       some = grown.counted.some;
       within = omega (arith, some);
+      inside = omega arith;
       line = ends;
       from = omega (arith, from);
       stands = (omega arith, refl);
@@ -625,3 +641,74 @@ unfolding all_suspended resumed spelled pieces
 begins-marked text line e =
     let rest : slice_range text 3 (length text) ≡ drop 3 text = range-last text 3 in
     ap (λ t. (Gap, take 3 text) ∷ pieces_within (length t) false t) rest ∙ sym (marked-pieces (length text) text (omega arith) e)
+
+-- What the functions of a cut rest on: they see a cut by what it holds.
+
+pub on-ok : {T E : Type 0} {P Q : Type 0} (r : Result T E) → OnOk r P → (P → Q) → OnOk r Q
+on-ok (Ok x) p f = f p
+on-ok (Err e) p f = tt
+
+pub rest-size : (cut : Cut) → Sound cut → length (rest_of cut) ≡ cut.end - cut.at
+rest-size cut s = range-length cut.text cut.at cut.end s.within s.inside
+
+pub braces-within : (cut : Cut) (braces : ℕ) → Sound cut → cut.within ≡ InCode braces → braces ≤ cut.at
+braces-within cut braces s e = (code-at cut braces s e).few
+
+code-of : (within : Within) → IsCode within → (braces : ℕ) × (within ≡ InCode braces)
+code-of (InCode braces) h = (braces, refl)
+code-of (InString string begun) h = absurd h
+
+pub brace-steps : (view old new : Cut) (string : OpenString) (around : List OpenString) → view ≡ old → Sound old → old.within ≡ InCode 0 → old.at < old.end → begins (rest_of old) (codes "}") ≡ true → view.around ≡ string ∷ around
+    → new ≡ continued string (record view { around = around }) → Steps old new
+brace-steps view old new string around e s code some closes is made =
+    subst (λ n. Steps old n) (sym (made ∙ ap (λ (v : Cut). continued string (record v { around = around })) e))
+    (continues old string around s code some closes (ap (λ (v : Cut). v.around) (sym e) ∙ is))
+
+innermost : (old : Cut) (string : OpenString) (around : List OpenString) (braces : ℕ) → Sound old → old.within ≡ InCode braces → old.around ≡ string ∷ around → string.start < old.end
+unfolding Nested
+innermost old string around braces s e is =
+    let nested : Nested old.text old.pieces old.end (string ∷ around) = subst (λ o. Nested old.text old.pieces old.end o) is (code-at old braces s e).nested in
+    nested.0.forward
+
+pub run-start : (view old : Cut) (string : OpenString) (around : List OpenString) → view ≡ old → Sound old → IsCode old.within → view.around ≡ string ∷ around → string.start ≤ view.end
+run-start view old string around e s code is =
+    let (braces, here) = code-of old.within code in
+    let less : string.start < old.end = innermost old string around braces s here (ap (λ (v : Cut). v.around) (sym e) ∙ is) in
+    omega (arith, less, ap (λ (v : Cut). v.end) e)
+
+pub run-end : (view old : Cut) → view ≡ old → Sound old → view.end ≤ length view.text
+run-end view old e s = omega (arith, s.inside, ap (λ (v : Cut). v.end) e, ap (λ (v : Cut). length v.text) e)
+
+pub run-steps : (view old new : Cut) (string : OpenString) (around : List OpenString) → view ≡ old → Sound old → IsCode old.within → old.at ≡ old.end → view.around ≡ string ∷ around
+    → new ≡ abandoned string (record view { around = around }) → Steps old new
+run-steps view old new string around e s code out is made =
+    let (braces, here) = code-of old.within code in
+    subst (λ n. Steps old n) (sym (made ∙ ap (λ (v : Cut). abandoned string (record v { around = around })) e))
+    (runs-out old string around braces s here out (ap (λ (v : Cut). v.around) (sym e) ∙ is))
+
+pub run-done : (view old : Cut) (after : List OpenString) → view ≡ old → Sound old → IsCode old.within → old.at ≡ old.end → view.around ≡ [] → after ≡ [] → IsDone old (record view { around = after })
+run-done view old after e s code out is none =
+    let (braces, here) = code-of old.within code in
+    subst (λ n. IsDone old n) (sym (ap (λ (v : Cut). record v { around = after }) e ∙ ap (λ a. record old { around = a }) none))
+    (done old braces s here out (ap (λ (v : Cut). v.around) (sym e) ∙ is))
+
+-- a string whose next piece is being read
+pub known-within : (cut : Cut) (string : OpenString) (begun : ℕ) → Sound cut → cut.within ≡ InString string begun → cut.at + begun ≤ cut.end
+known-within cut string begun s e = (string-at cut string begun s e).known
+
+pub begins-before : (cut : Cut) (string : OpenString) (begun : ℕ) → Sound cut → cut.within ≡ InString string begun → string.start < cut.end
+begins-before cut string begun s e = (string-at cut string begun s e).lies.forward
+
+pub quotes-fit : (cut : Cut) (string : OpenString) (begun size : ℕ) → Sound cut → cut.within ≡ InString string begun → begins (drop size (drop begun (rest_of cut))) string.form.quotes.now ≡ true
+    → begun + size + length string.form.quotes.now ≤ cut.end - cut.at
+quotes-fit cut string begun size s e ends =
+    let at : StringAt cut string begun = string-at cut string begun s e in
+    let quotes = string.form.quotes.now in
+    let split : drop size (drop begun (rest_of cut)) ≡ quotes ++ drop (length quotes) (drop size (drop begun (rest_of cut))) = begins-split quotes (drop size (drop begun (rest_of cut))) ends in
+    omega (arith, at.size, at.lies.some, ap length split, length-append quotes (drop (length quotes) (drop size (drop begun (rest_of cut)))), length-drop size (drop begun (rest_of cut)), length-drop begun (rest_of cut))
+
+pub reach-is : (view old : Cut) (form : Form) (last stop : ℕ) → view ≡ old → old.at ≤ old.end → (length form.quotes == 1) ≡ true → last ≡ view.at + run is_within_line (drop view.at view.text) → stop ≡ min last view.end
+    → stop ≡ old.at + length (within_reach form (rest_of old))
+reach-is view old form last stop e within one there is =
+    let line : last ≡ old.at + run is_within_line (drop old.at old.text) = subst (λ (v : Cut). last ≡ v.at + run is_within_line (drop v.at v.text)) e there in
+    rw one (is ∙ ap (λ (v : Cut). min last v.end) e ∙ line-reach old.text old.at old.end last within line)

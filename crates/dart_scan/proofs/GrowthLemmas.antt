@@ -8,7 +8,7 @@ use Rattle.std.proofs.Math.Seq.{take-add}
 use Rattle.dart_scan.specs.declared.piece.Class.{Class}
 use Rattle.dart_scan.specs.declared.piece.Class.TheVariants.{StringOpening, StringPart}
 use Rattle.dart_scan.specs.declared.piece.Piece.{Piece}
-use Rattle.dart_scan.specs.declared.cut.open.OpenString.{OpenString}
+use Rattle.dart_scan.specs.declared.cut.strings.OpenString.{OpenString}
 use Rattle.dart_scan.specs.Pieces.{Spelled, spelled, part_before}
 use Rattle.dart_scan.specs.Openings.{shape}
 use Rattle.dart_scan.specs.Cutting.{Cut, rest_of, size_of, all_suspended, Lies, Nested, Sound, added, with_part}
@@ -21,15 +21,15 @@ same-front k s pieces base e h =
     let few : s ≤ k = omega (arith, h, ap length e, length-take k pieces) in
     sym (take-take s k pieces few) ∙ ap (take s) e
 
-pub all-same : (text : List ℕ) (k : ℕ) (pieces base : List Piece) (end braces : ℕ) (open : List OpenString) → take k pieces ≡ base → Nested text base end open
-    → all_suspended text pieces end braces open ≡ all_suspended text base end braces open
+pub all-same : (text : List ℕ) (k : ℕ) (pieces base : List Piece) (end braces : ℕ) (opened : List OpenString) → take k pieces ≡ base → Nested text base end opened
+    → all_suspended text pieces end braces opened ≡ all_suspended text base end braces opened
 unfolding all_suspended Nested
 all-same text k pieces base end braces [] e n = refl
 all-same text k pieces base end braces (string ∷ around) e n =
     ap (λ ps. record { form = shape string.form; before = spelled ps text; reach = slice_range text string.start end; beyond = slice_range text end string.outside; braces = braces } ∷ all_suspended text ps string.outside string.braces around)
     (same-front k string.pieces pieces base e n.0.few)
 
-pub nested-same : (text : List ℕ) (k : ℕ) (pieces base : List Piece) (end : ℕ) (open : List OpenString) → take k pieces ≡ base → Nested text base end open → Nested text pieces end open
+pub nested-same : (text : List ℕ) (k : ℕ) (pieces base : List Piece) (end : ℕ) (opened : List OpenString) → take k pieces ≡ base → Nested text base end opened → Nested text pieces end opened
 unfolding Nested
 nested-same text k pieces base end [] e n = n
 nested-same text k pieces base end (string ∷ around) e n =
@@ -47,7 +47,7 @@ nested-same text k pieces base end (string ∷ around) e n =
       subst (λ ps. Nested text ps string.outside around) (sym same) n.1,
     )
 
-pub nested-within : (text : List ℕ) (pieces : List Piece) (end : ℕ) (open : List OpenString) → Nested text pieces end open → end ≤ length text
+pub nested-within : (text : List ℕ) (pieces : List Piece) (end : ℕ) (opened : List OpenString) → Nested text pieces end opened → end ≤ length text
 unfolding Nested
 nested-within text pieces end [] n = omega (arith, n)
 nested-within text pieces end (string ∷ around) n = omega (arith, n.0.outside, nested-within text (take string.pieces pieces) string.outside around n.1)
@@ -89,23 +89,23 @@ grows-twice old between new ps qs e f g = record {
 part-is : (begun plain : List ℕ) → 1 ≤ length begun + length plain → part_before begun plain ≡ ((if length begun == 0 then StringPart else StringOpening), begun ++ plain) ∷ []
 part-is [] [] h = absurd (omega (arith, h))
 part-is [] (b ∷ plain) h = refl
-part-is (b ∷ begun) plain h = refl
+part-is (b ∷ begun) plain h = let test : (suc (length begun) == 0) ≡ false = grind arith in rw test refl
 
 pub part-at : (begun size : ℕ) (cut : Cut) → (with_part begun size cut).at ≡ cut.at + size
 part-at begun zero cut = omega arith
-part-at begun (suc size) cut = refl
+part-at begun (suc size) cut = let test : (suc size == 0) ≡ false = grind arith in rw test refl
 
 pub part-text : (begun size : ℕ) (cut : Cut) → (with_part begun size cut).text ≡ cut.text
 part-text begun zero cut = refl
-part-text begun (suc size) cut = refl
+part-text begun (suc size) cut = let test : (suc size == 0) ≡ false = grind arith in rw test refl
 
 pub part-end : (begun size : ℕ) (cut : Cut) → (with_part begun size cut).end ≡ cut.end
 part-end begun zero cut = refl
-part-end begun (suc size) cut = refl
+part-end begun (suc size) cut = let test : (suc size == 0) ≡ false = grind arith in rw test refl
 
 pub part-line : (begun size : ℕ) (cut : Cut) → (with_part begun size cut).line ≡ cut.line
 part-line begun zero cut = refl
-part-line begun (suc size) cut = refl
+part-line begun (suc size) cut = let test : (suc size == 0) ≡ false = grind arith in rw test refl
 
 -- no bytes are no part
 no-part : (begun plain : List ℕ) → length begun + length plain ≡ 0 → part_before begun plain ≡ []
@@ -137,8 +137,11 @@ grows-part old begun size c within sized =
     of (suc n) e =
         let fits : suc n ≤ old.end - old.at = omega (arith, within, sized, e) in
         let some : 1 ≤ length (take begun (rest_of old)) + length (take size (drop begun (rest_of old))) = omega (arith, front, back, e) in
-        subst (λ ps. Grows old (added (if begun == 0 then StringPart else StringOpening) (suc n) old) ps)
+        let test : (suc n == 0) ≡ false = grind arith in
+        let is : added (if begun == 0 then StringPart else StringOpening) (suc n) old ≡ with_part begun (suc n) old = rw test refl in
+        subst (λ new. Grows old new (part_before (take begun (rest_of old)) (take size (drop begun (rest_of old))))) is
+        (subst (λ ps. Grows old (added (if begun == 0 then StringPart else StringOpening) (suc n) old) ps)
         (sym (part-is (take begun (rest_of old)) (take size (drop begun (rest_of old))) some
             ∙ ap (λ m. ((if m == 0 then StringPart else StringOpening), take begun (rest_of old) ++ take size (drop begun (rest_of old))) ∷ []) front
             ∙ ap (λ bytes. ((if begun == 0 then StringPart else StringOpening), bytes) ∷ []) (joined ∙ ap (λ m. take m (rest_of old)) e)))
-        (grows-added old (if begun == 0 then StringPart else StringOpening) (suc n) c (omega arith) fits)
+        (grows-added old (if begun == 0 then StringPart else StringOpening) (suc n) c (omega arith) fits))

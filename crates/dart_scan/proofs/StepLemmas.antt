@@ -32,15 +32,15 @@ one p h = All-cons IsSome p [] h (All-nil IsSome)
 
 -- Of an optional value, by what holds of it.
 
-map-some : {A B : Type 0} (P : A → Type 0) (Q : B → Type 0) (f : A → B) (o : Option A) → IfSome o P → ((a : A) → P a → Q (f a)) → IfSome (option_map f o) Q
+pub map-some : {A B : Type 0} (P : A → Type 0) (Q : B → Type 0) (f : A → B) (o : Option A) → IfSome o P → ((a : A) → P a → Q (f a)) → IfSome (option_map f o) Q
 map-some P Q f None h k = tt
 map-some P Q f (Some a) h k = k a h
 
-then-some : {A B : Type 0} (P : A → Type 0) (Q : B → Type 0) (f : A → Option B) (o : Option A) → IfSome o P → ((a : A) → P a → IfSome (f a) Q) → IfSome (option_and_then f o) Q
+pub then-some : {A B : Type 0} (P : A → Type 0) (Q : B → Type 0) (f : A → Option B) (o : Option A) → IfSome o P → ((a : A) → P a → IfSome (f a) Q) → IfSome (option_and_then f o) Q
 then-some P Q f None h k = tt
 then-some P Q f (Some a) h k = k a h
 
-either : {A : Type 0} (Q : A → Type 0) (b : Bool) (x y : Option A) → (b ≡ true → IfSome x Q) → (b ≡ false → IfSome y Q) → IfSome (if b then x else y) Q
+pub either : {A : Type 0} (Q : A → Type 0) (b : Bool) (x y : Option A) → (b ≡ true → IfSome x Q) → (b ≡ false → IfSome y Q) → IfSome (if b then x else y) Q
 either Q true x y h k = h refl
 either Q false x y h k = k refl
 

@@ -4,7 +4,7 @@ use Rattle.dart_scan.specs.declared.piece.Class.{Class}
 use Rattle.dart_scan.specs.declared.piece.Class.TheVariants.{Word, StringLiteral, StringOpening, StringPart, StringClosing, UnterminatedString, InterpolationMark, InterpolationOpening, InterpolationClosing}
 use Rattle.dart_scan.specs.declared.piece.Piece.{Piece}
 use Rattle.dart_scan.specs.declared.cut.form.StringForm.{StringForm}
-use Rattle.dart_scan.specs.declared.cut.open.OpenString.{OpenString}
+use Rattle.dart_scan.specs.declared.cut.strings.OpenString.{OpenString}
 use Rattle.dart_scan.specs.declared.cut.line.Line.{Line}
 use Rattle.dart_scan.specs.declared.cut.cutting.Within.{Within}
 use Rattle.dart_scan.specs.declared.cut.cutting.Within.TheVariants.{InCode, InString}
@@ -22,7 +22,7 @@ pub record Cut : Type 0 where
   pub at : ℕ
   pub end : ℕ
   pub within : Within
-  pub open : List OpenString
+  pub around : List OpenString
   pub line : Line
 
 -- the text from the next piece on, as far as it reaches
@@ -55,9 +55,9 @@ all_suspended text pieces end braces (string ∷ around) =
 
 -- the pieces that a cut leads to, by where the next one stands
 abbrev pub to_come_within : Within → Cut → List Spelled
-to_come_within (InCode braces) cut = resumed (all_suspended cut.text cut.pieces cut.end braces cut.open) (spelled cut.pieces cut.text) (rest_of cut)
+to_come_within (InCode braces) cut = resumed (all_suspended cut.text cut.pieces cut.end braces cut.around) (spelled cut.pieces cut.text) (rest_of cut)
 to_come_within (InString string begun) cut =
-    resumed_within (suspended cut.text cut.pieces cut.end 0 string) (all_suspended cut.text (take string.pieces cut.pieces) string.outside string.braces cut.open)
+    resumed_within (suspended cut.text cut.pieces cut.end 0 string) (all_suspended cut.text (take string.pieces cut.pieces) string.outside string.braces cut.around)
     (spelled cut.pieces cut.text) (take begun (rest_of cut)) (drop begun (rest_of cut))
 
 -- the pieces that a cut leads to
@@ -81,14 +81,15 @@ Nested text pieces end (string ∷ around) = Lies pieces end string × Nested te
 
 -- the place of the next piece
 abbrev pub Stands : Within → Cut → Type 0
-Stands (InCode braces) cut = (braces ≤ cut.at) × Nested cut.text cut.pieces cut.end cut.open
-Stands (InString string begun) cut = (cut.at + begun ≤ cut.end) × Nested cut.text cut.pieces cut.end (string ∷ cut.open)
+Stands (InCode braces) cut = (braces ≤ cut.at) × Nested cut.text cut.pieces cut.end cut.around
+Stands (InString string begun) cut = (cut.at + begun ≤ cut.end) × Nested cut.text cut.pieces cut.end (string ∷ cut.around)
 
 -- a cut that may come about
 pub record Sound (cut : Cut) : Type 0 where
   pub pieces : size_of cut.pieces ≡ cut.at
   pub some : All (λ piece. 0 < piece.size) cut.pieces
   pub within : cut.at ≤ cut.end
+  pub inside : cut.end ≤ length cut.text
   pub line : Ends cut.text cut.line
   pub from : cut.line.from ≤ cut.at
   pub stands : Stands cut.within cut
@@ -100,8 +101,8 @@ IsCode (InString string begun) = ⊥
 
 -- how many steps are left at most
 abbrev pub steps_left : Within → Cut → ℕ
-steps_left (InCode braces) cut = 2 * (length cut.text - cut.at) + length cut.open
-steps_left (InString string begun) cut = 2 * (length cut.text - (cut.at + begun)) + length cut.open + 1
+steps_left (InCode braces) cut = 2 * (length cut.text - cut.at) + length cut.around
+steps_left (InString string begun) cut = 2 * (length cut.text - (cut.at + begun)) + length cut.around + 1
 
 -- One step of a cut: it leads to the same pieces.
 pub record Steps (old new : Cut) : Type 0 where
@@ -151,9 +152,9 @@ abbrev pub abandoned : OpenString → Cut → Cut
 abandoned string cut =
     let before = record cut { pieces = take string.pieces cut.pieces; at = string.start } in left string (added UnterminatedString (cut.end - string.start) before)
 
--- a string ends behind so many bytes
+-- a string ends with so many bytes
 abbrev pub closed : OpenString → (begun size : ℕ) → Cut → Cut
-closed string begun size cut = left string (added (if begun == 0 then StringClosing else StringLiteral) (size + length string.form.quotes.now) cut)
+closed string begun size cut = left string (added (if begun == 0 then StringClosing else StringLiteral) size cut)
 
 -- the bytes before an interpolation, if there are any
 abbrev pub with_part : (begun size : ℕ) → Cut → Cut
@@ -161,7 +162,7 @@ with_part begun size cut = if size == 0 then cut else added (if begun == 0 then 
 
 -- an interpolation of an expression begins behind so many bytes
 abbrev pub interpolated : OpenString → (begun size : ℕ) → Cut → Cut
-interpolated string begun size cut = let behind = added InterpolationOpening 2 (with_part begun size cut) in record behind { open = string ∷ cut.open; within = InCode 0 }
+interpolated string begun size cut = let behind = added InterpolationOpening 2 (with_part begun size cut) in record behind { around = string ∷ cut.around; within = InCode 0 }
 
 -- an interpolation by name stands behind so many bytes
 abbrev pub named : OpenString → (begun size name : ℕ) → Cut → Cut
@@ -169,4 +170,4 @@ named string begun size name cut = let behind = added Word name (added Interpola
 
 -- a cut that has just begun
 abbrev pub fresh : (text : List ℕ) → Line → Cut
-fresh text line = record { text = text; pieces = []; at = 0; end = length text; within = InCode 0; open = []; line = line }
+fresh text line = record { text = text; pieces = []; at = 0; end = length text; within = InCode 0; around = []; line = line }

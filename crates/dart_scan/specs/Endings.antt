@@ -6,11 +6,11 @@ use Rattle.dart_scan.specs.Lexemes.{begins}
 use Rattle.dart_scan.specs.Strings.{Form, name_size, begins_name}
 
 -- a `$` and a name of so many bytes stand first
-pub record Names (text : List ℕ) (size : ℕ) : Type 0 where
+pub record Names (text : List ℕ) (count : ℕ) : Type 0 where
   pub no_brace : begins text (codes "${") ≡ false
   pub name : begins_name text ≡ true
-  pub size : size ≡ name_size (drop 1 text)
-  pub within : 1 + size ≤ length text
+  pub size : count ≡ name_size (drop 1 text)
+  pub within : 1 + count ≤ length text
 
 -- no interpolation stands first
 pub record NoneBegins (text : List ℕ) : Type 0 where

@@ -7,6 +7,7 @@ pub mod Openings
 pub mod Endings
 pub mod Suspended
 pub mod Cutting
+pub mod WholeStrings
 pub mod Values
 pub mod Faults
 pub mod Scanned

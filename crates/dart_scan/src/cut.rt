@@ -12,7 +12,7 @@ mod line;
 mod mark;
 mod name;
 mod number;
-mod open;
+mod strings;
 
 use crate::cut::cutting::Cutting;
 use crate::piece::Piece;

@@ -7,11 +7,11 @@ ghost use Rattle.dart_scan.specs.Pieces.{braces_behind, pieces};
 ghost use Rattle.dart_scan.specs.Openings.{shape};
 ghost use Rattle.dart_scan.specs.Cutting.{rest_of, Ends, Sound, Steps, StepsOrEnds, IsCode, to_come, added, left, continued, passed, entered, abandoned, closed, with_part, interpolated, named, fresh};
 
-use crate::cut::ending::{Ending, ending};
+use crate::cut::ending::{Ending, what_ends};
 use crate::cut::form::{StringForm, string_form};
 use crate::cut::lexeme::piece_at;
 use crate::cut::line::Line;
-use crate::cut::open::{OpenString, OpenStrings};
+use crate::cut::strings::{OpenString, OpenStrings};
 use crate::piece::{Class, Piece};
 use std::alloc::{AllocError, Global};
 use std::marker::Model;
@@ -35,7 +35,7 @@ pub struct Cutting<'t> {
     at: usize,
     end: usize,
     within: Within,
-    open: OpenStrings,
+    around: OpenStrings,
     line: Line,
 }
 
@@ -44,7 +44,7 @@ impl<'t> Model for Cutting<'t> {
 
     ghost Value = { Cut };
 
-    ghost view = { λ c. record { text = c.text.now; pieces = c.pieces.items; at = c.at; end = c.end; within = c.within; open = c.open; line = c.line } };
+    ghost view = { λ c. record { text = c.text.now; pieces = c.pieces.items; at = c.at; end = c.end; within = c.within; around = c.around; line = c.line } };
 }
 
 /// How many braces are open in an expression, behind the piece with which the text begins.
@@ -96,7 +96,7 @@ impl<'t> Cutting<'t> {
             at: 0,
             end: text.len(),
             within: Within::InCode { braces: 0 },
-            open: OpenStrings::new(alloc),
+            around: OpenStrings::new(alloc),
             line: Line::at(text, 0),
         }
     }
@@ -108,15 +108,16 @@ impl<'t> Cutting<'t> {
         ensures same { IfOk result (λ cutting. to_come cutting ≡ pieces text.now) }
     {
         let mut cutting = Cutting::fresh(alloc, text);
-        if text.starts_with(b"\xef\xbb\xbf") {
-            cutting.add(Class::Gap, 3)?;
+        if !text.starts_with(b"\xef\xbb\xbf") {
+            return Ok(cutting);
         }
+        cutting.add(Class::Gap, 3)?;
         Ok(cutting)
     }
 
     /// The pieces, once the cut is done.
     pub fn into_pieces(self) -> Vec<Piece>
-        ensures { result.items ≡ self.pieces }
+        ensures { result.items ≡ self.entry.pieces }
     {
         self.pieces
     }
@@ -125,7 +126,8 @@ impl<'t> Cutting<'t> {
     fn rest(&self) -> &'t [u8]
         requires within { self.now.at ≤ self.now.end }
         requires end { self.now.end ≤ length self.now.text }
-        ensures { result.now ≡ rest_of self.now }
+        ensures rest { result.now ≡ rest_of self.now }
+        ensures bound { self.now.end < 2 ^ 64 }
     {
         &self.text[self.at..self.end]
     }
@@ -226,12 +228,12 @@ impl<'t> Cutting<'t> {
         };
     }
 
-    /// The string ends behind so many bytes, of which so many were known.
+    /// The string ends with so many bytes, of which so many were known.
     fn close(&mut self, string: OpenString, begun: usize, size: usize) -> Result<(), AllocError>
-        requires { self.old.at + (size + length string.form.quotes.now) ≤ length self.old.text }
+        requires { self.old.at + size ≤ length self.old.text }
         ensures { OnOk result (self.new ≡ closed string begun size self.old) }
     {
-        self.add(last_class(begun), size + string.form.quotes.len())?;
+        self.add(last_class(begun), size)?;
         self.leave(string);
         Ok(())
     }
@@ -259,7 +261,7 @@ impl<'t> Cutting<'t> {
     {
         self.part(begun, size)?;
         self.add(Class::InterpolationOpening, 2)?;
-        self.open.push(string)?;
+        self.around.push(string)?;
         self.within = Within::InCode { braces: 0 };
         Ok(())
     }
@@ -287,7 +289,7 @@ impl<'t> Cutting<'t> {
         requires sound { Sound self.old }
         requires code { self.old.within ≡ Within.InCode braces }
         requires some { self.old.at < self.old.end }
-        requires outside { begins (rest_of self.old) (codes "}") ≡ true → braces ≡ 0 → self.old.open ≡ [] }
+        requires outside { begins (rest_of self.old) (codes "}") ≡ true → braces ≡ 0 → self.old.around ≡ [] }
         ensures { OnOk result (Steps self.old self.new) }
     {
         let rest = self.rest();
@@ -308,7 +310,7 @@ impl<'t> Cutting<'t> {
         requires brace { begins (rest_of self.old) (codes "}") ≡ true }
         ensures { OnOk result (Steps self.old self.new) }
     {
-        match self.open.pop() {
+        match self.around.pop() {
             Some(string) => self.go_on(string),
             None => self.next(0),
         }
@@ -335,8 +337,8 @@ impl<'t> Cutting<'t> {
     {
         let rest = self.rest();
         let size = begun + string.form.plain_size(&rest[begun..]);
-        match ending(string.form, &rest[size..]) {
-            Ending::Quotes => self.close(string, begun, size),
+        match what_ends(string.form, &rest[size..]) {
+            Ending::Quotes => self.close(string, begun, size + string.form.quotes.len()),
             Ending::Expression => self.interpolate(string, begun, size),
             Ending::Name { size: name } => self.name(string, begun, size, name),
             Ending::Never => self.abandon(string),
@@ -350,7 +352,7 @@ impl<'t> Cutting<'t> {
         requires end { self.old.at ≡ self.old.end }
         ensures { IfOk result (λ more. StepsOrEnds more self.old self.new) }
     {
-        match self.open.pop() {
+        match self.around.pop() {
             Some(string) => {
                 self.abandon(string)?;
                 Ok(true)

@@ -35,7 +35,7 @@ fn interpolation(text: &[u8]) -> Ending
 }
 
 /// What ends a piece of a string of the form, whose plain bytes stand before the text.
-pub fn ending(form: StringForm, text: &[u8]) -> Ending
+pub fn what_ends(form: StringForm, text: &[u8]) -> Ending
     ensures { IsEnding (shape form) text.now result }
 {
     if text.starts_with(form.quotes) {

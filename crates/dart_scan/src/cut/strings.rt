@@ -26,7 +26,7 @@ pub struct OpenStrings {
 
 impl Model for OpenStrings {
     ghost use Rattle.std.specs.Prelude.{List, reverse};
-    ghost use Rattle.dart_scan.specs.declared.cut.open.OpenString.{OpenString};
+    ghost use Rattle.dart_scan.specs.declared.cut.strings.OpenString.{OpenString};
 
     ghost Value = { List OpenString };
 
