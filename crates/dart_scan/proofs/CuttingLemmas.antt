@@ -3,7 +3,7 @@ use Rattle.std.proofs.Common.{◌≡◌, ◌≢◌, ℕ, zero, suc, ◌+◌, ◌
 use Rattle.std.specs.Prelude.{All, slice_range, Ok, Err}
 use Rattle.std.specs.Option.{option_map_or}
 use Rattle.std.specs.declared.result.Result.{Result}
-use Rattle.std.proofs.lemmas.List.{take-take, take-append-le, take_all, drop-drop}
+use Rattle.std.proofs.lemmas.List.{take-take, take-append-le, take_all, take_rest, drop-drop}
 use Rattle.std.proofs.lemmas.List.Elements.{All-nil, All-push, All-take}
 use Rattle.std.proofs.lemmas.List.Sums.{sum_by_push, sum_by-take-le}
 use Rattle.std.proofs.Math.Seq.{take-add, take-append_seam}
@@ -20,7 +20,8 @@ use Rattle.dart_scan.specs.Lexemes.{begins, run}
 use Rattle.dart_scan.specs.Strings.{Form, opening_of, string_form, within_reach, name_size, is_interpolated, begins_name, plain_size}
 use Rattle.dart_scan.specs.Pieces.{Spelled, spelled, piece_at, string_at, braces_behind, last_class, part_before, within_steps, pieces_within, pieces}
 use Rattle.dart_scan.specs.Openings.{shape}
-use Rattle.dart_scan.specs.Endings.{Names, NoneBegins}
+use Rattle.dart_scan.specs.declared.cut.ending.Ending.TheVariants.{Quotes, Expression, Name, Never}
+use Rattle.dart_scan.specs.Endings.{Names, NoneBegins, Escapes, IsNever, IsEnding}
 use Rattle.dart_scan.specs.Suspended.{Suspended, resumed, resumed_within}
 use Rattle.dart_scan.specs.Cutting.{Cut, rest_of, size_of, Ends, suspended, all_suspended, to_come_within, to_come, Lies, Nested, Stands, Sound, steps_left, Steps, IsDone, IsCode, added, left, continued, passed, string_in, entered, abandoned, closed, with_part, interpolated, named, fresh}
 use Rattle.dart_scan.proofs.PieceLemmas.{piece_least}
@@ -712,3 +713,62 @@ pub reach-is : (view old : Cut) (form : Form) (last stop : ℕ) → view ≡ old
 reach-is view old form last stop e within one there is =
     let line : last ≡ old.at + run is_within_line (drop old.at old.text) = subst (λ (v : Cut). last ≡ v.at + run is_within_line (drop v.at v.text)) e there in
     rw one (is ∙ ap (λ (v : Cut). min last v.end) e ∙ line-reach old.text old.at old.end last within line)
+
+-- the rest of a list, as a slice gives it
+tail-is : (rest whole : List ℕ) (n : ℕ) → rest ≡ whole → take (length rest - n) (drop n rest) ≡ drop n whole
+tail-is rest whole n e = take_rest rest n ∙ ap (drop n) e
+
+plain-is : (form : Form) (rest whole : List ℕ) (begun plain : ℕ) → rest ≡ whole → plain ≡ plain_size form (take (length rest - begun) (drop begun rest)) → plain ≡ plain_size form (drop begun whole)
+plain-is form rest whole begun plain e h = h ∙ ap (plain_size form) (tail-is rest whole begun e)
+
+behind-is : (rest whole : List ℕ) (begun plain : ℕ) → rest ≡ whole → take (length rest - (begun + plain)) (drop (begun + plain) rest) ≡ drop plain (drop begun whole)
+behind-is rest whole begun plain e = tail-is rest whole (begun + plain) e ∙ sym (drop-drop plain begun whole)
+
+-- Steps in a string, by what was read of the rest of its text.
+
+pub string-quotes : (old new : Cut) (string : OpenString) (begun plain : ℕ) (rest : List ℕ) → rest ≡ rest_of old → Sound old → old.within ≡ InString string begun
+    → plain ≡ plain_size (shape string.form) (take (length rest - begun) (drop begun rest))
+    → IsEnding (shape string.form) (take (length rest - (begun + plain)) (drop (begun + plain) rest)) Quotes
+    → new ≡ closed string begun (begun + plain + length string.form.quotes.now) old → Steps old new
+string-quotes old new string begun plain rest is s e h ends made =
+    subst (λ n. Steps old n) (sym made)
+    (closes old string begun plain (begun + plain + length string.form.quotes.now) s e (plain-is (shape string.form) rest (rest_of old) begun plain is h) refl
+      (ap (λ t. begins t string.form.quotes.now) (sym (behind-is rest (rest_of old) begun plain is)) ∙ ends))
+
+pub string-expression : (old new : Cut) (string : OpenString) (begun plain : ℕ) (rest : List ℕ) → rest ≡ rest_of old → Sound old → old.within ≡ InString string begun
+    → plain ≡ plain_size (shape string.form) (take (length rest - begun) (drop begun rest))
+    → IsEnding (shape string.form) (take (length rest - (begun + plain)) (drop (begun + plain) rest)) Expression
+    → new ≡ interpolated string begun (begun + plain) old → Steps old new
+string-expression old new string begun plain rest is s e h ends made =
+    let ends' : Escapes (shape string.form) (drop plain (drop begun (rest_of old))) Expression = subst (λ t. Escapes (shape string.form) t Expression) (behind-is rest (rest_of old) begun plain is) ends in
+    subst (λ n. Steps old n) (sym made)
+    (opens-expression old string begun plain (begun + plain) s e (plain-is (shape string.form) rest (rest_of old) begun plain is h) refl ends'.no_quotes ends'.escaping ends'.interpolation)
+
+pub string-name : (old new : Cut) (string : OpenString) (begun plain name : ℕ) (rest : List ℕ) → rest ≡ rest_of old → Sound old → old.within ≡ InString string begun
+    → plain ≡ plain_size (shape string.form) (take (length rest - begun) (drop begun rest))
+    → IsEnding (shape string.form) (take (length rest - (begun + plain)) (drop (begun + plain) rest)) (Name name)
+    → new ≡ named string begun (begun + plain) name old → Steps old new
+string-name old new string begun plain name rest is s e h ends made =
+    let ends' : Escapes (shape string.form) (drop plain (drop begun (rest_of old))) (Name name) = subst (λ t. Escapes (shape string.form) t (Name name)) (behind-is rest (rest_of old) begun plain is) ends in
+    subst (λ n. Steps old n) (sym made)
+    (opens-name old string begun plain (begun + plain) name s e (plain-is (shape string.form) rest (rest_of old) begun plain is h) refl ends'.no_quotes ends'.escaping ends'.interpolation)
+
+pub string-never : (old new : Cut) (string : OpenString) (begun plain : ℕ) (rest : List ℕ) → rest ≡ rest_of old → Sound old → old.within ≡ InString string begun
+    → plain ≡ plain_size (shape string.form) (take (length rest - begun) (drop begun rest))
+    → IsEnding (shape string.form) (take (length rest - (begun + plain)) (drop (begun + plain) rest)) Never
+    → new ≡ abandoned string old → Steps old new
+string-never old new string begun plain rest is s e h ends made =
+    let ends' : IsNever (shape string.form) (drop plain (drop begun (rest_of old))) = subst (λ t. IsNever (shape string.form) t) (behind-is rest (rest_of old) begun plain is) ends in
+    subst (λ n. Steps old n) (sym made)
+    (gives-up old string begun plain s e (plain-is (shape string.form) rest (rest_of old) begun plain is h) ends'.no_quotes ends'.none)
+
+-- a cut that has begun behind a byte order mark
+pub marked-begins : (view made new : Cut) (text : List ℕ) → view ≡ made → made ≡ fresh text made.line → Ends text made.line → made.line.from ≡ 0 → begins text (239 ∷ 187 ∷ 191 ∷ []) ≡ true → new ≡ added Gap 3 view
+    → Sound new × (to_come new ≡ pieces text)
+marked-begins view made new text e is ends from marked more =
+    let same : new ≡ added Gap 3 (fresh text made.line) = more ∙ ap (added Gap 3) (e ∙ is) in
+    let some : 3 ≤ length text = omega (arith, ap length (begins-split (239 ∷ 187 ∷ 191 ∷ []) text marked)) in
+    (subst (λ n. Sound n) (sym same) (marked-sound text made.line ends from some), ap to_come same ∙ begins-marked text made.line marked)
+
+pub fresh-begins : (made : Cut) (text : List ℕ) → made ≡ fresh text made.line → Ends text made.line → made.line.from ≡ 0 → begins text (239 ∷ 187 ∷ 191 ∷ []) ≡ false → Sound made × (to_come made ≡ pieces text)
+fresh-begins made text is ends from plain = (subst (λ n. Sound n) (sym is) (begins-cut text made.line ends from), ap to_come is ∙ begins-plain text made.line plain)

@@ -108,10 +108,10 @@ impl<'t> Cutting<'t> {
         ensures same { IfOk result (λ cutting. to_come cutting ≡ pieces text.now) }
     {
         let mut cutting = Cutting::fresh(alloc, text);
-        if !text.starts_with(b"\xef\xbb\xbf") {
+        if text.starts_with(b"\xef\xbb\xbf") {
+            cutting.add(Class::Gap, 3)?;
             return Ok(cutting);
         }
-        cutting.add(Class::Gap, 3)?;
         Ok(cutting)
     }
 

@@ -1,4 +1,4 @@
-use Rattle.std.proofs.Common.{◌≡◌, ◌<◌, ◌-◌, length, sym, ap, subst, ◌∙◌, arith}
+use Rattle.std.proofs.Common.{◌≡◌, false, ◌<◌, ◌-◌, length, sym, ap, subst, ◌∙◌, arith}
 use Rattle.dart_scan.specs.Strings.{string_form}
 use Rattle.dart_scan.specs.Pieces.{piece_at, braces_behind}
 use Rattle.dart_scan.specs.Cutting.{rest_of, Steps}
@@ -26,5 +26,5 @@ returns-in-None c =
     on-ok c.pass.result c.pass.ensures
     (λ e. subst (λ n. Steps c.args.self.now n) (sym e)
       (passes c.args.self.now c.piece_at.result c.args.braces c.braces_behind.result c.requires.sound c.requires.code c.requires.some c.requires.outside
-        (ap string_form (sym c.rest-rest.ensures.rest) ∙ sym c.in-None.ensures) (c.piece_at.ensures.piece ∙ ap (piece_at _) c.rest-rest.ensures.rest) c.piece_at.ensures.some
+        (ap string_form (sym c.rest-rest.ensures.rest) ∙ sym c.in-None.ensures) (c.piece_at.ensures.piece ∙ ap (piece_at false) c.rest-rest.ensures.rest) c.piece_at.ensures.some
         (omega (arith, c.piece_at.ensures.within, ap length c.rest-rest.ensures.rest)) (c.braces_behind.ensures ∙ ap (braces_behind c.args.braces) c.rest-rest.ensures.rest)))
