@@ -1,14 +1,14 @@
 -- Each step of a cut leads to the same pieces.
-use Rattle.std.proofs.Common.{◌≡◌, ◌≢◌, ℕ, zero, suc, ◌+◌, ◌-◌, ◌*◌, ◌≤◌, ◌<◌, ◌==◌, ◌&&◌, Bool, true, false, List, [], ◌∷◌, ◌++◌, length, take, drop, codes, if◌then◌else◌, Option, Some, None, refl, sym, ap, subst, ◌∙◌, arith, length-append, length-drop, length-take, append_assoc, append-nil, OnOk, min}
+use Rattle.std.proofs.Common.{◌≡◌, ℕ, zero, suc, ◌+◌, ◌-◌, ◌*◌, ◌≤◌, ◌<◌, ◌==◌, ◌&&◌, Bool, true, false, List, [], ◌∷◌, ◌++◌, length, take, drop, codes, if◌then◌else◌, Option, Some, None, refl, sym, ap, subst, ◌∙◌, arith, length-append, length-drop, length-take, append_assoc, append-nil, OnOk, min}
 use Rattle.std.specs.Prelude.{All, slice_range, Ok, Err}
 use Rattle.std.specs.Option.{option_map_or}
 use Rattle.std.specs.declared.result.Result.{Result}
-use Rattle.std.proofs.lemmas.List.{take-take, take-append-le, take_all, take_rest, drop-drop}
+use Rattle.std.proofs.lemmas.List.{take-append-le, take_all, take_rest, drop-drop}
 use Rattle.std.proofs.lemmas.List.Elements.{All-nil, All-push, All-take}
 use Rattle.std.proofs.lemmas.List.Sums.{sum_by_push, sum_by-take-le}
 use Rattle.std.proofs.Math.Seq.{take-add, take-append_seam}
 use Rattle.dart_scan.specs.declared.piece.Class.{Class}
-use Rattle.dart_scan.specs.declared.piece.Class.TheVariants.{Gap, Word, StringLiteral, StringOpening, StringPart, StringClosing, UnterminatedString, InterpolationMark, InterpolationOpening, InterpolationClosing}
+use Rattle.dart_scan.specs.declared.piece.Class.TheVariants.{Gap, Word, StringLiteral, StringClosing, UnterminatedString, InterpolationMark, InterpolationOpening, InterpolationClosing}
 use Rattle.dart_scan.specs.declared.piece.Piece.{Piece}
 use Rattle.dart_scan.specs.declared.cut.form.StringForm.{StringForm}
 use Rattle.dart_scan.specs.declared.cut.strings.OpenString.{OpenString}
@@ -17,14 +17,13 @@ use Rattle.dart_scan.specs.declared.cut.cutting.Within.{Within}
 use Rattle.dart_scan.specs.declared.cut.cutting.Within.TheVariants.{InCode, InString}
 use Rattle.dart_scan.specs.Characters.{is_within_line}
 use Rattle.dart_scan.specs.Lexemes.{begins, run}
-use Rattle.dart_scan.specs.Strings.{Form, opening_of, string_form, within_reach, name_size, is_interpolated, begins_name, plain_size}
+use Rattle.dart_scan.specs.Strings.{Form, opening_of, string_form, within_reach, name_size, is_interpolated, plain_size}
 use Rattle.dart_scan.specs.Pieces.{Spelled, spelled, piece_at, string_at, braces_behind, last_class, part_before, within_steps, pieces_within, pieces}
 use Rattle.dart_scan.specs.Openings.{shape}
 use Rattle.dart_scan.specs.declared.cut.ending.Ending.TheVariants.{Quotes, Expression, Name, Never}
 use Rattle.dart_scan.specs.Endings.{Names, NoneBegins, Escapes, IsNever, IsEnding}
 use Rattle.dart_scan.specs.Suspended.{Suspended, resumed, resumed_within}
-use Rattle.dart_scan.specs.Cutting.{Cut, rest_of, size_of, Ends, suspended, all_suspended, to_come_within, to_come, Lies, Nested, Stands, Sound, steps_left, Steps, IsDone, IsCode, added, left, continued, passed, string_in, entered, abandoned, closed, with_part, interpolated, named, fresh}
-use Rattle.dart_scan.proofs.PieceLemmas.{piece_least}
+use Rattle.dart_scan.specs.Cutting.{Cut, rest_of, size_of, Ends, suspended, all_suspended, to_come_within, to_come, Lies, Nested, Stands, Sound, steps_left, Steps, IsDone, IsCode, added, continued, passed, entered, abandoned, closed, with_part, interpolated, named, fresh}
 use Rattle.dart_scan.proofs.FormLemmas.{begins-split, Opens, opens, Reaches, reaches}
 use Rattle.dart_scan.proofs.StepLemmas.{opening-some, named-parts, pieces-enough}
 use Rattle.dart_scan.proofs.ResumeLemmas.{braced, ends_interpolation, piece-step, string-step, closing-step, ending-step, quotes-step, opening-step, name-step, never-step}
@@ -164,10 +163,10 @@ passes old piece braces after s e some outside none is least within behind =
         stands = (omega (arith, bound, least, at.few), nested-same old.text (length old.pieces) (old.pieces ++ piece ∷ []) old.pieces old.end old.around grown.kept at.nested);
       };
       same = ap (λ ss. resumed ss (spelled (old.pieces ++ piece ∷ []) old.text) (slice_range old.text (old.at + piece.size) old.end)) strings
-        ∙ ap (λ d. resumed (braced (all_suspended old.text old.pieces old.end braces old.around) (rest_of old)) d (slice_range old.text (old.at + piece.size) old.end)) grown.spells
-        ∙ ap (resumed (braced (all_suspended old.text old.pieces old.end braces old.around) (rest_of old)) (spelled old.pieces old.text ++ (piece.class, take piece.size (rest_of old)) ∷ []))
-        (sym (range-drop old.text old.at old.end piece.size (omega (arith, at.size, within, s.within))))
-        ∙ onward ∙ sym at.comes;
+          ∙ ap (λ d. resumed (braced (all_suspended old.text old.pieces old.end braces old.around) (rest_of old)) d (slice_range old.text (old.at + piece.size) old.end)) grown.spells
+          ∙ ap (resumed (braced (all_suspended old.text old.pieces old.end braces old.around) (rest_of old)) (spelled old.pieces old.text ++ (piece.class, take piece.size (rest_of old)) ∷ []))
+          (sym (range-drop old.text old.at old.end piece.size (omega (arith, at.size, within, s.within))))
+          ∙ onward ∙ sym at.comes;
       less = omega (arith, at.left, least, within, at.size, at.within, s.within);
     }
 
@@ -184,6 +183,7 @@ braces-kept braces text form some = of (begins text (codes "{")) (begins text (c
   where
     both : None ≡ Some form → ⊥
     both e = absurd (cc)
+
     of : (a b : Bool) → begins text (codes "{") ≡ a → begins text (codes "}") ≡ b → (if a then braces + 1 else (if b then braces - 1 else braces)) ≡ braces
     of true b e f = absurd (both (sym (no-brace text e) ∙ some))
     of false true e f = absurd (both (sym (no-closing text f) ∙ some))
@@ -191,7 +191,7 @@ braces-kept braces text form some = of (begins text (codes "{")) (begins text (c
 
 string-next : (strings : List Suspended) (done : List Spelled) (text : List ℕ) (form : Form) → 1 ≤ length text → ends_interpolation strings text ≡ false → string_form text ≡ Some form
     → resumed strings done text ≡ (let reach = within_reach form text in
-      resumed_within (record { form = form; before = done; reach = reach; beyond = drop (length reach) text; braces = 0 }) (braced strings text) done (opening_of form) (drop (length (opening_of form)) reach))
+    resumed_within (record { form = form; before = done; reach = reach; beyond = drop (length reach) text; braces = 0 }) (braced strings text) done (opening_of form) (drop (length (opening_of form)) reach))
 string-next strings done [] form h e f = absurd (omega (arith, h))
 string-next strings done (byte ∷ text) form h e f = string-step strings done byte text form e f
 
@@ -249,11 +249,11 @@ enters old form braces line s e some outside is ends from =
         );
       };
       same = ap (λ ps. entering (shape form) old ps (all_suspended old.text ps old.end braces old.around) (slice_range old.text old.at end) (slice_range old.text end old.end) (take (length opening) (slice_range old.text old.at end))) pieces
-        ∙ ap (λ w. entering (shape form) old old.pieces around w (slice_range old.text end old.end) (take (length opening) w)) whole
-        ∙ ap (λ b. entering (shape form) old old.pieces around reach b (take (length opening) reach)) beyond
-        ∙ ap (λ b. entering (shape form) old old.pieces around reach (drop (length reach) (rest_of old)) b) front
-        ∙ ap (λ ss. entering (shape form) old old.pieces ss reach (drop (length reach) (rest_of old)) opening) strings
-        ∙ sym (string-next around (spelled old.pieces old.text) (rest_of old) (shape form) here (goes-on old.text old.pieces old.end braces old.around (rest_of old) outside) is) ∙ sym at.comes;
+          ∙ ap (λ w. entering (shape form) old old.pieces around w (slice_range old.text end old.end) (take (length opening) w)) whole
+          ∙ ap (λ b. entering (shape form) old old.pieces around reach b (take (length opening) reach)) beyond
+          ∙ ap (λ b. entering (shape form) old old.pieces around reach (drop (length reach) (rest_of old)) b) front
+          ∙ ap (λ ss. entering (shape form) old old.pieces ss reach (drop (length reach) (rest_of old)) opening) strings
+          ∙ sym (string-next around (spelled old.pieces old.text) (rest_of old) (shape form) here (goes-on old.text old.pieces old.end braces old.around (rest_of old) outside) is) ∙ sym at.comes;
       less = omega (arith, at.left, begun, far, near, at.within, s.within);
     }
 
@@ -293,10 +293,10 @@ continues old string around s e some closes is =
         stands = (omega arith, nested-same old.text (length old.pieces) pieces old.pieces old.end (string ∷ around) grown.kept nested);
       };
       same = ap (λ ps. resumed_in old.text string old.end around ps (spelled pieces old.text) [] (slice_range old.text (old.at + 1) old.end)) kept
-        ∙ ap (λ d. resumed_in old.text string old.end around (take string.pieces old.pieces) d [] (slice_range old.text (old.at + 1) old.end)) (grown.spells ∙ ap (λ b. spelled old.pieces old.text ++ (InterpolationClosing, b) ∷ []) byte)
-        ∙ ap (resumed_in old.text string old.end around (take string.pieces old.pieces) (spelled old.pieces old.text ++ (InterpolationClosing, codes "}") ∷ []) []) (sym (range-drop old.text old.at old.end 1 (omega arith)))
-        ∙ sym (closing-next (suspended old.text old.pieces old.end 0 string) (all_suspended old.text (take string.pieces old.pieces) string.outside string.braces around) (spelled old.pieces old.text) (rest_of old) here ends)
-        ∙ ap (λ o. resumed (all_suspended old.text old.pieces old.end 0 o) (spelled old.pieces old.text) (rest_of old)) (sym is) ∙ sym at.comes;
+          ∙ ap (λ d. resumed_in old.text string old.end around (take string.pieces old.pieces) d [] (slice_range old.text (old.at + 1) old.end)) (grown.spells ∙ ap (λ b. spelled old.pieces old.text ++ (InterpolationClosing, b) ∷ []) byte)
+          ∙ ap (resumed_in old.text string old.end around (take string.pieces old.pieces) (spelled old.pieces old.text ++ (InterpolationClosing, codes "}") ∷ []) []) (sym (range-drop old.text old.at old.end 1 (omega arith)))
+          ∙ sym (closing-next (suspended old.text old.pieces old.end 0 string) (all_suspended old.text (take string.pieces old.pieces) string.outside string.braces around) (spelled old.pieces old.text) (rest_of old) here ends)
+          ∙ ap (λ o. resumed (all_suspended old.text old.pieces old.end 0 o) (spelled old.pieces old.text) (rest_of old)) (sym is) ∙ sym at.comes;
       less = omega (arith, at.left, less, at.within);
     }
 
@@ -348,8 +348,8 @@ runs-out old string around braces s e out is =
       text = refl;
       sound = abandoned-sound (record old { around = around }) string s.some s.line (omega (arith, s.from, out)) nested.0 nested.1;
       same = abandoned-comes (record old { around = around }) string nested.0 nested.1
-        ∙ sym (ending-next (suspended old.text old.pieces old.end braces string) (all_suspended old.text (take string.pieces old.pieces) string.outside string.braces around) (spelled old.pieces old.text) (rest_of old) none)
-        ∙ ap (λ o. resumed (all_suspended old.text old.pieces old.end braces o) (spelled old.pieces old.text) (rest_of old)) (sym is) ∙ sym at.comes;
+          ∙ sym (ending-next (suspended old.text old.pieces old.end braces string) (all_suspended old.text (take string.pieces old.pieces) string.outside string.braces around) (spelled old.pieces old.text) (rest_of old) none)
+          ∙ ap (λ o. resumed (all_suspended old.text old.pieces old.end braces o) (spelled old.pieces old.text) (rest_of old)) (sym is) ∙ sym at.comes;
       less = omega (arith, at.left, less, out, nested.0.forward, at.within);
     }
 
@@ -372,7 +372,7 @@ done old braces s e out is =
         stands = subst (λ w. Stands w (record old { around = [] })) (sym e) (at.few, nested);
       };
       all = sym (at.comes ∙ ap (λ o. resumed (all_suspended old.text old.pieces old.end braces o) (spelled old.pieces old.text) (rest_of old)) is
-        ∙ ap (resumed [] (spelled old.pieces old.text)) none ∙ append-nil (spelled old.pieces old.text));
+          ∙ ap (resumed [] (spelled old.pieces old.text)) none ∙ append-nil (spelled old.pieces old.text));
       end = out ∙ nested;
     }
 
@@ -427,12 +427,12 @@ closes old string begun size count s e plain all ends =
         );
       };
       same = ap (λ ss. resumed ss (spelled pieces old.text) (slice_range old.text (old.at + count) string.outside)) (all-same old.text string.pieces pieces before string.outside string.braces old.around kept at.around)
-        ∙ ap (λ d. resumed (all_suspended old.text before string.outside string.braces old.around) d (slice_range old.text (old.at + count) string.outside))
-        (grown.spells ∙ ap (λ b. spelled old.pieces old.text ++ (class, b) ∷ []) bytes ∙ ap (λ c. spelled old.pieces old.text ++ (c, (take begun rest ++ take size (drop begun rest)) ++ quotes) ∷ []) named-class)
-        ∙ ap (resumed (all_suspended old.text before string.outside string.braces old.around) (spelled old.pieces old.text ++ (last_class (take begun rest), (take begun rest ++ take size (drop begun rest)) ++ quotes) ∷ []))
-        (sym (ap (λ t. t ++ slice_range old.text old.end string.outside) place ∙ range-join old.text (old.at + count) old.end string.outside (omega (arith, fits, all, s.within)) at.lies.outside))
-        ∙ sym (quotes-step (suspended old.text old.pieces old.end 0 string) (all_suspended old.text before string.outside string.braces old.around) (spelled old.pieces old.text) (take begun rest) (drop begun rest) size at.lies.some plain ends)
-        ∙ sym at.comes;
+          ∙ ap (λ d. resumed (all_suspended old.text before string.outside string.braces old.around) d (slice_range old.text (old.at + count) string.outside))
+          (grown.spells ∙ ap (λ b. spelled old.pieces old.text ++ (class, b) ∷ []) bytes ∙ ap (λ c. spelled old.pieces old.text ++ (c, (take begun rest ++ take size (drop begun rest)) ++ quotes) ∷ []) named-class)
+          ∙ ap (resumed (all_suspended old.text before string.outside string.braces old.around) (spelled old.pieces old.text ++ (last_class (take begun rest), (take begun rest ++ take size (drop begun rest)) ++ quotes) ∷ []))
+          (sym (ap (λ t. t ++ slice_range old.text old.end string.outside) place ∙ range-join old.text (old.at + count) old.end string.outside (omega (arith, fits, all, s.within)) at.lies.outside))
+          ∙ sym (quotes-step (suspended old.text old.pieces old.end 0 string) (all_suspended old.text before string.outside string.braces old.around) (spelled old.pieces old.text) (take begun rest) (drop begun rest) size at.lies.some plain ends)
+          ∙ sym at.comes;
       less = omega (arith, at.left, fits, all, at.lies.some, at.within, s.within);
     }
 
@@ -444,9 +444,9 @@ gives-up old string begun size s e plain ends none =
       text = refl;
       sound = abandoned-sound old string s.some s.line (omega (arith, s.from, s.within)) at.lies at.around;
       same = abandoned-comes old string at.lies at.around
-        ∙ sym (never-step (suspended old.text old.pieces old.end 0 string) (all_suspended old.text (take string.pieces old.pieces) string.outside string.braces old.around) (spelled old.pieces old.text) (take begun (rest_of old)) (drop begun (rest_of old)) size
+          ∙ sym (never-step (suspended old.text old.pieces old.end 0 string) (all_suspended old.text (take string.pieces old.pieces) string.outside string.braces old.around) (spelled old.pieces old.text) (take begun (rest_of old)) (drop begun (rest_of old)) size
           at.lies.some plain ends (λ r. ((none r).no_brace, (none r).no_name)))
-        ∙ sym at.comes;
+          ∙ sym at.comes;
       less = omega (arith, at.left, at.known, at.lies.forward, at.within);
     }
 
@@ -498,18 +498,18 @@ opens-expression old string begun size count s e plain all ends raw opens =
         stands = (
           omega arith,
           subst (λ t. Nested t pieces between.end (string ∷ old.around)) (sym (part-text begun count old))
-          (subst (λ n. Nested old.text pieces n (string ∷ old.around)) (sym (part-end begun count old)) (nested-same old.text (length old.pieces) pieces old.pieces old.end (string ∷ old.around) grown.kept at.nested)),
+              (subst (λ n. Nested old.text pieces n (string ∷ old.around)) (sym (part-end begun count old)) (nested-same old.text (length old.pieces) pieces old.pieces old.end (string ∷ old.around) grown.kept at.nested)),
         );
       };
       same = ap (λ t. resumed (all_suspended t pieces between.end 0 (string ∷ old.around)) (spelled pieces t) (slice_range t (between.at + 2) between.end)) (part-text begun count old)
-        ∙ ap (λ n. resumed (all_suspended old.text pieces n 0 (string ∷ old.around)) (spelled pieces old.text) (slice_range old.text (between.at + 2) n)) (part-end begun count old)
-        ∙ ap (λ ss. resumed ss (spelled pieces old.text) (slice_range old.text (between.at + 2) old.end)) strings
-        ∙ ap (λ d. resumed (all_suspended old.text old.pieces old.end 0 (string ∷ old.around)) d (slice_range old.text (between.at + 2) old.end))
-        (grown.spells ∙ sym (append_assoc (spelled old.pieces old.text) (part_before (take begun rest) (take size (drop begun rest))) ((InterpolationOpening, codes "${") ∷ [])))
-        ∙ ap (resumed (all_suspended old.text old.pieces old.end 0 (string ∷ old.around)) ((spelled old.pieces old.text ++ part_before (take begun rest) (take size (drop begun rest))) ++ (InterpolationOpening, codes "${") ∷ [])) (sym place)
-        ∙ sym (opening-step (suspended old.text old.pieces old.end 0 string) (all_suspended old.text (take string.pieces old.pieces) string.outside string.braces old.around) (spelled old.pieces old.text) (take begun rest) (drop begun rest) size
+          ∙ ap (λ n. resumed (all_suspended old.text pieces n 0 (string ∷ old.around)) (spelled pieces old.text) (slice_range old.text (between.at + 2) n)) (part-end begun count old)
+          ∙ ap (λ ss. resumed ss (spelled pieces old.text) (slice_range old.text (between.at + 2) old.end)) strings
+          ∙ ap (λ d. resumed (all_suspended old.text old.pieces old.end 0 (string ∷ old.around)) d (slice_range old.text (between.at + 2) old.end))
+          (grown.spells ∙ sym (append_assoc (spelled old.pieces old.text) (part_before (take begun rest) (take size (drop begun rest))) ((InterpolationOpening, codes "${") ∷ [])))
+          ∙ ap (resumed (all_suspended old.text old.pieces old.end 0 (string ∷ old.around)) ((spelled old.pieces old.text ++ part_before (take begun rest) (take size (drop begun rest))) ++ (InterpolationOpening, codes "${") ∷ [])) (sym place)
+          ∙ sym (opening-step (suspended old.text old.pieces old.end 0 string) (all_suspended old.text (take string.pieces old.pieces) string.outside string.braces old.around) (spelled old.pieces old.text) (take begun rest) (drop begun rest) size
           at.lies.some plain ends raw opens)
-        ∙ sym at.comes;
+          ∙ sym at.comes;
       less = omega (arith, at.left, fits, all, there, at.within, s.within, ap length (part-text begun count old));
     }
 
@@ -558,21 +558,21 @@ opens-name old string begun size count name s e plain all ends raw names =
         stands = (
           omega (arith, fits, all, there, part-end begun count old, s.within),
           subst (λ t. Nested t pieces between.end (string ∷ between.around)) (sym (part-text begun count old))
-          (subst (λ n. Nested old.text pieces n (string ∷ between.around)) (sym (part-end begun count old))
-            (subst (λ o. Nested old.text pieces old.end (string ∷ o)) (sym (part-open begun count old)) (nested-same old.text (length old.pieces) pieces old.pieces old.end (string ∷ old.around) grown.kept at.nested))),
+              (subst (λ n. Nested old.text pieces n (string ∷ between.around)) (sym (part-end begun count old))
+              (subst (λ o. Nested old.text pieces old.end (string ∷ o)) (sym (part-open begun count old)) (nested-same old.text (length old.pieces) pieces old.pieces old.end (string ∷ old.around) grown.kept at.nested))),
         );
       };
       same = ap (λ t. resumed_in t string between.end between.around (take string.pieces pieces) (spelled pieces t) [] (slice_range t stop between.end)) (part-text begun count old)
-        ∙ ap (λ n. resumed_in old.text string n between.around (take string.pieces pieces) (spelled pieces old.text) [] (slice_range old.text stop n)) (part-end begun count old)
-        ∙ ap (λ o. resumed_in old.text string old.end o (take string.pieces pieces) (spelled pieces old.text) [] (slice_range old.text stop old.end)) (part-open begun count old)
-        ∙ ap (λ ps. resumed_in old.text string old.end old.around ps (spelled pieces old.text) [] (slice_range old.text stop old.end)) kept
-        ∙ ap (λ d. resumed_in old.text string old.end old.around (take string.pieces old.pieces) d [] (slice_range old.text stop old.end))
-        (grown.spells ∙ sym (append_assoc (spelled old.pieces old.text) part ((InterpolationMark, codes "$") ∷ (Word, take name (drop 1 here)) ∷ [])))
-        ∙ ap (resumed_in old.text string old.end old.around (take string.pieces old.pieces) ((spelled old.pieces old.text ++ part) ++ (InterpolationMark, codes "$") ∷ (Word, take name (drop 1 here)) ∷ []) []) (sym place)
-        ∙ ap (λ n. resumed_in old.text string old.end old.around (take string.pieces old.pieces) ((spelled old.pieces old.text ++ part) ++ (InterpolationMark, codes "$") ∷ (Word, take n (drop 1 here)) ∷ []) [] (drop (1 + n) here)) names.size
-        ∙ sym (name-step (suspended old.text old.pieces old.end 0 string) (all_suspended old.text (take string.pieces old.pieces) string.outside string.braces old.around) (spelled old.pieces old.text) (take begun rest) (drop begun rest) size
+          ∙ ap (λ n. resumed_in old.text string n between.around (take string.pieces pieces) (spelled pieces old.text) [] (slice_range old.text stop n)) (part-end begun count old)
+          ∙ ap (λ o. resumed_in old.text string old.end o (take string.pieces pieces) (spelled pieces old.text) [] (slice_range old.text stop old.end)) (part-open begun count old)
+          ∙ ap (λ ps. resumed_in old.text string old.end old.around ps (spelled pieces old.text) [] (slice_range old.text stop old.end)) kept
+          ∙ ap (λ d. resumed_in old.text string old.end old.around (take string.pieces old.pieces) d [] (slice_range old.text stop old.end))
+          (grown.spells ∙ sym (append_assoc (spelled old.pieces old.text) part ((InterpolationMark, codes "$") ∷ (Word, take name (drop 1 here)) ∷ [])))
+          ∙ ap (resumed_in old.text string old.end old.around (take string.pieces old.pieces) ((spelled old.pieces old.text ++ part) ++ (InterpolationMark, codes "$") ∷ (Word, take name (drop 1 here)) ∷ []) []) (sym place)
+          ∙ ap (λ n. resumed_in old.text string old.end old.around (take string.pieces old.pieces) ((spelled old.pieces old.text ++ part) ++ (InterpolationMark, codes "$") ∷ (Word, take n (drop 1 here)) ∷ []) [] (drop (1 + n) here)) names.size
+          ∙ sym (name-step (suspended old.text old.pieces old.end 0 string) (all_suspended old.text (take string.pieces old.pieces) string.outside string.braces old.around) (spelled old.pieces old.text) (take begun rest) (drop begun rest) size
           at.lies.some plain ends raw names.no_brace names.name)
-        ∙ sym at.comes;
+          ∙ sym at.comes;
       less = omega (arith, at.left, fits, all, there, some, at.within, s.within, ap length (part-text begun count old), ap length (part-open begun count old));
     }
 
@@ -694,19 +694,8 @@ run-done view old after e s code out is none =
     (done old braces s here out (ap (λ (v : Cut). v.around) (sym e) ∙ is))
 
 -- a string whose next piece is being read
-pub known-within : (cut : Cut) (string : OpenString) (begun : ℕ) → Sound cut → cut.within ≡ InString string begun → cut.at + begun ≤ cut.end
-known-within cut string begun s e = (string-at cut string begun s e).known
-
 pub begins-before : (cut : Cut) (string : OpenString) (begun : ℕ) → Sound cut → cut.within ≡ InString string begun → string.start < cut.end
 begins-before cut string begun s e = (string-at cut string begun s e).lies.forward
-
-pub quotes-fit : (cut : Cut) (string : OpenString) (begun size : ℕ) → Sound cut → cut.within ≡ InString string begun → begins (drop size (drop begun (rest_of cut))) string.form.quotes.now ≡ true
-    → begun + size + length string.form.quotes.now ≤ cut.end - cut.at
-quotes-fit cut string begun size s e ends =
-    let at : StringAt cut string begun = string-at cut string begun s e in
-    let quotes = string.form.quotes.now in
-    let split : drop size (drop begun (rest_of cut)) ≡ quotes ++ drop (length quotes) (drop size (drop begun (rest_of cut))) = begins-split quotes (drop size (drop begun (rest_of cut))) ends in
-    omega (arith, at.size, at.lies.some, ap length split, length-append quotes (drop (length quotes) (drop size (drop begun (rest_of cut)))), length-drop size (drop begun (rest_of cut)), length-drop begun (rest_of cut))
 
 pub reach-is : (view old : Cut) (form : Form) (last stop : ℕ) → view ≡ old → old.at ≤ old.end → (length form.quotes == 1) ≡ true → last ≡ view.at + run is_within_line (drop view.at view.text) → stop ≡ min last view.end
     → stop ≡ old.at + length (within_reach form (rest_of old))
@@ -733,7 +722,7 @@ pub string-quotes : (old new : Cut) (string : OpenString) (begun plain : ℕ) (r
 string-quotes old new string begun plain rest is s e h ends made =
     subst (λ n. Steps old n) (sym made)
     (closes old string begun plain (begun + plain + length string.form.quotes.now) s e (plain-is (shape string.form) rest (rest_of old) begun plain is h) refl
-      (ap (λ t. begins t string.form.quotes.now) (sym (behind-is rest (rest_of old) begun plain is)) ∙ ends))
+    (ap (λ t. begins t string.form.quotes.now) (sym (behind-is rest (rest_of old) begun plain is)) ∙ ends))
 
 pub string-expression : (old new : Cut) (string : OpenString) (begun plain : ℕ) (rest : List ℕ) → rest ≡ rest_of old → Sound old → old.within ≡ InString string begun
     → plain ≡ plain_size (shape string.form) (take (length rest - begun) (drop begun rest))

@@ -1,10 +1,9 @@
 -- How strings open, and how far they may reach.
-use Rattle.std.proofs.Common.{◌≡◌, ℕ, zero, suc, ◌+◌, ◌-◌, ◌≤◌, ◌<◌, ◌==◌, ◌&&◌, Bool, true, false, List, [], ◌∷◌, ◌++◌, length, take, drop, nat_eq, nat_lt, nat_le, if◌then◌else◌, Option, Some, None, refl, sym, ap, subst, ◌∙◌, arith, length-append, length-drop}
+use Rattle.std.proofs.Common.{◌≡◌, ℕ, ◌≤◌, ◌==◌, ◌&&◌, Bool, true, false, List, [], ◌∷◌, ◌++◌, length, drop, nat_eq, nat_lt, nat_le, if◌then◌else◌, Some, refl, sym, ap, subst, ◌∙◌, arith}
 use Rattle.std.specs.Prelude.{take_while}
-use Rattle.std.specs.List.{list_all, prefix_len}
+use Rattle.std.specs.List.{list_all}
 use Rattle.std.proofs.lemmas.Bool.Decides.{nat_tests}
 use Rattle.std.proofs.lemmas.Bool.{eqb-true}
-use Rattle.std.proofs.lemmas.List.{take-append-drop}
 use Rattle.std.proofs.lemmas.List.Sums.{take_while-cons}
 use Rattle.dart_scan.specs.Characters.{is_within_line}
 use Rattle.dart_scan.specs.Lexemes.{begins}
@@ -97,10 +96,13 @@ reaches form text o = let both = of (length form.quotes == 1) in record { opened
   where
     split : text ≡ opening_of form ++ drop (length (opening_of form)) text
     split = begins-split (opening_of form) text o.begun
+
     front : take_while is_within_line text ≡ opening_of form ++ take_while is_within_line (drop (length (opening_of form)) text)
     front = ap (take_while is_within_line) split ∙ front-past is_within_line (opening_of form) (drop (length (opening_of form)) text) o.within
+
     behind : drop (length (opening_of form)) (take_while is_within_line text) ≡ take_while is_within_line (drop (length (opening_of form)) text)
     behind = ap (drop (length (opening_of form))) front ∙ drop-front (opening_of form) _
+
     of : (b : Bool) → (opened : (if b then take_while is_within_line text else text) ≡ opening_of form ++ drop (length (opening_of form)) (if b then take_while is_within_line text else text))
         × ((if b then take_while is_within_line text else text) ++ drop (length (if b then take_while is_within_line text else text)) text ≡ text)
     of true = (front ∙ ap (λ xs. opening_of form ++ xs) (sym behind), front-split is_within_line text)

@@ -1,5 +1,5 @@
 -- Pieces that are added to a cut, and the strings that stay open.
-use Rattle.std.proofs.Common.{◌≡◌, ◌≢◌, ℕ, zero, suc, ◌+◌, ◌-◌, ◌≤◌, ◌<◌, ◌==◌, Bool, true, false, List, [], ◌∷◌, ◌++◌, length, take, drop, if◌then◌else◌, refl, sym, ap, subst, ◌∙◌, arith, length-append, length-drop, length-take, append_assoc, append-nil}
+use Rattle.std.proofs.Common.{◌≡◌, ℕ, zero, suc, ◌+◌, ◌-◌, ◌≤◌, ◌<◌, ◌==◌, false, List, [], ◌∷◌, ◌++◌, length, take, drop, if◌then◌else◌, refl, sym, ap, subst, ◌∙◌, arith, length-append, length-drop, length-take, append_assoc, append-nil}
 use Rattle.std.specs.Prelude.{All, slice_range}
 use Rattle.std.proofs.lemmas.List.{take-take, take-append-le, take_all}
 use Rattle.std.proofs.lemmas.List.Elements.{All-push}
@@ -11,8 +11,8 @@ use Rattle.dart_scan.specs.declared.piece.Piece.{Piece}
 use Rattle.dart_scan.specs.declared.cut.strings.OpenString.{OpenString}
 use Rattle.dart_scan.specs.Pieces.{Spelled, spelled, part_before}
 use Rattle.dart_scan.specs.Openings.{shape}
-use Rattle.dart_scan.specs.Cutting.{Cut, rest_of, size_of, all_suspended, Lies, Nested, Sound, added, with_part}
-use Rattle.dart_scan.proofs.RangeLemmas.{range-drop, range-take, spelled-push}
+use Rattle.dart_scan.specs.Cutting.{Cut, rest_of, size_of, all_suspended, Nested, added, with_part}
+use Rattle.dart_scan.proofs.RangeLemmas.{range-take, spelled-push}
 
 -- Strings that stay open don't change while pieces are added.
 
@@ -33,8 +33,7 @@ pub nested-same : (text : List ℕ) (k : ℕ) (pieces base : List Piece) (end : 
 unfolding Nested
 nested-same text k pieces base end [] e n = n
 nested-same text k pieces base end (string ∷ around) e n =
-    let same : take string.pieces pieces ≡ take string.pieces base = same-front k string.pieces pieces base e n.0.few in
-    (
+    let same : take string.pieces pieces ≡ take string.pieces base = same-front k string.pieces pieces base e n.0.few in (
       record {
         some = n.0.some;
         short = n.0.short;
@@ -71,7 +70,7 @@ grows-added old class size c some within = record {
     some = All-push (λ (p : Piece). 0 < p.size) old.pieces (record { class = class; size = size }) c.some some;
   };
   spells = spelled-push old.pieces (record { class = class; size = size }) old.text
-    ∙ ap (λ bytes. spelled old.pieces old.text ++ (class, bytes) ∷ []) (ap (λ n. take size (drop n old.text)) c.pieces ∙ sym (range-take old.text old.at old.end size within));
+      ∙ ap (λ bytes. spelled old.pieces old.text ++ (class, bytes) ∷ []) (ap (λ n. take size (drop n old.text)) c.pieces ∙ sym (range-take old.text old.at old.end size within));
   kept = take-append-le (length old.pieces) old.pieces (record { class = class; size = size } ∷ []) (omega arith) ∙ take_all (length old.pieces) old.pieces (omega arith);
   more = omega (arith, length-append old.pieces (record { class = class; size = size } ∷ []));
 }
@@ -128,10 +127,13 @@ grows-part old begun size c within sized =
   where
     front : length (take begun (rest_of old)) ≡ begun
     front = omega (arith, within, length-take begun (rest_of old))
+
     back : length (take size (drop begun (rest_of old))) ≡ size
     back = omega (arith, within, length-take size (drop begun (rest_of old)), length-drop begun (rest_of old))
+
     joined : take begun (rest_of old) ++ take size (drop begun (rest_of old)) ≡ take (begun + size) (rest_of old)
     joined = sym (take-add begun size (rest_of old))
+
     of : (all : ℕ) → begun + size ≡ all → Grows old (with_part begun all old) (part_before (take begun (rest_of old)) (take size (drop begun (rest_of old))))
     of zero e = grows-none old _ c (no-part (take begun (rest_of old)) (take size (drop begun (rest_of old))) (omega (arith, front, back, e)))
     of (suc n) e =
@@ -142,6 +144,6 @@ grows-part old begun size c within sized =
         subst (λ new. Grows old new (part_before (take begun (rest_of old)) (take size (drop begun (rest_of old))))) is
         (subst (λ ps. Grows old (added (if begun == 0 then StringPart else StringOpening) (suc n) old) ps)
         (sym (part-is (take begun (rest_of old)) (take size (drop begun (rest_of old))) some
-            ∙ ap (λ m. ((if m == 0 then StringPart else StringOpening), take begun (rest_of old) ++ take size (drop begun (rest_of old))) ∷ []) front
-            ∙ ap (λ bytes. ((if begun == 0 then StringPart else StringOpening), bytes) ∷ []) (joined ∙ ap (λ m. take m (rest_of old)) e)))
+        ∙ ap (λ m. ((if m == 0 then StringPart else StringOpening), take begun (rest_of old) ++ take size (drop begun (rest_of old))) ∷ []) front
+        ∙ ap (λ bytes. ((if begun == 0 then StringPart else StringOpening), bytes) ∷ []) (joined ∙ ap (λ m. take m (rest_of old)) e)))
         (grows-added old (if begun == 0 then StringPart else StringOpening) (suc n) c (omega arith) fits))

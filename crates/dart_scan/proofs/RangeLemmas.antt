@@ -1,11 +1,11 @@
 -- Parts of a text, and the pieces that are spelled of it.
-use Rattle.std.proofs.Common.{◌≡◌, ℕ, zero, suc, ◌+◌, ◌-◌, ◌≤◌, ◌<◌, Bool, true, false, List, [], ◌∷◌, ◌++◌, length, take, drop, refl, sym, ap, ◌∙◌, arith, length-append, length-drop, length-take, append_assoc}
+use Rattle.std.proofs.Common.{◌≡◌, ℕ, ◌+◌, ◌-◌, ◌≤◌, List, [], ◌∷◌, ◌++◌, length, take, drop, refl, sym, ap, ◌∙◌, arith, length-drop, length-take}
 use Rattle.std.specs.Prelude.{slice_range}
-use Rattle.std.proofs.lemmas.List.{drop-drop, drop-take, take-take, take_rest, take-append-le}
+use Rattle.std.proofs.lemmas.List.{drop-drop, drop-take, take-take, take_rest}
 use Rattle.std.proofs.lemmas.List.Sums.{sum_by-cons}
 use Rattle.std.proofs.Math.Seq.{take-add, take-append_seam}
 use Rattle.dart_scan.specs.declared.piece.Piece.{Piece}
-use Rattle.dart_scan.specs.Pieces.{Spelled, spelled}
+use Rattle.dart_scan.specs.Pieces.{spelled}
 use Rattle.dart_scan.specs.Cutting.{size_of}
 
 pub range-length : (text : List ℕ) (a b : ℕ) → a ≤ b → b ≤ length text → length (slice_range text a b) ≡ b - a

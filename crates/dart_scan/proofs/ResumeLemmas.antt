@@ -1,13 +1,13 @@
 -- How a text goes on where strings are open, by what stands next.
-use Rattle.std.proofs.Common.{◌≡◌, ℕ, zero, suc, ◌+◌, ◌-◌, ◌≤◌, ◌<◌, ◌==◌, ◌&&◌, Bool, true, false, not, List, [], ◌∷◌, ◌++◌, length, take, drop, codes, if◌then◌else◌, Option, Some, None, option_map, refl, sym, ap, subst, ◌∙◌, arith, length-append, length-drop, append_assoc}
+use Rattle.std.proofs.Common.{◌≡◌, ℕ, suc, ◌+◌, ◌≤◌, ◌==◌, ◌&&◌, Bool, true, false, List, [], ◌∷◌, ◌++◌, length, take, drop, codes, if◌then◌else◌, Option, Some, None, option_map, refl, sym, ap, ◌∙◌, arith, append_assoc}
 use Rattle.std.specs.Prelude.{option_and_then}
 use Rattle.std.specs.Option.{option_map_or}
 use Rattle.dart_scan.specs.declared.piece.Class.TheVariants.{Word, UnterminatedString, InterpolationMark, InterpolationOpening, InterpolationClosing}
 use Rattle.dart_scan.specs.Lexemes.{begins}
 use Rattle.dart_scan.specs.Strings.{Form, opening_of, string_form, within_reach, name_size, begins_name, plain_size}
-use Rattle.dart_scan.specs.Pieces.{Spelled, Read, behind, piece_at, read_piece, Fewer, string_at, next_at, last_class, part_before, name_row, expression_row, after_plain, parts_row, braces_behind, expression_pieces, within_steps, pieces_within, pieces}
+use Rattle.dart_scan.specs.Pieces.{Spelled, Read, behind, piece_at, read_piece, string_at, next_at, last_class, part_before, name_row, expression_row, after_plain, parts_row, braces_behind, expression_pieces, within_steps, pieces_within}
 use Rattle.dart_scan.specs.Suspended.{enough, pieces_behind, Suspended, finished, then_parts, resumed, resumed_within}
-use Rattle.dart_scan.proofs.StepLemmas.{Fair, IsFair, fair, next-fair, Agree, agree, after-agrees, next-agrees, pieces-enough, parts-agree, pieces-agree}
+use Rattle.dart_scan.proofs.StepLemmas.{Fair, IsFair, fair, next-fair, Agree, agree, next-agrees, pieces-enough, parts-agree, pieces-agree}
 
 enough-fair : IsFair enough
 enough-fair = record {
@@ -102,7 +102,7 @@ piece-step strings done byte text h none =
 -- a string that begins
 pub string-step : (strings : List Suspended) (done : List Spelled) (byte : ℕ) (text : List ℕ) (form : Form) → ends_interpolation strings (byte ∷ text) ≡ false → string_form (byte ∷ text) ≡ Some form
     → resumed strings done (byte ∷ text) ≡ (let reach = within_reach form (byte ∷ text) in
-      resumed_within (record { form = form; before = done; reach = reach; beyond = drop (length reach) (byte ∷ text); braces = 0 }) (braced strings (byte ∷ text)) done (opening_of form) (drop (length (opening_of form)) reach))
+    resumed_within (record { form = form; before = done; reach = reach; beyond = drop (length reach) (byte ∷ text); braces = 0 }) (braced strings (byte ∷ text)) done (opening_of form) (drop (length (opening_of form)) reach))
 string-step strings done byte text form h some =
     next-step strings done byte text h ∙ ap (λ read. resumed (braced strings (byte ∷ text)) (done ++ read.pieces) read.rest) (of (string_form (byte ∷ text)) some)
     ∙ begun (resumed (braced strings (byte ∷ text))) (within_reach form (byte ∷ text)) (drop (length (within_reach form (byte ∷ text))) (byte ∷ text)) (enough.parts form (opening_of form) (drop (length (opening_of form)) (within_reach form (byte ∷ text))))
@@ -110,6 +110,7 @@ string-step strings done byte text form h some =
     of : (o : Option Form) → o ≡ Some form → option_map_or (λ form. string_at enough form (byte ∷ text)) o (read_piece false (byte ∷ text)) ≡ string_at enough form (byte ∷ text)
     of None e = absurd (cc)
     of (Some f) e = let same : f ≡ form = cc in ap (λ x. string_at enough x (byte ∷ text)) same
+
     begun : (around : List Spelled → List ℕ → List Spelled) (reach beyond : List ℕ) (o : Option Read)
         → (let read : Read = option_map_or (λ read. record { pieces = read.pieces; rest = read.rest ++ beyond }) o (record { pieces = (UnterminatedString, reach) ∷ []; rest = beyond }) in around (done ++ read.pieces) read.rest)
         ≡ finished around (record { form = form; before = done; reach = reach; beyond = beyond; braces = 0 }) done o
@@ -189,6 +190,7 @@ opening-step string around done begun text size some is ends raw opens =
         ≡ finished (resumed around) (record string { braces = 0 }) ((done ++ part_before begun (take size text)) ++ (InterpolationOpening, codes "${") ∷ []) (option_map (behind inner.pieces) o)
     behind-all inner None = refl
     behind-all inner (Some read) = ap (λ d. resumed around d (read.rest ++ string.beyond)) (sym (append_assoc (done ++ part_before begun (take size text)) ((InterpolationOpening, codes "${") ∷ []) (inner.pieces ++ read.pieces)))
+
     of : (o : Option Read)
         → finished (resumed around) string (done ++ part_before begun (take size text))
         (option_and_then (λ inner. option_map (behind ((InterpolationOpening, codes "${") ∷ inner.pieces)) (enough.parts string.form [] inner.rest)) o)
@@ -200,7 +202,7 @@ opening-step string around done begun text size some is ends raw opens =
 pub name-step : (string : Suspended) (around : List Suspended) (done : List Spelled) (begun text : List ℕ) (size : ℕ) → 1 ≤ length string.form.quotes → size ≡ plain_size string.form text
     → begins (drop size text) string.form.quotes ≡ false → string.form.raw ≡ false → begins (drop size text) (codes "${") ≡ false → begins_name (drop size text) ≡ true
     → resumed_within string around done begun text ≡ (let name = name_size (drop 1 (drop size text)) in
-      resumed_within string around ((done ++ part_before begun (take size text)) ++ (InterpolationMark, codes "$") ∷ (Word, take name (drop 1 (drop size text))) ∷ []) [] (drop (1 + name) (drop size text)))
+    resumed_within string around ((done ++ part_before begun (take size text)) ++ (InterpolationMark, codes "$") ∷ (Word, take name (drop 1 (drop size text))) ∷ []) [] (drop (1 + name) (drop size text)))
 name-step string around done begun text size some is ends raw opens named =
     let row : after_plain enough string.form begun (take size text) (drop size text) ≡ option_map (behind (part_before begun (take size text))) (name_row enough string.form (drop size text)) =
     name-chosen (begins (drop size text) string.form.quotes) string.form.raw (begins (drop size text) (codes "${")) (begins_name (drop size text)) _ _ (name_row enough string.form (drop size text)) (option_map (behind (part_before begun (take size text)))) ends raw opens named in
@@ -219,9 +221,9 @@ never-step string around done begun text size some is ends neither =
   where
     of : (raw : Bool) → (raw ≡ false → (begins (drop size text) (codes "${") ≡ false) × (begins_name (drop size text) ≡ false))
         → finished (resumed around) string done (option_map (behind (part_before begun (take size text)))
-          (if raw then None
-          else (if begins (drop size text) (codes "${") then expression_row enough string.form (drop size text)
-          else (if begins_name (drop size text) then name_row enough string.form (drop size text) else None))))
+        (if raw then None
+        else (if begins (drop size text) (codes "${") then expression_row enough string.form (drop size text)
+        else (if begins_name (drop size text) then name_row enough string.form (drop size text) else None))))
         ≡ resumed around (string.before ++ (UnterminatedString, string.reach) ∷ []) string.beyond
     of true h = refl
     of false h = let both : (begins (drop size text) (codes "${") ≡ false) × (begins_name (drop size text) ≡ false) = h refl in rw (both.0, both.1) refl

@@ -1,5 +1,5 @@
 -- Strings and interpolations: what is read covers the text, and steps don't matter where they are enough.
-use Rattle.std.proofs.Common.{◌≡◌, ℕ, zero, suc, ◌+◌, ◌-◌, ◌≤◌, ◌<◌, ◌==◌, ◌&&◌, Bool, true, false, List, [], ◌∷◌, ◌++◌, length, take, drop, codes, nat_lt, if◌then◌else◌, Option, Some, None, option_map, refl, sym, ap, subst, ◌∙◌, arith, length-append, length-drop, length-take, append_assoc}
+use Rattle.std.proofs.Common.{◌≡◌, ℕ, zero, suc, ◌+◌, ◌≤◌, ◌<◌, ◌==◌, ◌&&◌, Bool, true, false, List, [], ◌∷◌, ◌++◌, length, take, drop, codes, nat_lt, if◌then◌else◌, Option, Some, None, option_map, refl, sym, ap, subst, ◌∙◌, arith, length-append, length-drop, length-take, append_assoc}
 use Rattle.std.specs.Prelude.{All, IfSome, option_and_then}
 use Rattle.std.specs.Option.{option_map_or}
 use Rattle.std.specs.List.{flat_map}
@@ -7,11 +7,11 @@ use Rattle.std.proofs.lemmas.Bool.Decides.{nat_tests}
 use Rattle.std.proofs.lemmas.List.{take-append-drop, drop-drop}
 use Rattle.std.proofs.lemmas.List.Elements.{All-nil, All-cons, All-append}
 use Rattle.dart_scan.specs.declared.piece.Class.{Class}
-use Rattle.dart_scan.specs.declared.piece.Class.TheVariants.{Word, StringLiteral, StringOpening, StringPart, StringClosing, UnterminatedString, InterpolationMark, InterpolationOpening, InterpolationClosing}
+use Rattle.dart_scan.specs.declared.piece.Class.TheVariants.{Word, StringOpening, StringPart, UnterminatedString, InterpolationMark, InterpolationOpening, InterpolationClosing}
 use Rattle.dart_scan.specs.declared.piece.Piece.{Piece}
 use Rattle.dart_scan.specs.Lexemes.{begins}
-use Rattle.dart_scan.specs.Strings.{Form, opening_of, string_form, within_reach, name_size, is_name_start, is_interpolated, begins_name, plain_size}
-use Rattle.dart_scan.specs.Pieces.{Spelled, Read, behind, piece_at, read_piece, Fewer, string_at, next_at, last_class, part_before, name_row, expression_row, after_plain, parts_row, braces_behind, expression_pieces, no_steps, within_steps, pieces_within, pieces}
+use Rattle.dart_scan.specs.Strings.{Form, opening_of, string_form, within_reach, name_size, is_interpolated, begins_name, plain_size}
+use Rattle.dart_scan.specs.Pieces.{Spelled, Read, behind, piece_at, read_piece, Fewer, string_at, next_at, last_class, part_before, name_row, expression_row, after_plain, parts_row, braces_behind, expression_pieces, within_steps, pieces_within}
 use Rattle.dart_scan.proofs.PieceLemmas.{piece_least}
 use Rattle.dart_scan.proofs.FormLemmas.{begins-split, Opens, opens, Reaches, reaches}
 
@@ -100,9 +100,9 @@ name-of-size fewer fair form text size some e h =
     map-some (Fair (drop (1 + size) text) (length (drop (1 + size) text))) (Fair text (length text)) (behind ((InterpolationMark, codes "$") ∷ (Word, take size (drop 1 text)) ∷ [])) (fewer.parts form [] (drop (1 + size) text))
     (fair.parts form [] (drop (1 + size) text) some)
     (λ read f. fair-behind text (drop (1 + size) text) (length (drop (1 + size) text)) (length text) ((InterpolationMark, codes "$") ∷ (Word, take size (drop 1 text)) ∷ []) read
-      (ap (λ xs. 36 ∷ xs) (append_assoc (take size (drop 1 text)) [] (drop (1 + size) text) ∙ ap (λ r. take size (drop 1 text) ++ r) (sym (drop-drop size 1 text)) ∙ take-append-drop size (drop 1 text)) ∙ sym (begins-split (codes "$") text e))
-      (All-cons IsSome (InterpolationMark, codes "$") ((Word, take size (drop 1 text)) ∷ []) (omega arith) (one (Word, take size (drop 1 text)) h))
-      (omega (arith, length-drop (1 + size) text)) f)
+    (ap (λ xs. 36 ∷ xs) (append_assoc (take size (drop 1 text)) [] (drop (1 + size) text) ∙ ap (λ r. take size (drop 1 text) ++ r) (sym (drop-drop size 1 text)) ∙ take-append-drop size (drop 1 text)) ∙ sym (begins-split (codes "$") text e))
+    (All-cons IsSome (InterpolationMark, codes "$") ((Word, take size (drop 1 text)) ∷ []) (omega arith) (one (Word, take size (drop 1 text)) h))
+    (omega (arith, length-drop (1 + size) text)) f)
 
 name-fair : (fewer : Fewer) → IsFair fewer → (form : Form) (text : List ℕ) → 1 ≤ length form.quotes → begins_name text ≡ true → IfSome (name_row fewer form text) (Fair text (length text))
 name-fair fewer fair form text some h =
@@ -114,17 +114,17 @@ expression-fair fewer fair form text some e =
     then-some (Fair (drop 2 text) (length (drop 2 text))) (Fair text (length text)) (λ inner. option_map (behind ((InterpolationOpening, codes "${") ∷ inner.pieces)) (fewer.parts form [] inner.rest))
     (fewer.expression 0 (drop 2 text)) (fair.expression 0 (drop 2 text))
     (λ inner f. map-some (Fair inner.rest (length inner.rest)) (Fair text (length text)) (behind ((InterpolationOpening, codes "${") ∷ inner.pieces)) (fewer.parts form [] inner.rest) (fair.parts form [] inner.rest some)
-      (λ read g. fair-behind text inner.rest (length inner.rest) (length text) ((InterpolationOpening, codes "${") ∷ inner.pieces) read
-        (ap (λ xs. 36 ∷ 123 ∷ xs) f.cover ∙ sym (begins-split (codes "${") text e))
-        (All-cons IsSome (InterpolationOpening, codes "${") inner.pieces (omega arith) f.some)
-        (omega (arith, f.shrinks, length-drop 2 text)) g))
+    (λ read g. fair-behind text inner.rest (length inner.rest) (length text) ((InterpolationOpening, codes "${") ∷ inner.pieces) read
+    (ap (λ xs. 36 ∷ 123 ∷ xs) f.cover ∙ sym (begins-split (codes "${") text e))
+    (All-cons IsSome (InterpolationOpening, codes "${") inner.pieces (omega arith) f.some)
+    (omega (arith, f.shrinks, length-drop 2 text)) g))
 
 -- a piece of a string that ends, and what ends it
 ended : (class : Class) (begun plain quotes text : List ℕ) → 1 ≤ length quotes → begins text quotes ≡ true
     → Fair (begun ++ (plain ++ text)) (length (plain ++ text)) (record { pieces = (class, begun ++ plain ++ quotes) ∷ []; rest = drop (length quotes) text })
 ended class begun plain quotes text some e = record {
   cover = append_assoc ((begun ++ plain) ++ quotes) [] (drop (length quotes) text) ∙ append_assoc (begun ++ plain) quotes (drop (length quotes) text)
-    ∙ ap (λ xs. (begun ++ plain) ++ xs) (sym (begins-split quotes text e)) ∙ append_assoc begun plain text;
+      ∙ ap (λ xs. (begun ++ plain) ++ xs) (sym (begins-split quotes text e)) ∙ append_assoc begun plain text;
   some = one (class, begun ++ plain ++ quotes) (omega (arith, some, length-append (begun ++ plain) quotes));
   shrinks = omega (arith, length-drop (length quotes) text, length-append plain text);
 }
@@ -134,11 +134,11 @@ after-fair fewer fair form begun plain text some =
     either (Fair (begun ++ (plain ++ text)) (length (plain ++ text))) (begins text form.quotes) _ _
     (λ e. ended (last_class begun) begun plain form.quotes text some e)
     (λ _. map-some (Fair text (length text)) (Fair (begun ++ (plain ++ text)) (length (plain ++ text))) (behind (part_before begun plain)) _
-      (either (Fair text (length text)) form.raw None _ (λ _. tt)
-        (λ _. either (Fair text (length text)) (begins text (codes "${")) _ _ (expression-fair fewer fair form text some)
-          (λ _. either (Fair text (length text)) (begins_name text) _ None (name-fair fewer fair form text some) (λ _. tt))))
-      (λ read f. fair-behind (begun ++ (plain ++ text)) text (length text) (length (plain ++ text)) (part_before begun plain) read
-        (ap (λ xs. xs ++ text) (part-bytes begun plain) ∙ append_assoc begun plain text) (part-some begun plain) (omega (arith, length-append plain text)) f))
+    (either (Fair text (length text)) form.raw None _ (λ _. tt)
+    (λ _. either (Fair text (length text)) (begins text (codes "${")) _ _ (expression-fair fewer fair form text some)
+    (λ _. either (Fair text (length text)) (begins_name text) _ None (name-fair fewer fair form text some) (λ _. tt))))
+    (λ read f. fair-behind (begun ++ (plain ++ text)) text (length text) (length (plain ++ text)) (part_before begun plain) read
+    (ap (λ xs. xs ++ text) (part-bytes begun plain) ∙ append_assoc begun plain text) (part-some begun plain) (omega (arith, length-append plain text)) f))
 
 parts-fair : (fewer : Fewer) → IsFair fewer → (form : Form) (begun text : List ℕ) → 1 ≤ length form.quotes → IfSome (parts_row fewer form begun text) (Fair (begun ++ text) (length text))
 parts-fair fewer fair form begun text some =
@@ -233,7 +233,7 @@ expression-agrees m n a b same fair form text some h k =
     then-same (Fair (drop 2 text) (length (drop 2 text))) _ _ (a.expression 0 (drop 2 text)) (b.expression 0 (drop 2 text))
     (same.expression 0 (drop 2 text) (omega (arith, h, length-drop 2 text)) (omega (arith, k, length-drop 2 text))) (fair.expression 0 (drop 2 text))
     (λ inner f. ap (option_map (behind ((InterpolationOpening, codes "${") ∷ inner.pieces)))
-      (same.parts form [] inner.rest some (omega (arith, h, f.shrinks, length-drop 2 text)) (omega (arith, k, f.shrinks, length-drop 2 text))))
+    (same.parts form [] inner.rest some (omega (arith, h, f.shrinks, length-drop 2 text)) (omega (arith, k, f.shrinks, length-drop 2 text))))
 
 name-agrees : (m n : ℕ) (a b : Fewer) → Agree m n a b → (form : Form) (text : List ℕ) → 1 ≤ length form.quotes → length text ≤ suc m → length text ≤ suc n → name_row a form text ≡ name_row b form text
 name-agrees m n a b same form text some h k =
@@ -245,9 +245,9 @@ pub after-agrees : (m n : ℕ) (a b : Fewer) → Agree m n a b → IsFair b → 
 after-agrees m n a b same fair form begun plain text some h k =
     if-same (begins text form.quotes) _ _ _ _ (λ _. refl)
     (λ _. ap (option_map (behind (part_before begun plain)))
-      (if-same form.raw None _ None _ (λ _. refl)
-        (λ _. if-same (begins text (codes "${")) _ _ _ _ (λ _. expression-agrees m n a b same fair form text some h k)
-          (λ _. if-same (begins_name text) _ None _ None (λ _. name-agrees m n a b same form text some h k) (λ _. refl)))))
+    (if-same form.raw None _ None _ (λ _. refl)
+    (λ _. if-same (begins text (codes "${")) _ _ _ _ (λ _. expression-agrees m n a b same fair form text some h k)
+    (λ _. if-same (begins_name text) _ None _ None (λ _. name-agrees m n a b same form text some h k) (λ _. refl)))))
 
 pub parts-agree : (m n : ℕ) (a b : Fewer) → Agree m n a b → IsFair b → (form : Form) (begun text : List ℕ) → 1 ≤ length form.quotes → length text ≤ suc m → length text ≤ suc n
     → parts_row a form begun text ≡ parts_row b form begun text
@@ -265,10 +265,14 @@ next-agrees m n a b same first byte text h k = of (string_form (byte ∷ text)) 
         let o : Opens form (byte ∷ text) = opens (byte ∷ text) form e in
         let r : Reaches form (byte ∷ text) = reaches form (byte ∷ text) o in
         let less : length (drop (length (opening_of form)) (within_reach form (byte ∷ text))) ≤ length text = omega (
-          arith, opening-some form o.some, length-drop (length (opening_of form)) (within_reach form (byte ∷ text)), ap length r.split, length-append (within_reach form (byte ∷ text)) (drop (length (within_reach form (byte ∷ text))) (byte ∷ text))
+          arith,
+          opening-some form o.some,
+          length-drop (length (opening_of form)) (within_reach form (byte ∷ text)),
+          ap length r.split,
+          length-append (within_reach form (byte ∷ text)) (drop (length (within_reach form (byte ∷ text))) (byte ∷ text)),
         ) in
         ap (λ x. option_map_or (λ read. record { pieces = read.pieces; rest = read.rest ++ drop (length (within_reach form (byte ∷ text))) (byte ∷ text) }) x
-          (record { pieces = (UnterminatedString, within_reach form (byte ∷ text)) ∷ []; rest = drop (length (within_reach form (byte ∷ text))) (byte ∷ text) }))
+        (record { pieces = (UnterminatedString, within_reach form (byte ∷ text)) ∷ []; rest = drop (length (within_reach form (byte ∷ text))) (byte ∷ text) }))
         (same.parts form (opening_of form) (drop (length (opening_of form)) (within_reach form (byte ∷ text))) o.some (omega (arith, h, less)) (omega (arith, k, less)))
 
 pub pieces-agree : (m n : ℕ) (a b : Fewer) → Agree m n a b → IsFair b → (braces : ℕ) (text : List ℕ) → length text ≤ suc m → length text ≤ suc n → expression_pieces a braces text ≡ expression_pieces b braces text
@@ -303,6 +307,7 @@ agree zero (suc n) = record { parts = none; expression = nothing }
     none : (form : Form) (begun text : List ℕ) → 1 ≤ length form.quotes → length text ≤ 0 → length text ≤ suc n → None ≡ parts_row (within_steps n) form begun text
     none form begun [] some h k = sym (no-parts (within_steps n) form begun some)
     none form begun (byte ∷ text) some h k = absurd (omega (arith, h))
+
     nothing : (braces : ℕ) (text : List ℕ) → length text ≤ 0 → length text ≤ suc n → None ≡ expression_pieces (within_steps n) braces text
     nothing braces [] h k = refl
     nothing braces (byte ∷ text) h k = absurd (omega (arith, h))
@@ -311,6 +316,7 @@ agree (suc m) zero = record { parts = none; expression = nothing }
     none : (form : Form) (begun text : List ℕ) → 1 ≤ length form.quotes → length text ≤ suc m → length text ≤ 0 → parts_row (within_steps m) form begun text ≡ None
     none form begun [] some h k = no-parts (within_steps m) form begun some
     none form begun (byte ∷ text) some h k = absurd (omega (arith, k))
+
     nothing : (braces : ℕ) (text : List ℕ) → length text ≤ suc m → length text ≤ 0 → expression_pieces (within_steps m) braces text ≡ None
     nothing braces [] h k = refl
     nothing braces (byte ∷ text) h k = absurd (omega (arith, k))

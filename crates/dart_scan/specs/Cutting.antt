@@ -1,5 +1,5 @@
 -- A cut of a text that is under way, and what is still to come of the pieces.
-use Rattle.std.specs.Prelude.{ℕ, zero, suc, ◌≡◌, ◌+◌, ◌-◌, ◌*◌, ◌≤◌, ◌<◌, ◌==◌, Bool, true, false, List, [], ◌∷◌, ◌++◌, length, take, drop, sum_by, All, slice_range, codes, if◌then◌else◌}
+use Rattle.std.specs.Prelude.{ℕ, ◌≡◌, ◌+◌, ◌-◌, ◌*◌, ◌≤◌, ◌<◌, ◌==◌, Bool, true, false, List, [], ◌∷◌, ◌++◌, length, take, drop, sum_by, All, slice_range, if◌then◌else◌}
 use Rattle.dart_scan.specs.declared.piece.Class.{Class}
 use Rattle.dart_scan.specs.declared.piece.Class.TheVariants.{Word, StringLiteral, StringOpening, StringPart, StringClosing, UnterminatedString, InterpolationMark, InterpolationOpening, InterpolationClosing}
 use Rattle.dart_scan.specs.declared.piece.Piece.{Piece}
@@ -9,8 +9,8 @@ use Rattle.dart_scan.specs.declared.cut.line.Line.{Line}
 use Rattle.dart_scan.specs.declared.cut.cutting.Within.{Within}
 use Rattle.dart_scan.specs.declared.cut.cutting.Within.TheVariants.{InCode, InString}
 use Rattle.dart_scan.specs.Characters.{is_within_line}
-use Rattle.dart_scan.specs.Lexemes.{begins, run}
-use Rattle.dart_scan.specs.Strings.{Form, opening_of, name_size, begins_name}
+use Rattle.dart_scan.specs.Lexemes.{run}
+use Rattle.dart_scan.specs.Strings.{opening_of}
 use Rattle.dart_scan.specs.Pieces.{Spelled, spelled}
 use Rattle.dart_scan.specs.Openings.{shape}
 use Rattle.dart_scan.specs.Suspended.{Suspended, resumed, resumed_within}

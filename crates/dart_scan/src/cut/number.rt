@@ -108,4 +108,3 @@ pub fn double_size(text: &[u8]) -> usize
         whole + (fraction + exponent)
     }
 }
-

@@ -1,4 +1,4 @@
-use Rattle.std.proofs.Common.{◌≤◌, ◌≡◌, ◌-◌, true, false, length, drop, take, arith, sym, ap, ◌∙◌, length-drop}
+use Rattle.std.proofs.Common.{◌≤◌, length, drop, arith, sym, ap, ◌∙◌, length-drop}
 use Rattle.std.proofs.lemmas.List.{take_rest}
 use Rattle.dart_scan.specs.Strings.{form_of, ends_piece}
 use Rattle.dart_scan.specs.Openings.{taken}
@@ -17,8 +17,8 @@ loop-at-preserved c =
     record {
       within = omega (arith, c.taken-at.ensures.within, length-drop c.loop-at.at c.args.text.now, ap length (take_rest c.args.text.now c.loop-at.at));
       reached = plain_goes_on (form_of c.args.raw c.args.quotes.now) c.args.text.now c.loop-at.at c.taken-at.result some
-        (ap (ends_piece (form_of c.args.raw c.args.quotes.now)) (sym (take_rest c.args.text.now c.loop-at.at)) ∙ sym c.ends_piece.ensures ∙ c.if-ends_piece.false)
-        (c.taken-at.ensures.size ∙ ap (taken c.args.raw) (take_rest c.args.text.now c.loop-at.at)) c.loop-at.invariant.reached;
+          (ap (ends_piece (form_of c.args.raw c.args.quotes.now)) (sym (take_rest c.args.text.now c.loop-at.at)) ∙ sym c.ends_piece.ensures ∙ c.if-ends_piece.false)
+          (c.taken-at.ensures.size ∙ ap (taken c.args.raw) (take_rest c.args.text.now c.loop-at.at)) c.loop-at.invariant.reached;
     }
 
 pub returns-clause-size : goal.returns-clause-size
