@@ -2,7 +2,8 @@
 //!
 //! `pieces` in `specs/Pieces.antt` cuts a text into gaps and lexemes, `specs/Scanned.antt` makes
 //! tokens, words and faults of them, and `scan` gives exactly those; `string_value` in
-//! `specs/Values.antt` states what a string stands for. No state of a scanner occurs in any of it.
+//! `specs/Values.antt` states what a string stands for. No state of a scanner occurs in any of it;
+//! what is still to come of a text at each step of the cut is in `specs/Suspended.antt`, for its proof.
 //! The crate stands on the texts of `dart_text` and the tokens of `dart_tokens`.
 #![tactic(auto)]
 
