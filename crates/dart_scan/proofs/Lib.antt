@@ -1,0 +1,15 @@
+pub mod Examples
+pub mod PieceExamples
+pub mod CommentLemmas
+pub mod CommentLaws
+pub mod PieceLemmas
+pub mod PlainLemmas
+pub mod FormLemmas
+pub mod StepLemmas
+pub mod ResumeLemmas
+pub mod RangeLemmas
+pub mod LineLemmas
+pub mod GrowthLemmas
+pub mod CuttingLemmas
+pub mod LawLemmas
+pub mod StringLaws

@@ -1,0 +1,13 @@
+pub mod Characters
+pub mod Lexemes
+pub mod Comments
+pub mod Strings
+pub mod Pieces
+pub mod Openings
+pub mod Endings
+pub mod Suspended
+pub mod Cutting
+pub mod WholeStrings
+pub mod Values
+pub mod Faults
+pub mod Scanned

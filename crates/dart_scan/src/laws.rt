@@ -1,0 +1,52 @@
+//! Laws of the pieces of a text, over their definitions alone.
+
+ghost use Rattle.std.specs.Prelude.{◌≡◌, ◌⊎◌, ◌<◌, ◌≤◌, [], ◌∷◌, ◌++◌, length, take, drop, codes, false, All, IsTrue, IfSome, Some};
+ghost use Rattle.std.specs.List.{flat_map};
+ghost use Rattle.std.specs.Option.{ForSome};
+ghost use Rattle.dart_tokens.specs.Marks.{marks};
+ghost use Rattle.dart_scan.specs.declared.piece.Class.TheVariants.{UnterminatedString};
+ghost use Rattle.dart_scan.specs.Characters.{is_within_line};
+ghost use Rattle.dart_scan.specs.Lexemes.{begins, word_size, integer_size, double_size, mark_size};
+ghost use Rattle.dart_scan.specs.Comments.{IsComment, comment_size};
+ghost use Rattle.dart_scan.specs.Strings.{string_form, within_reach};
+ghost use Rattle.dart_scan.specs.Pieces.{lexeme_at, next_at, within_steps, pieces};
+ghost use Rattle.dart_scan.specs.WholeStrings.{IsWhole};
+
+/// The pieces of a text cover it, one after another without overlap, and none is empty.
+pub fn pieces_cover_a_text(_text: &[u8])
+    ensures cover { flat_map (λ piece. piece.1) (pieces _text.now) ≡ _text.now }
+    ensures some { All (λ piece. 0 < length piece.1) (pieces _text.now) }
+{}
+
+/// A lexeme is the longest at its place: no word, integer, double or mark that the text begins with
+/// is longer. Of the marks of punctuation that it begins with, the longest is taken.
+pub fn a_lexeme_is_the_longest(_text: &[u8])
+    ensures word { word_size _text.now ≤ (lexeme_at _text.now).size }
+    ensures integer { integer_size _text.now ≤ (lexeme_at _text.now).size }
+    ensures double { double_size _text.now ≤ (lexeme_at _text.now).size }
+    ensures mark { mark_size _text.now ≤ (lexeme_at _text.now).size }
+    ensures marks { All (λ mark. IsTrue (begins _text.now mark.0) → length mark.0 ≤ mark_size _text.now) marks }
+{}
+
+/// Where a text begins with a string, this one is whole, or it is one piece, as far as it may reach. A
+/// whole one has the pieces that the grammar of strings says, from its opening to its quotes.
+pub fn a_string_is_whole_or_one_piece(_text: &[u8])
+    ensures { ForSome (string_form _text.now) (λ form.
+        IsWhole form (next_at (within_steps (length _text.now)) false _text.now).pieces
+        ⊎ ((next_at (within_steps (length _text.now)) false _text.now).pieces ≡ (UnterminatedString, within_reach form _text.now) ∷ [])) }
+{}
+
+/// A string of one quote, whether it ends or not, holds no line feed and no carriage return, in its
+/// interpolations neither.
+pub fn a_string_of_one_quote_stands_in_a_line(_text: &[u8])
+    ensures { ForSome (string_form _text.now) (λ form. length form.quotes ≡ 1
+        → All (λ byte. IsTrue (is_within_line byte)) (flat_map (λ piece. piece.1) (next_at (within_steps (length _text.now)) false _text.now).pieces)) }
+{}
+
+/// How far a comment goes is as the grammar of comments says. Where it ends after some bytes, from its
+/// `/*` on, these are a comment; and a text that begins with a comment has this one there, none that
+/// is shorter or longer.
+pub fn a_comment_is_as_its_grammar_says(_text: &[u8], _comment: &[u8])
+    ensures sound { IfSome (comment_size _text.now) (λ size. IsComment (take size (codes "/*" ++ _text.now))) }
+    ensures complete { IsComment _comment.now → comment_size (drop 2 (_comment.now ++ _text.now)) ≡ Some (length _comment.now) }
+{}

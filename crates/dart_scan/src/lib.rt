@@ -1,0 +1,21 @@
+//! The scanner: from the text of a file to its tokens.
+//!
+//! `pieces` in `specs/Pieces.antt` cuts a text into gaps and lexemes, `specs/Scanned.antt` makes
+//! tokens, words and faults of them, and `scan` gives exactly those; `string_value` in
+//! `specs/Values.antt` states what a string stands for. No state of a scanner occurs in any of it;
+//! what is still to come of a text at each step of the cut is in `specs/Suspended.antt`, for its proof.
+//! The crate stands on the texts of `dart_text` and the tokens of `dart_tokens`.
+#![tactic(auto)]
+
+mod cut;
+mod laws;
+mod piece;
+mod scanner;
+mod value;
+
+pub use laws::{
+    a_comment_is_as_its_grammar_says, a_lexeme_is_the_longest, a_string_is_whole_or_one_piece,
+    a_string_of_one_quote_stands_in_a_line, pieces_cover_a_text,
+};
+pub use scanner::scan;
+pub use value::string_value;
