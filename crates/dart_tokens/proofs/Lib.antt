@@ -1,0 +1,7 @@
+mod Examples
+pub mod OpenLemmas
+pub mod ClosingLemmas
+pub mod AroundLemmas
+pub mod PartnerLemmas
+pub mod FaultLemmas
+pub mod LawLemmas

@@ -1,5 +1,6 @@
 -- The marks of punctuation.
-use Rattle.std.specs.Prelude.{ℕ, List, [], ◌∷◌, codes}
+use Rattle.std.specs.Prelude.{ℕ, List, [], ◌∷◌, length, codes, nat_eq, if◌then◌else◌, Option, None, Some}
+use Rattle.std.specs.List.{starts_with}
 use Rattle.dart_tokens.specs.declared.token.Kind.{Kind}
 use Rattle.dart_tokens.specs.declared.token.Kind.TheVariants as kind
 
@@ -19,3 +20,12 @@ marks =
     (codes ">", kind.Greater) ∷ (codes "+", kind.Plus) ∷ (codes "-", kind.Minus) ∷ (codes "*", kind.Star) ∷ (codes "/", kind.Slash) ∷
     (codes "~", kind.Tilde) ∷ (codes "%", kind.Percent) ∷ (codes "&", kind.Ampersand) ∷ (codes "|", kind.Bar) ∷ (codes "^", kind.Caret) ∷
     (codes "@", kind.At) ∷ (codes "#", kind.Hash) ∷ []
+
+-- the kind and the length of the first of these marks that a text begins with
+abbrev pub first_among : List (List ℕ × Kind) → List ℕ → Option (Kind × ℕ)
+first_among [] text = None
+first_among (mark ∷ more) text = if starts_with nat_eq text mark.0 then Some (mark.1, length mark.0) else first_among more text
+
+-- the kind and the length of the mark that a text begins with
+abbrev pub first_mark : List ℕ → Option (Kind × ℕ)
+first_mark text = first_among marks text

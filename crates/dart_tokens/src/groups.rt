@@ -3,6 +3,8 @@
 ghost use Rattle.std.specs.Prelude.{◌≡◌, ◌<◌, ◌^◌, IfOk, length};
 ghost use Rattle.dart_tokens.specs.Groups.{partners_of, faults_of};
 
+use crate::faults::faults;
+use crate::pairing::partners;
 use crate::token::Token;
 use std::alloc::{AllocError, Global};
 use std::marker::Model;
@@ -101,5 +103,10 @@ pub fn group(alloc: Global, tokens: &[Token]) -> Result<Groups, AllocError>
     ensures partner { IfOk result (λ groups. groups.partner ≡ partners_of tokens.now) }
     ensures faults { IfOk result (λ groups. groups.faults ≡ faults_of tokens.now) }
 {
-    Err(AllocError)
+    let partner = partners(alloc, tokens)?;
+    let faults = faults(alloc, tokens, &partner)?;
+    Ok(Groups {
+        partner: Partners::from_vec(partner),
+        faults: GroupFaults::from_vec(faults),
+    })
 }

@@ -6,10 +6,24 @@
 //! parser reads; it stands on `plain_text`, and knows no text.
 #![tactic(auto)]
 
+mod bracket;
+mod faults;
 mod groups;
+mod laws;
+mod mark;
+mod open_groups;
+mod pairing;
 mod scanned;
+#[cfg(test)]
+mod tests;
 mod token;
+mod word;
 
 pub use groups::{GroupFault, GroupFaultKind, GroupFaults, Groups, Partners, group};
+pub use laws::{
+    an_interpolation_is_a_border, groups_nest, partners_are_mutual, the_nearest_group_is_closed,
+};
+pub use mark::mark_at;
 pub use scanned::{LexFault, LexFaultKind, LexFaults, Scanned, Tokens, Words};
 pub use token::{Kind, Token};
+pub use word::{is_reserved, kind_of_word};
