@@ -1,1 +1,11 @@
 pub mod Examples
+pub mod ValueExamples
+pub mod EscapeLemmas
+pub mod UnitLemmas
+pub mod BlankLemmas
+pub mod Utf8Lemmas
+pub mod PieceTexts
+pub mod StringTexts
+pub mod ScanLemmas
+pub mod WordLemmas
+pub mod KindValues

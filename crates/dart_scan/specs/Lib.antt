@@ -6,3 +6,6 @@ pub mod Pieces
 pub mod Values
 pub mod Faults
 pub mod Scanned
+pub mod Openings
+pub mod Decoding
+pub mod Escapes

@@ -3,6 +3,8 @@
 ghost use Rattle.std.specs.Prelude.{◌≡◌, ◌<◌, IfOk, All, sum_by, length};
 ghost use Rattle.dart_scan.specs.Pieces.{pieces, spelled};
 
+pub mod form;
+
 use crate::piece::Piece;
 use std::alloc::{AllocError, Global};
 

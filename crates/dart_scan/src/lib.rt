@@ -7,9 +7,13 @@
 #![tactic(auto)]
 
 mod cut;
+mod escape;
+mod fault;
 mod piece;
 mod scanner;
+mod units;
 mod value;
+mod words;
 
 pub use scanner::scan;
 pub use value::string_value;
