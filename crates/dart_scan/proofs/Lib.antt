@@ -9,3 +9,4 @@ pub mod StringTexts
 pub mod ScanLemmas
 pub mod WordLemmas
 pub mod KindValues
+pub mod KindLemmas

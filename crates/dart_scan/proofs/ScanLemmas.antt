@@ -9,10 +9,10 @@ use Rattle.dart_tokens.specs.declared.token.Token.{Token}
 use Rattle.dart_tokens.specs.declared.scanned.LexFault.{LexFault}
 use Rattle.plain_text.specs.Units.{units_in}
 use Rattle.dart_scan.specs.declared.piece.Piece.{Piece}
-use Rattle.dart_scan.specs.Pieces.{Spelled, spelled}
+use Rattle.dart_scan.specs.Pieces.{Spelled, spelled, pieces as pieces_of}
 use Rattle.dart_scan.specs.Faults.{faults_of_piece}
-use Rattle.dart_scan.specs.Scanned.{Lexeme, is_gap, lexemes_from, with_word, words_behind, token_of, tokens_behind, faults_from}
-use Rattle.dart_scan.proofs.StringTexts.{AreTexts}
+use Rattle.dart_scan.specs.Scanned.{Lexeme, is_gap, lexemes_from, with_word, words_behind, token_of, tokens_behind, faults_from, tokens_of, words_of, faults_of}
+use Rattle.dart_scan.proofs.StringTexts.{AreTexts, pieces-texts}
 
 -- the pieces from a place on, spelled
 abbrev pub ahead : List Piece → (at : ℕ) → List ℕ → List Spelled
@@ -112,6 +112,34 @@ texts-next pieces at piece rest within here h =
 pub size-next : (pieces : List Piece) (at : ℕ) (piece : Piece) → at < length pieces → piece ≡ get_or pieces at piece → sum_by (λ p. p.size) (drop at pieces) ≡ piece.size + sum_by (λ p. p.size) (drop (at + 1) pieces)
 size-next pieces at piece within here =
     sum_by-drop_more (λ p. p.size) pieces at piece within ∙ ap (λ p. p.size + sum_by (λ q. q.size) (drop (at + 1) pieces)) (sym here)
+
+-- the next piece ends where a character ends
+pub next_boundary : (pieces : List Piece) (at : ℕ) (piece : Piece) (rest : List ℕ) → at < length pieces → piece ≡ get_or pieces at piece → sum_by (λ p. p.size) (drop at pieces) ≡ length rest → IsUtf8 rest → AreTexts (ahead pieces at rest)
+    → IsCharBoundary rest piece.size
+next_boundary pieces at piece rest within here cover utf8 texts =
+    IsCharBoundary-from_take rest piece.size utf8 (omega (arith, size-next pieces at piece within here, cover)) (texts-next pieces at piece rest within here texts).0
+
+-- all pieces are ahead at the start
+pub ahead-begin : (pieces all : List Piece) (text lent bytes : List ℕ) → pieces ≡ all → lent ≡ text → bytes ≡ lent → spelled all bytes ≡ pieces_of bytes → ahead pieces 0 lent ≡ pieces_of text
+ahead-begin pieces all text lent bytes same whole copy e =
+    ap (λ ps. spelled ps lent) same ∙ ap (spelled all) (sym copy) ∙ e ∙ ap pieces_of (copy ∙ whole)
+
+pub tokens-begin : (pieces : List Piece) (text lent : List ℕ) (done : List Token) (words : List (List ℕ)) → ahead pieces 0 lent ≡ pieces_of text → done ≡ [] → words ≡ [] → tokens_of text ≡ done ++ tokens_behind words (lexemes_ahead pieces 0 0 lent)
+tokens-begin pieces text lent done words all no_tokens no_words =
+    ap (λ ps. tokens_behind [] (lexemes_from 0 ps)) (sym all) ∙ ap (λ ws. tokens_behind ws (lexemes_ahead pieces 0 0 lent)) (sym no_words)
+    ∙ ap (λ ts. ts ++ tokens_behind words (lexemes_ahead pieces 0 0 lent)) (sym no_tokens)
+
+pub words-begin : (pieces : List Piece) (text lent : List ℕ) (words : List (List ℕ)) → ahead pieces 0 lent ≡ pieces_of text → words ≡ [] → words_of text ≡ words_behind words (lexemes_ahead pieces 0 0 lent)
+words-begin pieces text lent words all no_words =
+    ap (λ ps. words_behind [] (lexemes_from 0 ps)) (sym all) ∙ ap (λ ws. words_behind ws (lexemes_ahead pieces 0 0 lent)) (sym no_words)
+
+pub faults-begin : (pieces : List Piece) (text lent : List ℕ) (done : List LexFault) → ahead pieces 0 lent ≡ pieces_of text → done ≡ [] → faults_of text ≡ done ++ faults_ahead pieces 0 0 lent
+faults-begin pieces text lent done all no_faults =
+    ap (faults_from 0) (sym all) ∙ ap (λ fs. fs ++ faults_ahead pieces 0 0 lent) (sym no_faults)
+
+pub texts-begin : (pieces : List Piece) (text lent : List ℕ) → ahead pieces 0 lent ≡ pieces_of text → lent ≡ text → IsUtf8 lent → AreTexts (ahead pieces 0 lent)
+texts-begin pieces text lent all same utf8 =
+    let P : List ℕ → Type 0 = IsUtf8 in subst AreTexts (sym all) (pieces-texts text (subst P same utf8))
 
 -- nothing is ahead at the end
 ahead-end : (pieces : List Piece) (at : ℕ) (rest : List ℕ) → length pieces ≤ at → ahead pieces at rest ≡ []

@@ -9,6 +9,7 @@
 mod cut;
 mod escape;
 mod fault;
+mod kind;
 mod piece;
 mod scanner;
 mod units;
@@ -17,3 +18,6 @@ mod words;
 
 pub use scanner::scan;
 pub use value::string_value;
+
+#[cfg(test)]
+mod tests;
