@@ -1,18 +1,17 @@
 -- The first piece of a text in UTF-8 is a text, and so is the rest.
-use Rattle.std.proofs.Common.{◌≡◌, ℕ, zero, suc, ◌+◌, ◌-◌, ◌<◌, ◌≤◌, ◌==◌, Bool, true, false, not, cond, ◌&&◌, ◌||◌, List, [], ◌∷◌, ◌++◌, length, take, drop, get_or, max, nat_lt, codes, Option, Some, None, option_map, if◌then◌else◌, refl, sym, ap, ◌∙◌, subst, arith, inl, inr, length-drop}
+use Rattle.std.proofs.Common.{◌≡◌, ℕ, zero, suc, ◌+◌, ◌-◌, ◌<◌, ◌≤◌, ◌==◌, Bool, true, false, ◌&&◌, ◌||◌, List, [], ◌∷◌, length, take, drop, get_or, max, nat_lt, codes, Option, Some, None, option_map, if◌then◌else◌, refl, sym, ap, ◌∙◌, subst, arith, inl, inr, length-drop}
 use lib.Utf8.{encode}
 use Rattle.std.specs.List.{list_all}
 use Rattle.std.specs.Option.{option_map_or}
 use Rattle.std.specs.Str.{IsUtf8}
-use Rattle.std.proofs.lemmas.Bool.{false≢true, cond_both, and_parts, or_cases, or_parts, cases_lt, eqb-true, ltb-true, ltb-false, leb-false, not-false}
-use Rattle.std.proofs.lemmas.List.{drop-drop, get_or-drop}
+use Rattle.std.proofs.lemmas.Bool.{false≢true, cond_both, and_parts, or_cases, cases_lt, eqb-true, ltb-true, leb-false}
+use Rattle.std.proofs.lemmas.List.{get_or-drop}
 use Rattle.std.proofs.lemmas.Str.{IsUtf8-drop, IsCharBoundary-after_ascii, IsCharBoundary-from_take}
-use Rattle.std.proofs.Math.Nat.{max-eq_left, max-eq_right}
 use Rattle.dart_tokens.specs.declared.token.Kind.{Kind}
 use Rattle.dart_tokens.specs.Marks.{marks}
 use Rattle.dart_scan.specs.Characters.{is_digit, is_hexadecimal_digit, is_identifier_start, is_identifier_part, is_blank, is_within_line, is_beyond_ascii}
 use Rattle.dart_scan.specs.Lexemes.{begins, run, word_size, before_digits, hexadecimal_size, integer_size, fraction_size, sign_size, exponent_size, double_size, first_size, mark_size}
-use Rattle.dart_scan.specs.Comments.{comment_end, comment_size}
+use Rattle.dart_scan.specs.Comments.{comment_end}
 use Rattle.dart_scan.specs.Pieces.{comment_piece, longer, lexeme_at, piece_at}
 use Rattle.dart_scan.specs.declared.piece.Class.TheVariants.{Gap, UnterminatedComment, IllegalCharacter, BeyondAscii, Word, Integer, Double, Mark}
 use Rattle.dart_scan.specs.declared.piece.Piece.{Piece}

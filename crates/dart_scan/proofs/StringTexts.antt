@@ -1,16 +1,16 @@
 -- Every piece of a text in UTF-8 is a text.
-use Rattle.std.proofs.Common.{◌≡◌, ℕ, zero, suc, ◌+◌, ◌-◌, ◌<◌, ◌≤◌, ◌==◌, Bool, true, false, not, cond, ◌&&◌, ◌||◌, List, [], ◌∷◌, ◌++◌, length, take, drop, take_while, get_or, min, nat_lt, codes, Option, Some, None, option_map, option_and_then, if◌then◌else◌, refl, sym, ap, ◌∙◌, subst, arith, inl, inr, length-drop}
+use Rattle.std.proofs.Common.{◌≡◌, ℕ, zero, suc, ◌+◌, ◌-◌, ◌<◌, ◌==◌, Bool, true, false, ◌&&◌, List, [], ◌∷◌, ◌++◌, length, take, drop, take_while, get_or, min, nat_lt, codes, Option, Some, None, option_map, option_and_then, if◌then◌else◌, refl, sym, subst, arith, inl, inr, length-drop}
 use Rattle.std.specs.List.{list_all}
 use Rattle.std.specs.Option.{option_map_or}
 use Rattle.std.specs.Str.{IsUtf8, IsCharBoundary}
 use Rattle.std.proofs.lemmas.Bool.{cond_both, and_parts, or_cases, cases_lt, eqb-true, ltb-true}
 use Rattle.std.proofs.lemmas.List.{get_or-take, get_or-drop, length-take}
 use Rattle.std.proofs.lemmas.Str.{IsUtf8-nil, IsUtf8-append, IsUtf8-drop, IsUtf8-from_ascii, IsCharBoundary-from_drop}
-use Rattle.dart_scan.specs.Characters.{is_within_line, is_identifier_start, is_identifier_part}
+use Rattle.dart_scan.specs.Characters.{is_within_line}
 use Rattle.dart_scan.specs.Lexemes.{begins, run}
-use Rattle.dart_scan.specs.Strings.{Form, opening_of, forms, first_form, string_form, within_reach, is_name_start, is_name_part, name_size, begins_name, begins_interpolation, ends_piece, begins_escape, plain_size}
+use Rattle.dart_scan.specs.Strings.{Form, opening_of, forms, first_form, string_form, within_reach, is_name_start, is_name_part, name_size, begins_name, ends_piece, begins_escape, plain_size}
 use Rattle.dart_scan.specs.Pieces.{Spelled, Read, behind, read_piece, piece_at, Fewer, string_at, next_at, part_before, name_row, expression_row, after_plain, parts_row, braces_behind, expression_pieces, within_steps, pieces_within, pieces}
-use Rattle.dart_scan.specs.declared.piece.Class.TheVariants.{Word, StringPart, StringOpening, InterpolationMark, InterpolationOpening, UnterminatedString}
+use Rattle.dart_scan.specs.declared.piece.Class.TheVariants.{Word, InterpolationMark, InterpolationOpening, UnterminatedString}
 use Rattle.dart_scan.proofs.Utf8Lemmas.{IsTextFrom, past_end, front_text, before_ascii, behind_both, IsAsciiClass, all_ascii, begins-text, take_run, starts_are_ascii, parts_are_ascii}
 use Rattle.dart_scan.proofs.PieceTexts.{named-text, line-text, piece-text}
 

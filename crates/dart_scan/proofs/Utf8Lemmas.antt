@@ -1,8 +1,8 @@
 -- Where a text in UTF-8 may be cut, so that both parts are texts.
-use Rattle.std.proofs.Common.{◌≡◌, ℕ, zero, suc, ◌+◌, ◌<◌, ◌≤◌, ◌==◌, Bool, true, false, cond, ◌&&◌, ◌||◌, List, [], ◌∷◌, length, take, drop, get_or, take_while, max, nat_lt, nat_le, codes, refl, sym, ap, ◌∙◌, subst, arith, inl, inr, lit<}
+use Rattle.std.proofs.Common.{◌≡◌, ℕ, ◌+◌, ◌<◌, ◌≤◌, ◌==◌, Bool, true, false, cond, ◌&&◌, ◌||◌, List, [], ◌∷◌, length, take, drop, get_or, take_while, nat_lt, nat_le, refl, sym, ap, subst, arith, inl, inr, lit<}
 use Rattle.std.specs.List.{list_all}
-use Rattle.std.specs.Str.{IsUtf8, IsCharBoundary, IsAscii}
-use Rattle.std.proofs.lemmas.Bool.{false≢true, cond_both, and_parts, or_cases, cases_lt, cases_cond, leb-true, eqb-true, ltb-true, not-false}
+use Rattle.std.specs.Str.{IsUtf8, IsCharBoundary}
+use Rattle.std.proofs.lemmas.Bool.{false≢true, cond_both, and_parts, or_cases, cases_lt, leb-true, eqb-true, ltb-true, not-false}
 use Rattle.std.proofs.lemmas.List.{drop-drop, drop_all, take_all}
 use Rattle.std.proofs.lemmas.List.Folds.{length-prefix_len}
 use Rattle.std.proofs.lemmas.List.Sums.{take_while-cons}

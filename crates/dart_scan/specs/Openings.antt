@@ -1,5 +1,5 @@
 -- Open strings, as the scanner keeps them.
-use Rattle.std.specs.Prelude.{ℕ, List, [], ◌∷◌, if◌then◌else◌}
+use Rattle.std.specs.Prelude.{ℕ, List, ◌∷◌, if◌then◌else◌}
 use Rattle.dart_scan.specs.declared.cut.form.StringForm.{StringForm}
 use Rattle.dart_scan.specs.Strings.{Form, begins_escape}
 

@@ -1,6 +1,6 @@
 //! Escapes of strings.
 
-ghost use Rattle.std.specs.Prelude.{◌≡◌, ◌+◌, ◌^◌, ◌<◌, ◌≤◌, ◌&&◌, ◌++◌, ℕ, [], codes, drop, IsTrue, if◌then◌else◌, All, IfOk, OnOk, IfSome, length, map, option_map, nat_le, take, take_while, unwrap_or};
+ghost use Rattle.std.specs.Prelude.{◌≡◌, ◌+◌, ◌^◌, ◌<◌, ◌≤◌, ◌&&◌, ◌++◌, [], codes, drop, IsTrue, if◌then◌else◌, All, IfOk, OnOk, IfSome, length, map, option_map, nat_le, take, take_while, unwrap_or};
 ghost use Rattle.std.specs.Char.Escape.{encode_utf16};
 ghost use Rattle.dart_scan.specs.Characters.{is_hexadecimal_digit};
 ghost use Rattle.dart_scan.specs.Lexemes.{begins, run};
@@ -11,8 +11,8 @@ use crate::units::push_code;
 use dart_tokens::{LexFault, LexFaultKind};
 use std::alloc::{AllocError, Global};
 
-/// `\`
-const BACKSLASH: u16 = 92;
+/// `\` as a code unit.
+pub const BACKSLASH: u16 = 92;
 
 /// An escape behind its backslash: the code point or the code unit that it stands for, none if it is
 /// bad, and how many code units it takes.

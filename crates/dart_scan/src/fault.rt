@@ -103,16 +103,16 @@ pub fn push_faults(
             push_over(faults, LexFaultKind::ProfileIdentifier, start, end, bytes)
         }
         Class::StringLiteral => push_literal_faults(alloc, faults, start, bytes),
-        Class::StringOpening => push_escape_faults(alloc, faults, start, bytes),
-        Class::StringPart => push_escape_faults(alloc, faults, start, bytes),
-        Class::StringClosing => push_escape_faults(alloc, faults, start, bytes),
-        Class::Gap => Ok(()),
-        Class::Word => Ok(()),
-        Class::Integer => Ok(()),
-        Class::Double => Ok(()),
-        Class::Mark => Ok(()),
-        Class::InterpolationMark => Ok(()),
-        Class::InterpolationOpening => Ok(()),
-        Class::InterpolationClosing => Ok(()),
+        Class::StringOpening | Class::StringPart | Class::StringClosing => {
+            push_escape_faults(alloc, faults, start, bytes)
+        }
+        Class::Gap
+        | Class::Word
+        | Class::Integer
+        | Class::Double
+        | Class::Mark
+        | Class::InterpolationMark
+        | Class::InterpolationOpening
+        | Class::InterpolationClosing => Ok(()),
     }
 }

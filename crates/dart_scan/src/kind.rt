@@ -60,9 +60,7 @@ pub fn kind_of(class: Class, lexeme: &[u8]) -> Kind
         Class::InterpolationMark => Kind::InterpolationMark,
         Class::InterpolationOpening => Kind::InterpolationOpening,
         Class::InterpolationClosing => Kind::InterpolationClosing,
-        Class::Gap => Kind::Identifier,
-        Class::UnterminatedComment => Kind::Identifier,
-        Class::IllegalCharacter => Kind::Identifier,
-        Class::BeyondAscii => Kind::Identifier,
+        Class::Gap | Class::UnterminatedComment | Class::IllegalCharacter | Class::BeyondAscii =>
+            Kind::Identifier,
     }
 }

@@ -105,7 +105,7 @@ pub fn units_of(alloc: Global, bytes: &[u8]) -> Result<Vec<u16>, AllocError>
     ensures units { IfOk result (λ units. units.items ≡ units_of bytes.now) }
     ensures few { IfOk result (λ units. length units.items ≤ 2 * length bytes.now) }
 {
-    let mut units = Vec::new(alloc);
+    let mut units = Vec::with_capacity(alloc, bytes.len())?;
     let mut begun = Begun { code: 0, more: 0 };
     for byte in bytes {
         begun = begun.after(*byte);

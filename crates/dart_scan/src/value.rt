@@ -9,12 +9,11 @@ ghost use Rattle.dart_scan.specs.Values.{is_space, is_newline, first_is, without
 ghost use Rattle.dart_text.specs.Units.{units_of};
 
 use crate::cut::form::{StringForm, string_form};
-use crate::escape::unescaped;
+use crate::escape::{BACKSLASH, unescaped};
 use crate::units::units_of;
 use dart_tokens::Kind;
 use std::alloc::{AllocError, Global};
 
-/// Tab, line feed, carriage return, space and `\`, as code units.
 const TAB: u16 = 9;
 
 const LINE_FEED: u16 = 10;
@@ -22,8 +21,6 @@ const LINE_FEED: u16 = 10;
 const CARRIAGE_RETURN: u16 = 13;
 
 const SPACE: u16 = 32;
-
-const BACKSLASH: u16 = 92;
 
 fn is_space(unit: u16) -> bool
     ensures { result ≡ is_space unit }

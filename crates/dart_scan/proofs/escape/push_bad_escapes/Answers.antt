@@ -1,4 +1,4 @@
-use Rattle.std.proofs.Common.{◌+◌, refl, arith}
+use Rattle.std.proofs.Common.{◌+◌, arith}
 use Rattle.std.proofs.lemmas.Bool.{ne_eqb}
 use Rattle.dart_scan.proofs.EscapeLemmas.{AtEscape, faults-at_escape, faults-at_plain, faults-end}
 use Rattle.dart_scan.proofs.escape.push_bad_escapes.Goals as goal

@@ -1,5 +1,4 @@
-use Rattle.std.proofs.Common.{refl, sym, ap, ◌∙◌, arith, ◌++◌}
-use Rattle.std.specs.Str.{chars}
+use Rattle.std.proofs.Common.{sym, ap, arith, ◌++◌}
 use Rattle.std.proofs.lemmas.List.{drop_all}
 use Rattle.dart_text.specs.Units.{units_of}
 use Rattle.dart_scan.proofs.UnitLemmas.{units_pending, units-turn, units-end}
@@ -10,8 +9,8 @@ unfolding units_of
 loop-byte-init c = record {
   more = omega arith;
   bits = omega arith;
-  few = omega (arith, c.new-units.ensures.len);
-  units = ap (λ done. done ++ units_pending (record { code = 0; more = 0 }) c.args.bytes.now) (sym c.new-units.ensures.items);
+  few = omega (arith, c.in_ok-units.ensures.len);
+  units = ap (λ done. done ++ units_pending (record { code = 0; more = 0 }) c.args.bytes.now) (sym c.in_ok-units.ensures.items);
 }
 
 pub loop-byte-preserved : goal.loop-byte-preserved
