@@ -13,3 +13,14 @@ pub mod GrowthLemmas
 pub mod CuttingLemmas
 pub mod LawLemmas
 pub mod StringLaws
+pub mod ValueExamples
+pub mod EscapeLemmas
+pub mod UnitLemmas
+pub mod BlankLemmas
+pub mod Utf8Lemmas
+pub mod PieceTexts
+pub mod StringTexts
+pub mod ScanLemmas
+pub mod WordLemmas
+pub mod KindValues
+pub mod KindLemmas

@@ -6,7 +6,7 @@ ghost use Rattle.dart_scan.specs.Pieces.{pieces, spelled};
 mod comment;
 mod cutting;
 mod ending;
-mod form;
+pub mod form;
 mod lexeme;
 mod line;
 mod mark;

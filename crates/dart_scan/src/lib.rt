@@ -9,9 +9,14 @@
 
 mod cut;
 mod laws;
+mod escape;
+mod fault;
+mod kind;
 mod piece;
 mod scanner;
+mod units;
 mod value;
+mod words;
 
 pub use laws::{
     a_comment_is_as_its_grammar_says, a_lexeme_is_the_longest, a_string_is_whole_or_one_piece,
@@ -19,3 +24,6 @@ pub use laws::{
 };
 pub use scanner::scan;
 pub use value::string_value;
+
+#[cfg(test)]
+mod tests;
