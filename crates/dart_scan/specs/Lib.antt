@@ -11,6 +11,5 @@ pub mod WholeStrings
 pub mod Values
 pub mod Faults
 pub mod Scanned
-pub mod Openings
 pub mod Decoding
 pub mod Escapes

@@ -8,10 +8,10 @@
 #![tactic(auto)]
 
 mod cut;
-mod laws;
 mod escape;
 mod fault;
 mod kind;
+mod laws;
 mod piece;
 mod scanner;
 mod units;
