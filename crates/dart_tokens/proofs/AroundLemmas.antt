@@ -1,15 +1,14 @@
 -- The groups that are open before each token, and what the definitions say there.
-use Rattle.std.proofs.Common.{◌≡◌, ℕ, zero, suc, ◌+◌, ◌<◌, ◌≤◌, ◌==◌, Bool, true, false, List, [], ◌∷◌, Option, Some, None, if◌then◌else◌, is_some, length, drop, get_or, slice_get, refl, sym, ap, ◌∙◌, arith, add-one, add-zero, get_or-drop}
+use Rattle.std.proofs.Common.{◌≡◌, ℕ, zero, suc, ◌+◌, ◌<◌, ◌≤◌, true, List, [], ◌∷◌, Option, Some, None, is_some, length, drop, get_or, slice_get, refl, sym, ap, ◌∙◌, arith, add-one, add-zero, get_or-drop}
 use Rattle.std.proofs.lemmas.List.{drop_more, drop-drop}
 use Rattle.std.proofs.lemmas.Option.{slice_get_cases, slice_get_within, get_or_from_slice_get}
 use Rattle.std.proofs.lemmas.Bool.{cases_eq}
 use Rattle.std.proofs.Math.Logic.{⊎_elim}
 use Rattle.std.specs.Option.{option_map_or}
-use Rattle.dart_tokens.specs.declared.token.Kind.{Kind}
 use Rattle.dart_tokens.specs.declared.token.Token.{Token}
-use Rattle.dart_tokens.specs.Groups.{Open, GroupEnd, is_open, opens, closes, after_token, group_end, partners_from, partners_of, partner_of}
+use Rattle.dart_tokens.specs.Groups.{Open, GroupEnd, is_open, opens, after_token, group_end, partners_from, partners_of, partner_of}
 use Rattle.dart_tokens.specs.Stack.{BeganBefore}
-use Rattle.dart_tokens.proofs.OpenLemmas.{BeganBefore-token, BeganBefore-later, open_before, open-token, open_itself, none_open}
+use Rattle.dart_tokens.proofs.OpenLemmas.{BeganBefore-token, BeganBefore-later, open_before, open-token, open_itself}
 
 -- the groups that are open before the token at a place
 abbrev pub around_before : (place : ℕ) → List Token → List Open

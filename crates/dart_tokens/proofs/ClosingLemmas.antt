@@ -1,12 +1,12 @@
 -- What becomes of the partners when groups end.
-use Rattle.std.proofs.Common.{◌≡◌, ℕ, ◌<◌, ◌≤◌, ◌==◌, Bool, true, false, ◌||◌, ◌&&◌, not, List, [], ◌∷◌, Option, Some, None, if◌then◌else◌, is_some, length, set, get_or, refl, subst, ap, sym, ◌∙◌, arith, length-set, get_or-set_same, get_or-set_other}
-use Rattle.std.proofs.lemmas.Bool.{cases_eq, eqb-true, eq-eqb, ne_eqb}
+use Rattle.std.proofs.Common.{◌≡◌, ℕ, ◌==◌, Bool, true, false, ◌&&◌, not, List, [], ◌∷◌, Option, Some, None, if◌then◌else◌, length, set, get_or, refl, subst, sym, ◌∙◌, arith, length-set, get_or-set_same, get_or-set_other}
+use Rattle.std.proofs.lemmas.Bool.{cases_eq, eq-eqb, ne_eqb}
 use Rattle.std.proofs.Math.Logic.{⊎_elim}
 use denote.Enum.Bare.{sameb}
 use Rattle.dart_tokens.specs.contracts.bracket.Bracket.{the_type}
 use Rattle.dart_tokens.specs.declared.bracket.Bracket.{Bracket as BracketWord}
 use Rattle.dart_tokens.specs.declared.bracket.Bracket.TheVariants as word
-use Rattle.dart_tokens.specs.Groups.{Bracket, Interpolation, Open, is_same, is_open, nearest, behind_closed}
+use Rattle.dart_tokens.specs.Groups.{Bracket, Interpolation, Open, is_same, is_open, behind_closed}
 use Rattle.dart_tokens.specs.Stack.{BeganBefore, bracket_of}
 use Rattle.dart_tokens.specs.Pairing.{EndsAt, is_ended}
 use Rattle.dart_tokens.proofs.OpenLemmas.{none_open, BeganBefore-later, BeganBefore-closed}

@@ -1,5 +1,5 @@
 -- Groups of small lists of tokens.
-use Rattle.std.proofs.Common.{◌≡◌, ℕ, List, [], ◌∷◌, Some, None, refl}
+use Rattle.std.proofs.Common.{◌≡◌, List, [], ◌∷◌, Some, None, refl}
 use Rattle.dart_tokens.specs.declared.token.Token.{Token}
 use Rattle.dart_tokens.specs.declared.token.Kind.{Kind}
 use Rattle.dart_tokens.specs.declared.token.Kind.TheVariants.{Identifier, OpenParenthesis, CloseParenthesis, OpenBracket, QuestionBracket, CloseBracket, OpenBrace, CloseBrace, InterpolationOpening, InterpolationClosing}

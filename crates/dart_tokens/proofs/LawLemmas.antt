@@ -1,13 +1,12 @@
 -- Laws of groups.
-use Rattle.std.proofs.Common.{◌≡◌, ℕ, zero, suc, ◌+◌, ◌<◌, ◌≤◌, ◌==◌, ◌⊎◌, inl, inr, Bool, true, false, List, [], ◌∷◌, Option, Some, None, if◌then◌else◌, is_some, option_and_then, unwrap_or, IfSome, IsSomeAnd, length, drop, get_or, slice_get, refl, sym, subst, ap, ◌∙◌, arith, add-one, length-drop}
+use Rattle.std.proofs.Common.{◌≡◌, ℕ, zero, suc, ◌+◌, ◌<◌, ◌≤◌, ◌==◌, ◌⊎◌, inl, inr, Bool, true, false, List, [], ◌∷◌, Option, Some, None, if◌then◌else◌, is_some, option_and_then, unwrap_or, IfSome, IsSomeAnd, length, drop, slice_get, refl, sym, subst, ap, ◌∙◌, arith, add-one, length-drop}
 use Rattle.std.proofs.lemmas.Bool.{or_cases, or_right, or_left, eqb-true, eq-eqb, cases_eq, cases_Bool}
-use Rattle.std.proofs.lemmas.List.{drop_all}
 use Rattle.std.proofs.lemmas.Option.{same_Some, slice_get_within, IfSome_then}
 use Rattle.std.proofs.Math.Logic.{⊎_elim}
 use Rattle.dart_tokens.specs.declared.token.Token.{Token}
 use Rattle.dart_tokens.specs.declared.token.Kind.{Kind}
 use Rattle.dart_tokens.specs.declared.token.Kind.TheVariants.{CloseParenthesis, CloseBracket, CloseBrace, InterpolationClosing}
-use Rattle.dart_tokens.specs.Groups.{Bracket, Round, Square, Curly, Interpolation, Open, GroupEnd, is_same, is_open, opens, closes, closes_group, nearest, behind_closed, after_closing, after_opening, after_token, group_end, partners_of}
+use Rattle.dart_tokens.specs.Groups.{Bracket, Round, Square, Curly, Interpolation, Open, GroupEnd, is_same, is_open, opens, closes, closes_group, nearest, behind_closed, after_closing, after_opening, after_token, group_end}
 use Rattle.dart_tokens.specs.Stack.{BeganBefore}
 use Rattle.dart_tokens.specs.Pairs.{opens_at, closes_at, partner_at, ArePaired}
 use Rattle.dart_tokens.proofs.OpenLemmas.{after_two, unwrapped, open_before, none_open, open_itself, BeganBefore-token}
@@ -31,7 +30,7 @@ is_same-refl Curly = refl
 is_same-refl Interpolation = refl
 
 -- what closes a group opens none
-opens-closes : (kind : Kind) → is_some (closes kind) ≡ true → opens kind ≡ None
+pub opens-closes : (kind : Kind) → is_some (closes kind) ≡ true → opens kind ≡ None
 opens-closes CloseParenthesis e = refl
 opens-closes CloseBracket e = refl
 opens-closes CloseBrace e = refl
@@ -236,7 +235,7 @@ stays_around place kind first second around less began stays = opened (opens kin
     opened None e = closed (closes kind) e
     opened (Some bracket) e = or_right (place == first) (is_open first around) stays
 
-end_from : (tokens : List Token) (k place : ℕ) (around : List Open) → place ≤ (group_end k place around tokens).place
+pub end_from : (tokens : List Token) (k place : ℕ) (around : List Open) → place ≤ (group_end k place around tokens).place
 unfolding group_end
 end_from [] k place around = omega arith
 end_from (token ∷ tokens) k place around = either (is_open k (after_token place token.kind around)) (end_from tokens k (place + 1) (after_token place token.kind around))
@@ -265,14 +264,14 @@ kept_open place kind k around None e stays = absurd (cc)
 kept_open place kind k around (Some bracket) e stays = or_right (place == k) (is_open k around) stays
 
 -- a token that opens a group
-record OpensOne (tokens : List Token) (place : ℕ) : Type 0 where
-  token : Token
-  at : slice_get tokens place ≡ Some token
-  opened : is_some (opens token.kind) ≡ true
-  within : place < length tokens
-  stays : is_open place (around_before (place + 1) tokens) ≡ true
+pub record OpensOne (tokens : List Token) (place : ℕ) : Type 0 where
+  pub token : Token
+  pub at : slice_get tokens place ≡ Some token
+  pub opened : is_some (opens token.kind) ≡ true
+  pub within : place < length tokens
+  pub stays : is_open place (around_before (place + 1) tokens) ≡ true
 
-opens_one : (tokens : List Token) (place : ℕ) → is_some (opens_at tokens place) ≡ true → OpensOne tokens place
+pub opens_one : (tokens : List Token) (place : ℕ) → is_some (opens_at tokens place) ≡ true → OpensOne tokens place
 opens_one tokens place some = token_is (slice_get tokens place) refl some
   where
     token_is : (o : Option Token) → slice_get tokens place ≡ o → is_some (option_and_then (λ token. opens token.kind) o) ≡ true → OpensOne tokens place

@@ -5,3 +5,6 @@ pub mod AroundLemmas
 pub mod PartnerLemmas
 pub mod FaultLemmas
 pub mod LawLemmas
+pub mod WordLemmas
+pub mod MarkLemmas
+pub mod FaultLaws

@@ -1,12 +1,12 @@
 -- The partners of the first of some tokens become those of all.
-use Rattle.std.proofs.Common.{◌≡◌, ℕ, suc, ◌+◌, ◌<◌, ◌≤◌, Bool, true, false, not, ◌&&◌, List, [], ◌∷◌, Option, Some, None, if◌then◌else◌, is_some, length, drop, get_or, slice_get, refl, sym, ap, ◌∙◌, arith, add-one}
+use Rattle.std.proofs.Common.{◌≡◌, ℕ, suc, ◌+◌, ◌<◌, ◌≤◌, Bool, true, false, not, ◌&&◌, List, [], ◌∷◌, Option, Some, None, if◌then◌else◌, is_some, length, get_or, slice_get, refl, sym, ap, ◌∙◌, arith}
 use Rattle.std.proofs.lemmas.Bool.{cases_eq}
 use Rattle.std.proofs.lemmas.List.{ext_get_or, drop_all}
 use Rattle.std.proofs.lemmas.Option.{slice_get_within}
 use Rattle.std.proofs.Math.Logic.{⊎_elim}
 use Rattle.dart_tokens.specs.declared.token.Token.{Token}
-use Rattle.dart_tokens.specs.Groups.{Open, is_open, opens, closes, nearest, after_token, group_end, partner_of, partners_from, partners_of}
-use Rattle.dart_tokens.specs.Pairing.{Takes, is_ended, partner_so_far}
+use Rattle.dart_tokens.specs.Groups.{Open, is_open, opens, after_token, group_end, partners_from, partners_of}
+use Rattle.dart_tokens.specs.Pairing.{Takes, partner_so_far}
 use Rattle.dart_tokens.proofs.OpenLemmas.{open-token, open_itself}
 use Rattle.dart_tokens.proofs.AroundLemmas.{around_before, around_next, BeganBefore-around, drop_at_some, partner_here, partner_open}
 

@@ -4,4 +4,6 @@ pub mod Groups
 pub mod Stack
 pub mod Pairing
 pub mod Faults
+pub mod Rows
+pub mod Reserved
 pub mod Pairs

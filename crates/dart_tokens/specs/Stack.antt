@@ -1,5 +1,5 @@
 -- What the stack of open groups stands for.
-use Rattle.std.specs.Prelude.{◌≡◌, ℕ, ◌<◌, Bool, true, false, List, [], ◌∷◌, map, reverse, Option, is_some}
+use Rattle.std.specs.Prelude.{◌≡◌, ℕ, ◌<◌, Bool, true, false, List, [], ◌∷◌, map, reverse, is_some}
 use Rattle.dart_tokens.specs.declared.bracket.Bracket.{Bracket as BracketWord}
 use Rattle.dart_tokens.specs.declared.bracket.Bracket.TheVariants as word
 use Rattle.dart_tokens.specs.declared.open_groups.Open.{Open as OpenWord}

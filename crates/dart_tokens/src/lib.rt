@@ -1,9 +1,9 @@
 //! Tokens of a text, and which of its brackets belong together.
 //!
 //! `specs/Words.antt` and `specs/Marks.antt` have the words and the marks of the language and what
-//! tokens they are; `specs/Groups.antt` states the partner of each bracket and what is wrong with
-//! the groups, and `group` gives exactly that. The crate has the types that a scanner fills and a
-//! parser reads; it stands on `plain_text`, and knows no text.
+//! tokens they are, which `kind_of_word` and `mark_at` give; `specs/Groups.antt` states the partner of
+//! each bracket and what is wrong with the groups, and `group` gives exactly that. The crate has the
+//! types that a scanner fills and a parser reads; it stands on `plain_text`, and knows no text.
 #![tactic(auto)]
 
 mod bracket;
@@ -21,7 +21,9 @@ mod word;
 
 pub use groups::{GroupFault, GroupFaultKind, GroupFaults, Groups, Partners, group};
 pub use laws::{
-    an_interpolation_is_a_border, groups_nest, partners_are_mutual, the_nearest_group_is_closed,
+    an_interpolation_is_a_border, faults_are_of_brackets_without_counterparts, groups_nest,
+    partners_are_mutual, the_mark_is_the_longest, the_nearest_group_is_closed,
+    words_have_their_kinds,
 };
 pub use mark::mark_at;
 pub use scanned::{LexFault, LexFaultKind, LexFaults, Scanned, Tokens, Words};

@@ -1,4 +1,4 @@
-use Rattle.std.proofs.Common.{◌≡◌, ℕ, List, [], ◌++◌, Option, Some, None, Vec, Global, get_or, length, sym, ◌∙◌, ap, arith}
+use Rattle.std.proofs.Common.{◌≡◌, ℕ, List, ◌++◌, Option, Some, None, Vec, Global, get_or, length, sym, ◌∙◌, ap, arith}
 use Rattle.std.proofs.lemmas.List.{append-nil}
 use Rattle.std.proofs.lemmas.Option.{slice_get-get_or}
 use Rattle.std.specs.Option.{option_map, option_to_list}
@@ -8,7 +8,7 @@ use Rattle.dart_tokens.specs.declared.groups.GroupFault.{GroupFault}
 use Rattle.dart_tokens.specs.declared.groups.GroupFaultKind.{GroupFaultKind}
 use Rattle.dart_tokens.specs.Groups.{fault_at, partners_of}
 use Rattle.dart_tokens.specs.Faults.{fault_by}
-use Rattle.dart_tokens.proofs.FaultLemmas.{FaultsSoFar, FaultsSoFar-next, FaultsSoFar-end}
+use Rattle.dart_tokens.proofs.FaultLemmas.{FaultsSoFar-next, FaultsSoFar-end}
 use Rattle.dart_tokens.proofs.faults.faults.Goals as goal
 use Rattle.dart_tokens.proofs.faults.faults.Goals.{in-Some+in_ok-push, in_default}
 

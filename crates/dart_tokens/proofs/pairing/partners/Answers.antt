@@ -1,10 +1,10 @@
-use Rattle.std.proofs.Common.{◌≡◌, ℕ, ◌+◌, arith, length, vec_len, get_or, sym, ◌∙◌, ap}
+use Rattle.std.proofs.Common.{◌≡◌, ℕ, ◌+◌, arith, length, get_or, sym, ◌∙◌, ap}
 use Rattle.std.proofs.lemmas.Option.{slice_get-get_or}
 use Rattle.dart_tokens.specs.declared.token.Token.{Token}
 use Rattle.dart_tokens.specs.declared.token.Kind.TheVariants as kind
-use Rattle.dart_tokens.specs.Groups.{Open, after_token, partners_of}
-use Rattle.dart_tokens.proofs.AroundLemmas.{around_before, BeganBefore-around}
-use Rattle.dart_tokens.proofs.PartnerLemmas.{SoFar, Turn, around-turn, SoFar-turn, SoFar-end}
+use Rattle.dart_tokens.specs.Groups.{after_token}
+use Rattle.dart_tokens.proofs.AroundLemmas.{BeganBefore-around}
+use Rattle.dart_tokens.proofs.PartnerLemmas.{Turn, around-turn, SoFar-turn, SoFar-end}
 use Rattle.dart_tokens.proofs.pairing.partners.Goals as goal
 
 pub take-requires-clause-began : goal.take-requires-clause-began

@@ -1,5 +1,5 @@
-use Rattle.std.proofs.Common.{◌≡◌, ℕ, ◌<◌, false, List, ◌∷◌, Some, Option, set, refl, sym, ◌∙◌, ap, subst, arith}
-use Rattle.dart_tokens.specs.Groups.{Open, is_same, behind_closed, nearest}
+use Rattle.std.proofs.Common.{◌≡◌, ℕ, List, ◌∷◌, Some, Option, set, refl, sym, ◌∙◌, ap, subst, arith}
+use Rattle.dart_tokens.specs.Groups.{Open, behind_closed, nearest}
 use Rattle.dart_tokens.specs.Stack.{bracket_of, open_of}
 use Rattle.dart_tokens.specs.Pairing.{EndsAt}
 use Rattle.dart_tokens.proofs.OpenLemmas.{BeganBefore-later, nothing_closed, closes_further_out}
