@@ -19,6 +19,7 @@ mod tests;
 mod token;
 mod word;
 
+pub use bracket::{Bracket, closes, opens};
 pub use groups::{GroupFault, GroupFaultKind, GroupFaults, Groups, Partners, group};
 pub use laws::{
     an_interpolation_is_a_border, faults_are_of_brackets_without_counterparts, groups_nest,
@@ -26,6 +27,7 @@ pub use laws::{
     words_have_their_kinds,
 };
 pub use mark::mark_at;
+pub use open_groups::{Open, OpenGroups};
 pub use scanned::{LexFault, LexFaultKind, LexFaults, Scanned, Tokens, Words};
 pub use token::{Kind, Token};
 pub use word::{is_reserved, kind_of_word};
