@@ -1,11 +1,15 @@
--- Readings of small lists of tokens, at depths that a hand can count.
-use Rattle.std.proofs.Common.{◌≡◌, ℕ, ◌+◌, true, List, [], ◌∷◌, Some, None, refl}
+-- Readings of small lists of tokens, at depths that a hand can count; and what the grammar reads of small lists of brackets.
+use Rattle.std.proofs.Common.{◌≡◌, ℕ, ◌+◌, true, List, [], ◌∷◌, Some, None, codes, refl}
 use Rattle.dart_tree.specs.declared.nodes.OperatorKind.TheVariants as operator
 use Rattle.dart_tree.specs.Tree.{Tree, name, boolean, null_literal, binary, int_type, declare, assign, eval, if_statement, while_statement, block, function, unit, trees_of, absent, present}
 use Rattle.readings.specs.Readings.{longest, whole}
+use Rattle.dart_tokens.specs.declared.token.Kind.{Kind as TextKind}
+use Rattle.dart_tokens.specs.declared.token.Kind.TheVariants as lexical
+use Rattle.dart_tokens.specs.declared.token.Token.{Token as TextToken}
 use Rattle.check_library.specs.declared.token.Token.{Token}
+use Rattle.check_library.specs.Tokens.{kind_of, tokens_from}
 use Rattle.check_library.specs.declared.token.Kind.{Kind}
-use Rattle.check_library.specs.declared.token.Kind.TheVariants.{Identifier, Void, Main, Int, If, Else, While, True, Null, OpenParenthesis, CloseParenthesis, OpenBrace, CloseBrace, Equals, Semicolon, Question, Plus, NotEqual}
+use Rattle.check_library.specs.declared.token.Kind.TheVariants.{Identifier, Void, Main, Int, If, Else, While, True, Null, OpenParenthesis, CloseParenthesis, OpenBrace, CloseBrace, Equals, Semicolon, Question, Plus, NotEqual, Other}
 use Rattle.check_library.specs.Grammar.{at_span, below, variable_rule, operand_rule, operator_rule, expression_rule, type_rule, declare_rule, assign_rule, eval_rule, if_rule, while_rule, print_rule, block_rule, statement_rule, function_rule, unit_rule}
 
 -- a token of one code unit
@@ -72,3 +76,39 @@ unit_row = refl
 deep_unit_row : whole ((below [] 3).unit nested) ≡ None
 unfolding below unit_rule function_rule statement_rule block_rule declare_rule assign_rule eval_rule if_rule while_rule print_rule type_rule variable_rule expression_rule operand_rule operator_rule
 deep_unit_row = refl
+
+-- What the grammar reads where groups aren't closed.
+
+-- a token of the text, of one code unit
+abbrev text_at : TextKind → ℕ → TextToken
+text_at k start = record { kind = k; start = start; end = start + 1; word = 7 }
+
+-- a closing bracket that the text hasn't
+abbrev closing : Kind → ℕ → Token
+closing k offset = record { kind = k; start = offset; end = offset; word = 0 }
+
+-- `{;`: a group that stays open is closed where the text ends
+open_at_the_end_row : tokens_from [] 0 0 [] (text_at lexical.OpenBrace 0 ∷ text_at lexical.Semicolon 1 ∷ []) ≡ at OpenBrace 0 ∷ at Semicolon 1 ∷ closing CloseBrace 2 ∷ []
+unfolding tokens_from
+open_at_the_end_row = refl
+
+-- `{([}`: groups that a bracket around them ends are closed before it, innermost first
+ended_row : tokens_from [] 0 0 [] (text_at lexical.OpenBrace 0 ∷ text_at lexical.OpenParenthesis 1 ∷ text_at lexical.OpenBracket 2 ∷ text_at lexical.CloseBrace 3 ∷ [])
+    ≡ at OpenBrace 0 ∷ at OpenParenthesis 1 ∷ at Other 2 ∷ closing Other 3 ∷ closing CloseParenthesis 3 ∷ at CloseBrace 3 ∷ []
+unfolding tokens_from
+ended_row = refl
+
+-- `);`: a bracket that closes nothing is left out
+unopened_row : tokens_from [] 0 0 [] (text_at lexical.CloseParenthesis 0 ∷ text_at lexical.Semicolon 1 ∷ []) ≡ at Semicolon 1 ∷ []
+unfolding tokens_from
+unopened_row = refl
+
+-- `(`, and in an interpolation `)`: what is open outside isn't closed inside
+interpolation_row : tokens_from [] 0 0 [] (text_at lexical.OpenParenthesis 0 ∷ text_at lexical.InterpolationOpening 1 ∷ text_at lexical.CloseParenthesis 2 ∷ text_at lexical.InterpolationClosing 3 ∷ [])
+    ≡ at OpenParenthesis 0 ∷ at Other 1 ∷ at Other 3 ∷ closing CloseParenthesis 4 ∷ []
+unfolding tokens_from
+interpolation_row = refl
+
+-- built-in identifiers are identifiers, reserved words that no production holds are nothing, and four words have a place of their own
+kinds_row : kind_of lexical.Get (codes "get") ∷ kind_of lexical.Class (codes "class") ∷ kind_of lexical.Identifier (codes "int") ∷ kind_of lexical.Identifier (codes "ints") ∷ [] ≡ Identifier ∷ Other ∷ Int ∷ Identifier ∷ []
+kinds_row = refl

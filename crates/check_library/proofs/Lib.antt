@@ -1,9 +1,6 @@
 mod Examples
-pub mod CommentLemmas
-pub mod CommentLaws
-pub mod WordsLemmas
-pub mod ScanLemmas
-pub mod LawLemmas
+pub mod BalanceLemmas
+pub mod TokenCounts
 pub mod LiteralLemmas
 pub mod ParseLemmas
 pub mod Lowering

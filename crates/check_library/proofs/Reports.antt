@@ -1,5 +1,5 @@
 -- Diagnostics put at their places, one after another.
-use Rattle.std.proofs.Common.{◌≡◌, List, [], ◌∷◌, ◌++◌, refl, ap, subst, ◌∙◌, Contains, AllPairs, inl, inr}
+use Rattle.std.proofs.Common.{◌≡◌, ℕ, List, [], ◌∷◌, ◌++◌, refl, ap, subst, ◌∙◌, Contains, AllPairs, inl, inr}
 use Rattle.std.proofs.lemmas.Map.Keys.{Less-from_sorted}
 use Rattle.std.specs.List.Sorted.{IsStrictlySortedBy}
 use Rattle.std.specs.Ordering.{ordering_then, is_eq, match_ordering, nat_cmp}
@@ -12,6 +12,7 @@ use Rattle.judgement.specs.contracts.DiagnosticCode.{the_type}
 use Rattle.judgement.specs.contracts.DiagnosticCodeOrd.TheImpl.Laws as codes
 use Rattle.judgement.specs.contracts.FaultOrd.TheImpl.Laws as laws
 use denote.Enum.Bare.{same_true}
+use Rattle.check_library.specs.Diagnostics.{lexical_faults, tree_faults, faults_in}
 use Rattle.check_library.specs.Order.{span_cmp, code_cmp, fault_cmp, IsBefore, sorted_faults}
 use Rattle.check_library.proofs.SortedKeys.{sorted-insert_key, contains-into_insert_key, contains-from_insert_key, contains_later, contains_first, contains_cases}
 
@@ -94,3 +95,11 @@ none_found [] none = refl
 none_found (fault ∷ faults) none =
     let some : fault ∷ sorted_faults faults ≡ [] = some_inserted (sorted_faults faults) fault none in
     cc
+
+right_of_none : (xs ys : List Fault) → xs ++ ys ≡ [] → ys ≡ []
+right_of_none [] ys none = none
+right_of_none (x ∷ xs) ys none = absurd (cc)
+
+-- where nothing is wrong with a text, nothing is wrong with its tree
+pub tree_faults-none : (text : List ℕ) → faults_in text ≡ [] → tree_faults text ≡ []
+tree_faults-none text none = right_of_none (lexical_faults text) (tree_faults text) none

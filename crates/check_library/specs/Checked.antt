@@ -6,7 +6,8 @@ use Rattle.dart_tree.specs.Numbers.{nodes_in}
 use Rattle.flow_model.specs.Sub.{no_rows}
 use Rattle.judgement.specs.NodeFacts.{NodeFacts}
 use Rattle.judgement.specs.Typed.{typed_unit}
-use Rattle.check_library.specs.Tokens.{text_limit, tokens_of}
+use Rattle.dart_text.specs.Edits.{max_text}
+use Rattle.check_library.specs.Tokens.{grammar_tokens}
 use Rattle.check_library.specs.Grammar.{tree_of}
 use Rattle.check_library.specs.Diagnostics.{faults_in, diagnostics}
 use Rattle.check_library.specs.declared.library.Checked.{Checked}
@@ -15,11 +16,11 @@ use Rattle.check_library.specs.declared.library.Checked.{Checked}
 abbrev pub typed_tree : List ℕ → List NodeFacts
 typed_tree text = option_map_or (typed_unit no_rows) (tree_of text) []
 
--- this is what the check of a text gives: its tree, which has no more nodes than the text has tokens, what is said of each node, and its diagnostics
+-- this is what the check of a text gives: its tree, which has no more nodes than the grammar reads tokens, what is said of each node, and its diagnostics
 pub record IsCheckOf (text : List ℕ) (checked : Checked) : Type 0 where
-  pub short : length text ≤ text_limit
+  pub short : length text ≤ max_text
   pub unit : checked.unit ≡ tree_of text
-  pub few : (t : Tree) → checked.unit ≡ Some t → nodes_in t ≤ length (tokens_of text)
+  pub few : (t : Tree) → checked.unit ≡ Some t → nodes_in t ≤ length (grammar_tokens text)
   pub typed : checked.typed.items ≡ typed_tree text
   pub diagnostics : checked.diagnostics ≡ diagnostics text
 

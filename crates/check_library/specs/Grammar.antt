@@ -15,7 +15,8 @@ use Rattle.check_library.specs.declared.token.Kind.{Kind}
 use Rattle.check_library.specs.declared.token.Kind.TheVariants.{Identifier, Integer, Void, Main, Int, Bool as BoolWord, Print, If, Else, While, True, False, Null, OpenParenthesis, CloseParenthesis, OpenBrace, CloseBrace, Equals, Semicolon, Question, Plus, Less, NotEqual}
 use Rattle.check_library.specs.contracts.token.Kind as kind
 use Rattle.check_library.specs.Literals.{literal_of}
-use Rattle.check_library.specs.Tokens.{word_at, tokens_of, words_of}
+use Rattle.dart_scan.specs.Scanned.{words_of}
+use Rattle.check_library.specs.Tokens.{word_at, grammar_tokens}
 
 -- the token is of the kind
 abbrev pub is : Kind → Token → Bool
@@ -218,4 +219,4 @@ deepest = 200
 
 -- the tree of a whole text, its nodes numbered in reading order; none where the text is no unit
 abbrev pub tree_of : List ℕ → Option Tree
-tree_of text = option_map (numbered 0) (whole ((below (words_of text) (deepest + 1)).unit (tokens_of text)))
+tree_of text = option_map (numbered 0) (whole ((below (words_of text) (deepest + 1)).unit (grammar_tokens text)))

@@ -1,6 +1,4 @@
 -- Rules of the text of one library.
-pub mod Characters
-pub mod Pieces
 pub mod Tokens
 pub mod Literals
 pub mod Grammar

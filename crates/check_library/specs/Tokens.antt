@@ -1,126 +1,119 @@
--- The tokens of a text.
-use Rattle.std.specs.Prelude.{ℕ, ◌+◌, Bool, true, false, List, [], ◌∷◌, ◌++◌, codes, bytes_eq, if◌then◌else◌, unwrap_or, slice_get}
-use Rattle.std.specs.List.{list_any, position_or_len}
-use Rattle.check_library.specs.declared.scan.piece.Class.{Class}
-use Rattle.check_library.specs.declared.scan.piece.Class.TheVariants.{Gap, Word, Integer, Mark, Other}
+-- The tokens that the grammar reads: those of the text, as its groups leave them.
+use Rattle.std.specs.Prelude.{ℕ, ◌+◌, List, [], ◌∷◌, ◌++◌, map, codes, bytes_eq, if◌then◌else◌, Option, None, Some, is_some, unwrap_or, slice_get}
+use Rattle.dart_tokens.specs.declared.token.Kind.{Kind as TextKind}
+use Rattle.dart_tokens.specs.declared.token.Kind.TheVariants as lexical
+use Rattle.dart_tokens.specs.declared.token.Token.{Token as TextToken}
+use Rattle.dart_tokens.specs.Groups.{Bracket, Round, Square, Curly, Interpolation, Open, closes, is_same, nearest, after_token}
+use Rattle.dart_scan.specs.Scanned.{words_of, tokens_of}
 use Rattle.check_library.specs.declared.token.Kind.{Kind}
 use Rattle.check_library.specs.declared.token.Kind.TheVariants as kind
 use Rattle.check_library.specs.declared.token.Token.{Token}
-use Rattle.plain_text.specs.Units.{units_in}
-use Rattle.check_library.specs.Pieces.{Spelled, pieces}
 
--- the most bytes of a text: with no more, each offset fits 32 bits
-abbrev pub text_limit : ℕ
-text_limit = 16777216
-
--- the reserved words of the whole language that stand in no production of this one
-abbrev pub reserved : List (List ℕ)
-reserved =
-    codes "assert" ∷ codes "break" ∷ codes "case" ∷ codes "catch" ∷ codes "class" ∷ codes "const" ∷ codes "continue" ∷ codes "default"
-    ∷ codes "do" ∷ codes "enum" ∷ codes "extends" ∷ codes "final" ∷ codes "finally" ∷ codes "for" ∷ codes "in" ∷ codes "is"
-    ∷ codes "new" ∷ codes "rethrow" ∷ codes "return" ∷ codes "super" ∷ codes "switch" ∷ codes "this" ∷ codes "throw" ∷ codes "try"
-    ∷ codes "var" ∷ codes "with" ∷ []
-
--- the word is one of these
-abbrev pub is_reserved : List ℕ → Bool
-is_reserved word = list_any (bytes_eq word) reserved
-
--- the kind of a word: neither a word of the grammar nor a reserved one is an identifier
-abbrev pub kind_of_word : List ℕ → Kind
-kind_of_word word =
-    if bytes_eq word (codes "void") then kind.Void
-    else (if bytes_eq word (codes "main") then kind.Main
+-- the kind of an identifier: four have a place of their own in the grammar
+abbrev pub kind_of_identifier : List ℕ → Kind
+kind_of_identifier word =
+    if bytes_eq word (codes "main") then kind.Main
     else (if bytes_eq word (codes "int") then kind.Int
     else (if bytes_eq word (codes "bool") then kind.Bool
     else (if bytes_eq word (codes "print") then kind.Print
-    else (if bytes_eq word (codes "if") then kind.If
-    else (if bytes_eq word (codes "else") then kind.Else
-    else (if bytes_eq word (codes "while") then kind.While
-    else (if bytes_eq word (codes "true") then kind.True
-    else (if bytes_eq word (codes "false") then kind.False
-    else (if bytes_eq word (codes "null") then kind.Null
-    else (if is_reserved word then kind.Other else kind.Identifier)))))))))))
+    else kind.Identifier)))
 
--- the kind of a mark of punctuation
-abbrev pub kind_of_mark : List ℕ → Kind
-kind_of_mark mark =
-    if bytes_eq mark (codes "(") then kind.OpenParenthesis
-    else (if bytes_eq mark (codes ")") then kind.CloseParenthesis
-    else (if bytes_eq mark (codes "{") then kind.OpenBrace
-    else (if bytes_eq mark (codes "}") then kind.CloseBrace
-    else (if bytes_eq mark (codes "=") then kind.Equals
-    else (if bytes_eq mark (codes ";") then kind.Semicolon
-    else (if bytes_eq mark (codes "?") then kind.Question
-    else (if bytes_eq mark (codes "+") then kind.Plus
-    else (if bytes_eq mark (codes "<") then kind.Less
-    else (if bytes_eq mark (codes "!=") then kind.NotEqual
-    else kind.Other)))))))))
-
--- the kind of a lexeme, from its class and its bytes
-abbrev pub kind_of : Class → List ℕ → Kind
-kind_of Word lexeme = kind_of_word lexeme
-kind_of Integer lexeme = kind.Integer
-kind_of Mark lexeme = kind_of_mark lexeme
-kind_of Other lexeme = kind.Other
-kind_of Gap lexeme = kind.Other
-
--- a lexeme: its class, the UTF-16 offset at which it begins, and its bytes
-pub record Lexeme : Type 0 where
-  pub class : Class
-  pub start : ℕ
-  pub bytes : List ℕ
-
--- what stands between lexemes
-abbrev pub is_gap : Class → Bool
-is_gap Gap = true
-is_gap Word = false
-is_gap Integer = false
-is_gap Mark = false
-is_gap Other = false
-
--- the lexemes among these pieces, of which the first begins at the offset
-unfoldable pub lexemes_from : ℕ → List Spelled → List Lexeme
-lexemes_from start [] = []
-lexemes_from start (piece ∷ more) =
-    if is_gap piece.0 then lexemes_from (start + units_in piece.1) more
-    else record { class = piece.0; start = start; bytes = piece.1 } ∷ lexemes_from (start + units_in piece.1) more
-
--- the lexemes of a text
-abbrev pub lexemes : List ℕ → List Lexeme
-lexemes text = lexemes_from 0 (pieces text)
-
--- these words and one more, unless it is among them
-abbrev pub with_word : List (List ℕ) → List ℕ → List (List ℕ)
-with_word words word = if list_any (bytes_eq word) words then words else words ++ word ∷ []
-
--- each word once, in the order of their first places, behind those that stand before
-unfoldable pub words_behind : List (List ℕ) → List Lexeme → List (List ℕ)
-words_behind words [] = words
-words_behind words (lexeme ∷ more) = words_behind (with_word words lexeme.bytes) more
-
--- a lexeme as a token; its word has a place among these words, or comes behind them
-abbrev pub token_of : List (List ℕ) → Lexeme → Token
-token_of words lexeme = record {
-  kind = kind_of lexeme.class lexeme.bytes;
-  start = lexeme.start;
-  end = lexeme.start + units_in lexeme.bytes;
-  word = position_or_len (bytes_eq lexeme.bytes) words;
-}
-
--- the tokens of lexemes, behind words that stand before
-unfoldable pub tokens_behind : List (List ℕ) → List Lexeme → List Token
-tokens_behind words [] = []
-tokens_behind words (lexeme ∷ more) =
-    token_of words lexeme ∷ tokens_behind (with_word words lexeme.bytes) more
-
--- the words of a text, each once
-abbrev pub words_of : List ℕ → List (List ℕ)
-words_of text = words_behind [] (lexemes text)
-
--- the tokens of a text
-abbrev pub tokens_of : List ℕ → List Token
-tokens_of text = tokens_behind [] (lexemes text)
+-- The kind of a token, from its kind in the text and its lexeme. A word that isn't reserved is an identifier, and what no production holds is nothing else.
+abbrev pub kind_of : TextKind → List ℕ → Kind
+kind_of lexical.Identifier lexeme = kind_of_identifier lexeme
+kind_of lexical.Abstract lexeme = kind.Identifier
+kind_of lexical.As lexeme = kind.Identifier
+kind_of lexical.Covariant lexeme = kind.Identifier
+kind_of lexical.Deferred lexeme = kind.Identifier
+kind_of lexical.Dynamic lexeme = kind.Identifier
+kind_of lexical.Export lexeme = kind.Identifier
+kind_of lexical.Extension lexeme = kind.Identifier
+kind_of lexical.External lexeme = kind.Identifier
+kind_of lexical.Factory lexeme = kind.Identifier
+kind_of lexical.Function lexeme = kind.Identifier
+kind_of lexical.Get lexeme = kind.Identifier
+kind_of lexical.Implements lexeme = kind.Identifier
+kind_of lexical.Import lexeme = kind.Identifier
+kind_of lexical.Interface lexeme = kind.Identifier
+kind_of lexical.Late lexeme = kind.Identifier
+kind_of lexical.Library lexeme = kind.Identifier
+kind_of lexical.Mixin lexeme = kind.Identifier
+kind_of lexical.Operator lexeme = kind.Identifier
+kind_of lexical.Part lexeme = kind.Identifier
+kind_of lexical.Required lexeme = kind.Identifier
+kind_of lexical.Set lexeme = kind.Identifier
+kind_of lexical.Static lexeme = kind.Identifier
+kind_of lexical.Typedef lexeme = kind.Identifier
+kind_of lexical.Hide lexeme = kind.Identifier
+kind_of lexical.Native lexeme = kind.Identifier
+kind_of lexical.Of lexeme = kind.Identifier
+kind_of lexical.On lexeme = kind.Identifier
+kind_of lexical.Show lexeme = kind.Identifier
+kind_of lexical.Async lexeme = kind.Identifier
+kind_of lexical.Await lexeme = kind.Identifier
+kind_of lexical.Sync lexeme = kind.Identifier
+kind_of lexical.Yield lexeme = kind.Identifier
+kind_of lexical.Integer lexeme = kind.Integer
+kind_of lexical.Void lexeme = kind.Void
+kind_of lexical.If lexeme = kind.If
+kind_of lexical.Else lexeme = kind.Else
+kind_of lexical.While lexeme = kind.While
+kind_of lexical.True lexeme = kind.True
+kind_of lexical.False lexeme = kind.False
+kind_of lexical.Null lexeme = kind.Null
+kind_of lexical.OpenParenthesis lexeme = kind.OpenParenthesis
+kind_of lexical.CloseParenthesis lexeme = kind.CloseParenthesis
+kind_of lexical.OpenBrace lexeme = kind.OpenBrace
+kind_of lexical.CloseBrace lexeme = kind.CloseBrace
+kind_of lexical.Equals lexeme = kind.Equals
+kind_of lexical.Semicolon lexeme = kind.Semicolon
+kind_of lexical.Question lexeme = kind.Question
+kind_of lexical.Plus lexeme = kind.Plus
+kind_of lexical.Less lexeme = kind.Less
+kind_of lexical.BangEquals lexeme = kind.NotEqual
+kind_of _ lexeme = kind.Other
 
 -- the word at a place among the words of the text
 abbrev pub word_at : List (List ℕ) → ℕ → List ℕ
 word_at words place = unwrap_or (slice_get words place) []
+
+-- a token of the text as the grammar reads it
+abbrev pub token_of : List (List ℕ) → TextToken → Token
+token_of words token = record { kind = kind_of token.kind (word_at words token.word); start = token.start; end = token.end; word = token.word }
+
+-- the kind of the bracket that closes a group
+abbrev pub kind_of_closing : Bracket → Kind
+kind_of_closing Round = kind.CloseParenthesis
+kind_of_closing Square = kind.Other
+kind_of_closing Curly = kind.CloseBrace
+kind_of_closing Interpolation = kind.Other
+
+-- the closing bracket of a group that ends unclosed at an offset: it has no width, and no lexeme
+abbrev pub closing_at : (offset : ℕ) → Bracket → Token
+closing_at offset bracket = record { kind = kind_of_closing bracket; start = offset; end = offset; word = 0 }
+
+-- the closing brackets, at an offset, of the groups that were opened since the nearest one of a kind, innermost first
+abbrev pub closings_since : Bracket → (offset : ℕ) → List Open → List Token
+closings_since bracket offset [] = []
+closings_since bracket offset (group ∷ around) =
+    if is_same bracket group.bracket then [] else closing_at offset group.bracket ∷ closings_since bracket offset around
+
+-- A token, by the kind of groups that it closes, where these groups are open before it, and where the token before it ends. Where it closes a group, those that were opened since are closed before it; where it closes none, it is left out.
+abbrev pub read_as : Option Bracket → (offset : ℕ) → List Open → Token → List Token
+read_as None offset around token = token ∷ []
+read_as (Some bracket) offset around token =
+    if is_some (nearest bracket around) then closings_since bracket offset around ++ token ∷ [] else []
+
+-- what the grammar reads for a token of the text
+abbrev pub read_for : List (List ℕ) → (offset : ℕ) → List Open → TextToken → List Token
+read_for words offset around token = read_as (closes token.kind) offset around (token_of words token)
+
+-- what the grammar reads from a place in the text on, where these groups are open, and where the token before it ends; those that are open at the end of the text are closed there
+unfoldable pub tokens_from : List (List ℕ) → (place offset : ℕ) → List Open → List TextToken → List Token
+tokens_from words place offset around [] = map (λ group. closing_at offset group.bracket) around
+tokens_from words place offset around (token ∷ tokens) =
+    read_for words offset around token ++ tokens_from words (place + 1) token.end (after_token place token.kind around) tokens
+
+-- the tokens that the grammar reads of a text
+abbrev pub grammar_tokens : List ℕ → List Token
+grammar_tokens text = tokens_from (words_of text) 0 0 [] (tokens_of text)

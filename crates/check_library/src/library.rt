@@ -1,13 +1,16 @@
 //! The check of a library.
 
 ghost use Rattle.std.specs.Prelude.{◌≡◌, ◌≤◌, length, IfOk};
+ghost use Rattle.dart_text.specs.Edits.{max_text};
 ghost use Rattle.check_library.specs.Checked.{IsCheckOf, typed_tree};
-ghost use Rattle.check_library.specs.Diagnostics.{no_unit, faults_in, diagnostics};
+ghost use Rattle.check_library.specs.Diagnostics.{no_unit, tree_faults, diagnostics};
 ghost use Rattle.check_library.specs.Grammar.{tree_of};
-ghost use Rattle.check_library.specs.Tokens.{text_limit};
 
+use crate::lexical::lexical_faults;
 use crate::order::sorted;
 use crate::tree::tree;
+use dart_scan::scan;
+use dart_text::Text;
 use dart_tree::{Span, Unit};
 use judgement::{DiagnosticCode, Fault, TypedNode};
 use plain_text::{PlainText, utf16_len};
@@ -53,25 +56,25 @@ pub struct Checked {
 }
 
 /// The one fault of a text that is no unit of the grammar.
-fn no_unit(alloc: Global, text: &[u8]) -> Result<Vec<Fault>, AllocError>
-    requires { length text.now ≤ text_limit }
+fn no_unit(alloc: Global, text: &str) -> Result<Vec<Fault>, AllocError>
+    requires { length text.now ≤ max_text }
     ensures { IfOk result (λ faults. faults.items ≡ no_unit text.now) }
 {
     let span = Span {
         start: 0,
-        end: utf16_len(text) as u32,
+        end: utf16_len(text.as_bytes()) as u32,
     };
     let code = DiagnosticCode::SyntaxError;
     let faults = vec![in alloc; Fault { span, code }]?;
     Ok(faults)
 }
 
-/// What is said of a text whose tree this is: what is wrong with it, in any order, and what is said
-/// of its nodes.
-fn judged(alloc: Global, text: &[u8], unit: &Option<Unit>) -> Result<Judged, AllocError>
-    requires short { length text.now ≤ text_limit }
+/// What is said of a text whose tree this is: what is wrong with the tree, in any order, or that
+/// there is none, and what is said of its nodes.
+fn judged(alloc: Global, text: &str, unit: &Option<Unit>) -> Result<Judged, AllocError>
+    requires short { length text.now ≤ max_text }
     requires unit { unit.now ≡ tree_of text.now }
-    ensures faults { IfOk result (λ judged. judged.faults.items ≡ faults_in text.now) }
+    ensures faults { IfOk result (λ judged. judged.faults.items ≡ tree_faults text.now) }
     ensures nodes { IfOk result (λ judged. judged.nodes.items ≡ typed_tree text.now) }
 {
     match unit {
@@ -84,17 +87,20 @@ fn judged(alloc: Global, text: &[u8], unit: &Option<Unit>) -> Result<Judged, All
     }
 }
 
-/// Checks the library that the text of a file of at most 16,777,216 bytes is.
+/// Checks the library that the text of a file is.
 #[tactic(auto, unfolding(crate::specs::Diagnostics::diagnostics))]
-pub fn check(alloc: Global, path: &str, text: &str) -> Result<Checked, AllocError>
-    requires { length text.now ≤ text_limit }
+pub fn check(alloc: Global, path: &str, text: &Text) -> Result<Checked, AllocError>
     ensures path { IfOk result (λ checked. checked.path ≡ path.now) }
     ensures check { IfOk result (λ checked. IsCheckOf text.now checked) }
     ensures diagnostics { IfOk result (λ checked. checked.diagnostics ≡ diagnostics text.now) }
 {
-    let unit = tree(alloc, text.as_bytes())?;
-    let judged = judged(alloc, text.as_bytes(), &unit)?;
-    let faults = sorted(alloc, judged.faults)?;
+    let characters = text.as_str();
+    let scanned = scan(alloc, text)?;
+    let mut faults = lexical_faults(alloc, &scanned)?;
+    let unit = tree(alloc, &scanned)?;
+    let judged = judged(alloc, characters, &unit)?;
+    faults.extend_from_slice(judged.faults.as_slice())?;
+    let faults = sorted(alloc, faults)?;
     let path = PlainText::new(alloc, path)?;
     Ok(Checked {
         path,

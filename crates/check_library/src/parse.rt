@@ -15,8 +15,8 @@ mod statements;
 
 use crate::parse::leaves::{place_over, token};
 use crate::parse::statements::block;
-use crate::scan::Words;
 use crate::token::{Kind, Token};
+use dart_tokens::Words;
 use dart_tree::{Function, Unit};
 use std::alloc::{AllocFailed, Global};
 
@@ -47,7 +47,7 @@ impl<T: Drop> From<AllocFailed<T>> for Miss {
 #[tactic(auto, unfolding(crate::specs::Descents::take_function), using(crate::proofs::Lowering::function_with_room))]
 fn function<'k>(
     alloc: Global,
-    words: &Words<'_>,
+    words: &Words,
     tokens: &'k [Token],
 ) -> Result<(Function, &'k [Token]), Miss>
     ensures reading { Gives (λ x. (x.0, x.1.now)) result ((lower words.now deepest).function tokens.now) }
@@ -66,7 +66,7 @@ fn function<'k>(
 #[tactic(auto, unfolding(crate::specs::Descents::take_unit), using(crate::proofs::Lowering::unit_with_room))]
 pub fn unit<'k>(
     alloc: Global,
-    words: &Words<'_>,
+    words: &Words,
     tokens: &'k [Token],
 ) -> Result<(Unit, &'k [Token]), Miss>
     ensures reading { Gives (λ x. (x.0, x.1.now)) result ((lower words.now (deepest + 1)).unit tokens.now) }

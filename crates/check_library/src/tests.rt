@@ -2,6 +2,7 @@
 
 use crate::check;
 use crate::order::sorted;
+use dart_text::Text;
 use dart_tree::Span;
 use judgement::DiagnosticCode::{self, *};
 use judgement::Fault;
@@ -19,10 +20,8 @@ fn is_as_expected(fault: &Fault, expected: &Expected) -> bool {
 
 /// The check of a text gives these diagnostics, in this order.
 fn gives(alloc: Global, text: &str, expected: &[Expected]) -> Result<bool, Fail> {
-    if text.len() > 100_000 {
-        return Ok(false);
-    }
-    let checked = check(alloc, "/a.dart", text)?;
+    let text = Text::from_str(alloc, text)?;
+    let checked = check(alloc, "/a.dart", &text)?;
     let faults = checked.diagnostics.as_slice();
     let same = faults
         .iter()
@@ -101,12 +100,10 @@ fn units_have_the_diagnostics_of_the_rules(rt: HostRuntime) -> Result<(), Fail> 
 }
 
 #[test]
-fn other_texts_have_one_diagnostic(rt: HostRuntime) -> Result<(), Fail> {
-    let table: [(&str, u32); 25] = [
+fn texts_that_are_no_units_have_one_diagnostic_for_that(rt: HostRuntime) -> Result<(), Fail> {
+    let table: [(&str, u32); 22] = [
         ("", 0),
         ("\n", 1),
-        ("void main(){", 12),
-        ("void main(){}}", 14),
         ("void main(){}void main(){}", 26),
         ("int main(){}", 12),
         ("void main(){int x}", 18),
@@ -125,15 +122,96 @@ fn other_texts_have_one_diagnostic(rt: HostRuntime) -> Result<(), Fail> {
         ("void main(){1.5;}", 17),
         ("void main(){1e5;}", 17),
         ("void main(){'a';}", 17),
-        ("void main(){é;}", 15),
-        ("void main(){/*😀}", 17),
-        (" \u{feff}void main(){}", 15),
+        ("void main(){int class=1;}", 25),
+        ("void main(){print(#a);}", 23),
     ];
     for (text, length) in table {
         assert!(rt;
             gives(rt.alloc(), text, &[(SyntaxError, 0, length)])?,
             "{text}"
         );
+    }
+    Ok(())
+}
+
+#[test]
+fn lexemes_and_groups_have_their_diagnostics(rt: HostRuntime) -> Result<(), Fail> {
+    let table: [(&str, &[Expected]); 21] = [
+        ("void main(){int get=1;int async=get;async;}", &[]),
+        ("void main(){", &[(UnclosedGroup, 11, 1)]),
+        ("void main(){print(1);", &[(UnclosedGroup, 11, 1)]),
+        ("void main(){{print(1);}", &[(UnclosedGroup, 11, 1)]),
+        (
+            "void main(){if(true){print(1);",
+            &[(UnclosedGroup, 11, 1), (UnclosedGroup, 20, 1)],
+        ),
+        (
+            "void main(){if(true){print(x);",
+            &[
+                (UnclosedGroup, 11, 1),
+                (UnclosedGroup, 20, 1),
+                (UndefinedName, 27, 1),
+            ],
+        ),
+        ("void main(){}}", &[(UnopenedGroup, 13, 1)]),
+        (
+            ")]void main(){print(1)];}",
+            &[
+                (UnopenedGroup, 0, 1),
+                (UnopenedGroup, 1, 1),
+                (UnopenedGroup, 22, 1),
+            ],
+        ),
+        (
+            "void main(){print(1;}",
+            &[(SyntaxError, 0, 21), (UnclosedGroup, 17, 1)],
+        ),
+        (
+            "void main(){print([1);}",
+            &[(SyntaxError, 0, 23), (UnclosedGroup, 18, 1)],
+        ),
+        (
+            "void main(){print(a?[1);}",
+            &[(SyntaxError, 0, 25), (UnclosedGroup, 19, 2)],
+        ),
+        (
+            "void main(){print('${(}');}",
+            &[(SyntaxError, 0, 27), (UnclosedGroup, 21, 1)],
+        ),
+        (
+            "void main(){é;}",
+            &[(SyntaxError, 0, 15), (ProfileIdentifier, 12, 1)],
+        ),
+        ("void main(){int xé😀=1;x;}", &[(ProfileIdentifier, 17, 3)]),
+        (" \u{feff}void main(){}", &[(ProfileIdentifier, 1, 1)]),
+        ("void main(){print(1 \\);}", &[(IllegalCharacter, 20, 1)]),
+        (
+            "void main(){/*😀}",
+            &[(UnclosedGroup, 11, 1), (UnterminatedComment, 12, 5)],
+        ),
+        (
+            "void main(){print('a\n);}",
+            &[(SyntaxError, 0, 24), (UnterminatedString, 18, 2)],
+        ),
+        (
+            "void main(){r'a;}",
+            &[
+                (SyntaxError, 0, 17),
+                (UnclosedGroup, 11, 1),
+                (UnterminatedString, 13, 4),
+            ],
+        ),
+        (
+            "void main(){print('\\xAg');}",
+            &[(SyntaxError, 0, 27), (BadEscape, 19, 3)],
+        ),
+        (
+            "void main(){'😀\\u{110000}';}",
+            &[(SyntaxError, 0, 28), (BadEscape, 15, 10)],
+        ),
+    ];
+    for (text, expected) in table {
+        assert!(rt; gives(rt.alloc(), text, expected)?, "{text}");
     }
     Ok(())
 }
@@ -165,10 +243,8 @@ fn no_node_lies_deeper_than_200(rt: HostRuntime) -> Result<(), Fail> {
 /// Whether a text has a tree, and the numbers of the nodes of its typed tree, in their order.
 fn typed(alloc: Global, text: &str) -> Result<(bool, Vec<u32>), Fail> {
     let mut numbers = Vec::new(alloc);
-    if text.len() > 100_000 {
-        return Ok((false, numbers));
-    }
-    let checked = check(alloc, "/a.dart", text)?;
+    let text = Text::from_str(alloc, text)?;
+    let checked = check(alloc, "/a.dart", &text)?;
     for node in &checked.typed {
         numbers.push(node.node.0)?;
     }
@@ -178,7 +254,7 @@ fn typed(alloc: Global, text: &str) -> Result<(bool, Vec<u32>), Fail> {
 /// Nodes are numbered in reading order: the unit has 0, its function 1 and the body 2.
 #[test]
 fn a_typed_tree_has_the_parts_of_a_node_before_it(rt: HostRuntime) -> Result<(), Fail> {
-    let table: [(&str, bool, &[u32]); 4] = [
+    let table: [(&str, bool, &[u32]); 5] = [
         ("void main(){}", true, &[2]),
         ("void main(){int x;x=1;}", true, &[3, 8, 6, 2]),
         (
@@ -186,7 +262,8 @@ fn a_typed_tree_has_the_parts_of_a_node_before_it(rt: HostRuntime) -> Result<(),
             true,
             &[4, 5, 8, 7, 6, 3, 2],
         ),
-        ("void main(){", false, &[]),
+        ("void main(){", true, &[2]),
+        ("void main(){1+;}", false, &[]),
     ];
     for (text, is_unit, expected) in table {
         let (has_tree, numbers) = typed(rt.alloc(), text)?;

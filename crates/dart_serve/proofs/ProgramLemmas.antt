@@ -2,10 +2,6 @@
 use Rattle.std.proofs.Common.{◌≡◌, ◌≢◌, ℕ, suc, ◌==◌, Bool, true, false, if◌then◌else◌, nat_le, List, [], ◌∷◌, length, Option, None, Some, Result, Ok, Err, IfSome, inl, inr, refl, sym, subst, ◌∙◌}
 use Rattle.std.specs.Option.{option_map_or}
 use Rattle.std.specs.Str.{is_utf8}
-use Rattle.std.specs.BTreeSet.{insert_key}
-use Rattle.std.specs.Ordering.{match_ordering}
-use Rattle.std.specs.declared.cmp.Ordering.{Ordering}
-use Rattle.std.specs.declared.cmp.Ordering.TheVariants.{Less, Equal, Greater}
 use Rattle.dart_text.specs.Edits.{max_text, short_text, text_in_bytes}
 use Rattle.dart_text.specs.Results.{IsUnlessMemory}
 use Rattle.dart_text.specs.declared.text.TextRefusal.{TextRefusal}
@@ -14,7 +10,7 @@ use Rattle.dart_tree.specs.Tree.{Tree}
 use Rattle.proto_json.specs.declared.reply.ErrorRow.{ErrorRow}
 use Rattle.judgement.specs.declared.Fault.{Fault}
 use Rattle.check_library.specs.Grammar.{tree_of}
-use Rattle.check_library.specs.Order.{fault_cmp, sorted_faults}
+use Rattle.check_library.proofs.Reports.{none_found, tree_faults-none}
 use Rattle.check_library.specs.Diagnostics.{no_unit, faults_in, diagnostics}
 use Rattle.check_library.specs.Checked.{IsCheckOf, IsFaultless}
 use Rattle.check_library.specs.declared.library.Checked.{Checked}
@@ -31,24 +27,10 @@ use Rattle.dart_serve.specs.Run.{no_text, rows_of_file, Prints, ProgramGives, Ro
 use Rattle.dart_serve.proofs.WritesLemmas.{Says}
 use Rattle.dart_serve.proofs.RunLemmas.{IsSound}
 
--- a key is put among keys, so there is one
-some_key : {K : Type 0} (order : Ordering) (k x : K) (xs more : List K) → match_ordering order (k ∷ x ∷ xs) (x ∷ xs) (x ∷ more) ≢ []
-some_key Less k x xs more none = cc
-some_key Equal k x xs more none = cc
-some_key Greater k x xs more none = cc
-
-some_inserted : (fault : Fault) (faults : List Fault) → insert_key fault_cmp faults fault ≢ []
-some_inserted fault [] none = cc
-some_inserted fault (x ∷ xs) none = some_key (fault_cmp fault x) fault x xs (insert_key fault_cmp xs fault) none
-
 -- where nothing is reported, nothing is wrong
-none_reported : (faults : List Fault) → sorted_faults faults ≡ [] → faults ≡ []
-none_reported [] none = refl
-none_reported (fault ∷ faults) none = absurd (some_inserted fault (sorted_faults faults) none)
-
 no_faults : (text : List ℕ) → diagnostics text ≡ [] → faults_in text ≡ []
 unfolding diagnostics
-no_faults text none = none_reported (faults_in text) none
+no_faults text none = none_found (faults_in text) none
 
 -- a list of no length, and one of some
 pub none_of_length : (faults : List Fault) → (length faults == 0) ≡ true → faults ≡ []
@@ -73,7 +55,7 @@ pub given_by_program : (file text : List ℕ) (steps : ℕ) (checked : Checked) 
 given_by_program file text steps checked p check none elaborated sound output status prints =
     let silent : diagnostics text ≡ [] = sym check.diagnostics ∙ none in
     let elaborated_tree : IfSome (tree_of text) (λ t. IsElaborationOf t p) = subst (λ (tree : Option Tree). IfSome tree (λ t. IsElaborationOf t p)) check.unit elaborated in
-    let given : ProgramGives text steps output status = given_by_tree _ text steps (tree_of text) p refl (no_faults text silent) elaborated_tree sound output status prints in
+    let given : ProgramGives text steps output status = given_by_tree _ text steps (tree_of text) p refl (tree_faults-none text (no_faults text silent)) elaborated_tree sound output status prints in
     subst (λ (faults : List Fault). RowsGive text steps (rows_of file text faults) output status) (sym silent) given
 
 -- the lines of rows are the output, where there are rows

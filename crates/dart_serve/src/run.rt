@@ -181,7 +181,7 @@ fn run_text<K: Sink>(
     ensures writes { Writes (RowsGive text.now steps (rows_of file.now text.now (diagnostics text.now))) (K.written sink.old) (K.written sink.new) result }
     ensures counts { Counts result (K.faults sink.old) (K.faults sink.new) }
 {
-    let checked = check(alloc, file, text.as_str())?;
+    let checked = check(alloc, file, text)?;
     let faults = checked.diagnostics.as_slice();
     if !faults.is_empty() {
         return report(alloc, sink, file, text, faults);

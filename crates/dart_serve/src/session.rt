@@ -98,7 +98,7 @@ fn errors(alloc: Global, contents: &Contents, id: PlainText, file: &str) -> Resu
     let Some(text) = analyzed(contents, file) else {
         return Ok(refused(id, Code::GetErrorsInvalidFile));
     };
-    let checked = check(alloc, file, text.as_str())?;
+    let checked = check(alloc, file, text)?;
     let rows = render(alloc, file, text, checked.diagnostics.as_slice())?;
     let body = ReplyBody::Errors(rows);
     Ok(Said { id, body })

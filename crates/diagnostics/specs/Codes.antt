@@ -6,25 +6,32 @@ use Rattle.std.specs.declared.cmp.Ordering.{Ordering}
 use Rattle.std.specs.Str.{byte}
 use Rattle.std.specs.Char.{to_ascii_uppercase}
 use Rattle.judgement.specs.declared.DiagnosticCode.{DiagnosticCode}
-use Rattle.judgement.specs.declared.DiagnosticCode.TheVariants.{ArgumentType, ConditionNotBool, DuplicateDefinition, FileNotUtf8, IntegerLiteralOutOfRange, InvalidAssignment, ProfileFileLength, ReferencedBeforeDeclaration, SyntaxError, UnassignedRead, UncheckedNullableUse, UndefinedName, UndefinedOperator}
+use Rattle.judgement.specs.declared.DiagnosticCode.TheVariants.{ArgumentType, BadEscape, ConditionNotBool, DuplicateDefinition, FileNotUtf8, IllegalCharacter, IntegerLiteralOutOfRange, InvalidAssignment, ProfileFileLength, ProfileIdentifier, ReferencedBeforeDeclaration, SyntaxError, UnassignedRead, UncheckedNullableUse, UnclosedGroup, UndefinedName, UndefinedOperator, UnopenedGroup, UnterminatedComment, UnterminatedString}
 use Rattle.proto_json.specs.declared.reply.ErrorKind.{ErrorKind}
 use Rattle.proto_json.specs.declared.reply.ErrorKind.TheVariants.{SyntacticError, CompileTimeError}
 
 -- the name of a code
 abbrev pub name_of : DiagnosticCode → List ℕ
 name_of ArgumentType = codes "argument_type"
+name_of BadEscape = codes "bad_escape"
 name_of ConditionNotBool = codes "condition_not_bool"
 name_of DuplicateDefinition = codes "duplicate_definition"
 name_of FileNotUtf8 = codes "file_not_utf8"
+name_of IllegalCharacter = codes "illegal_character"
 name_of IntegerLiteralOutOfRange = codes "integer_literal_out_of_range"
 name_of InvalidAssignment = codes "invalid_assignment"
 name_of ProfileFileLength = codes "profile_file_length"
+name_of ProfileIdentifier = codes "profile_identifier"
 name_of ReferencedBeforeDeclaration = codes "referenced_before_declaration"
 name_of SyntaxError = codes "syntax_error"
 name_of UnassignedRead = codes "unassigned_read"
 name_of UncheckedNullableUse = codes "unchecked_nullable_use"
+name_of UnclosedGroup = codes "unclosed_group"
 name_of UndefinedName = codes "undefined_name"
 name_of UndefinedOperator = codes "undefined_operator"
+name_of UnopenedGroup = codes "unopened_group"
+name_of UnterminatedComment = codes "unterminated_comment"
+name_of UnterminatedString = codes "unterminated_string"
 
 -- two codes by the bytes of their names: the first byte that differs decides, else the shorter name is less
 abbrev pub name_cmp : DiagnosticCode → DiagnosticCode → Ordering
@@ -43,7 +50,13 @@ capitalized (first ∷ rest) = to_ascii_uppercase first ∷ rest
 abbrev pub message_of : DiagnosticCode → List ℕ
 message_of code = capitalized (words_of (name_of code)) ++ codes "."
 
--- the kind of a code: a text outside the grammar is a syntactic error, every other a compile-time error
+-- the kind of a code: a text whose lexemes, brackets or grammar are wrong has a syntactic error, every other is a compile-time error
 abbrev pub kind_of : DiagnosticCode → ErrorKind
+kind_of BadEscape = SyntacticError
+kind_of IllegalCharacter = SyntacticError
 kind_of SyntaxError = SyntacticError
+kind_of UnclosedGroup = SyntacticError
+kind_of UnopenedGroup = SyntacticError
+kind_of UnterminatedComment = SyntacticError
+kind_of UnterminatedString = SyntacticError
 kind_of _ = CompileTimeError

@@ -12,18 +12,25 @@ pub fn code_name(code: DiagnosticCode) -> &'static str
 {
     match code {
         DiagnosticCode::ArgumentType => "argument_type",
+        DiagnosticCode::BadEscape => "bad_escape",
         DiagnosticCode::ConditionNotBool => "condition_not_bool",
         DiagnosticCode::DuplicateDefinition => "duplicate_definition",
         DiagnosticCode::FileNotUtf8 => "file_not_utf8",
+        DiagnosticCode::IllegalCharacter => "illegal_character",
         DiagnosticCode::IntegerLiteralOutOfRange => "integer_literal_out_of_range",
         DiagnosticCode::InvalidAssignment => "invalid_assignment",
         DiagnosticCode::ProfileFileLength => "profile_file_length",
+        DiagnosticCode::ProfileIdentifier => "profile_identifier",
         DiagnosticCode::ReferencedBeforeDeclaration => "referenced_before_declaration",
         DiagnosticCode::SyntaxError => "syntax_error",
         DiagnosticCode::UnassignedRead => "unassigned_read",
         DiagnosticCode::UncheckedNullableUse => "unchecked_nullable_use",
+        DiagnosticCode::UnclosedGroup => "unclosed_group",
         DiagnosticCode::UndefinedName => "undefined_name",
         DiagnosticCode::UndefinedOperator => "undefined_operator",
+        DiagnosticCode::UnopenedGroup => "unopened_group",
+        DiagnosticCode::UnterminatedComment => "unterminated_comment",
+        DiagnosticCode::UnterminatedString => "unterminated_string",
     }
 }
 
@@ -34,18 +41,25 @@ pub fn message(code: DiagnosticCode) -> &'static str
 {
     match code {
         DiagnosticCode::ArgumentType => "Argument type.",
+        DiagnosticCode::BadEscape => "Bad escape.",
         DiagnosticCode::ConditionNotBool => "Condition not bool.",
         DiagnosticCode::DuplicateDefinition => "Duplicate definition.",
         DiagnosticCode::FileNotUtf8 => "File not utf8.",
+        DiagnosticCode::IllegalCharacter => "Illegal character.",
         DiagnosticCode::IntegerLiteralOutOfRange => "Integer literal out of range.",
         DiagnosticCode::InvalidAssignment => "Invalid assignment.",
         DiagnosticCode::ProfileFileLength => "Profile file length.",
+        DiagnosticCode::ProfileIdentifier => "Profile identifier.",
         DiagnosticCode::ReferencedBeforeDeclaration => "Referenced before declaration.",
         DiagnosticCode::SyntaxError => "Syntax error.",
         DiagnosticCode::UnassignedRead => "Unassigned read.",
         DiagnosticCode::UncheckedNullableUse => "Unchecked nullable use.",
+        DiagnosticCode::UnclosedGroup => "Unclosed group.",
         DiagnosticCode::UndefinedName => "Undefined name.",
         DiagnosticCode::UndefinedOperator => "Undefined operator.",
+        DiagnosticCode::UnopenedGroup => "Unopened group.",
+        DiagnosticCode::UnterminatedComment => "Unterminated comment.",
+        DiagnosticCode::UnterminatedString => "Unterminated string.",
     }
 }
 
@@ -54,7 +68,13 @@ pub fn error_kind(code: DiagnosticCode) -> ErrorKind
     ensures { result ≡ kind_of code }
 {
     match code {
-        DiagnosticCode::SyntaxError => ErrorKind::SyntacticError,
+        DiagnosticCode::BadEscape
+        | DiagnosticCode::IllegalCharacter
+        | DiagnosticCode::SyntaxError
+        | DiagnosticCode::UnclosedGroup
+        | DiagnosticCode::UnopenedGroup
+        | DiagnosticCode::UnterminatedComment
+        | DiagnosticCode::UnterminatedString => ErrorKind::SyntacticError,
         _ => ErrorKind::CompileTimeError,
     }
 }

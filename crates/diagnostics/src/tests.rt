@@ -74,6 +74,7 @@ fn each_code_has_its_words(rt: HostRuntime) {
             "argument_type",
             "Argument type.",
         ),
+        (DiagnosticCode::BadEscape, "bad_escape", "Bad escape."),
         (
             DiagnosticCode::ConditionNotBool,
             "condition_not_bool",
@@ -90,6 +91,11 @@ fn each_code_has_its_words(rt: HostRuntime) {
             "File not utf8.",
         ),
         (
+            DiagnosticCode::IllegalCharacter,
+            "illegal_character",
+            "Illegal character.",
+        ),
+        (
             DiagnosticCode::IntegerLiteralOutOfRange,
             "integer_literal_out_of_range",
             "Integer literal out of range.",
@@ -103,6 +109,11 @@ fn each_code_has_its_words(rt: HostRuntime) {
             DiagnosticCode::ProfileFileLength,
             "profile_file_length",
             "Profile file length.",
+        ),
+        (
+            DiagnosticCode::ProfileIdentifier,
+            "profile_identifier",
+            "Profile identifier.",
         ),
         (
             DiagnosticCode::ReferencedBeforeDeclaration,
@@ -121,6 +132,11 @@ fn each_code_has_its_words(rt: HostRuntime) {
             "Unchecked nullable use.",
         ),
         (
+            DiagnosticCode::UnclosedGroup,
+            "unclosed_group",
+            "Unclosed group.",
+        ),
+        (
             DiagnosticCode::UndefinedName,
             "undefined_name",
             "Undefined name.",
@@ -129,6 +145,21 @@ fn each_code_has_its_words(rt: HostRuntime) {
             DiagnosticCode::UndefinedOperator,
             "undefined_operator",
             "Undefined operator.",
+        ),
+        (
+            DiagnosticCode::UnopenedGroup,
+            "unopened_group",
+            "Unopened group.",
+        ),
+        (
+            DiagnosticCode::UnterminatedComment,
+            "unterminated_comment",
+            "Unterminated comment.",
+        ),
+        (
+            DiagnosticCode::UnterminatedString,
+            "unterminated_string",
+            "Unterminated string.",
         ),
     ];
     for (code, name, sentence) in cases {

@@ -8,12 +8,13 @@ use Rattle.flow_model.specs.Sub.{no_rows}
 use Rattle.judgement.specs.Judgement.{faults_of}
 use Rattle.check_library.specs.Grammar.{tree_of}
 use Rattle.check_library.specs.Diagnostics.{no_unit, faults_in}
+use Rattle.check_library.proofs.Reports.{tree_faults-none}
 use Rattle.elaborate.specs.Frame.{locals_in}
 use Rattle.elaborate.proofs.Distinct.{numbered_distinct}
 
 -- nothing is wrong with the tree
 pub tree_faultless : (text : List ℕ) (tree : Tree) → faults_in text ≡ [] → tree_of text ≡ Some tree → faults_of no_rows tree ≡ []
-tree_faultless text tree none is = subst (λ (found : Option Tree). option_map_or (faults_of no_rows) found (no_unit text) ≡ []) is none
+tree_faultless text tree none is = subst (λ (found : Option Tree). option_map_or (faults_of no_rows) found (no_unit text) ≡ []) is (tree_faults-none text none)
 
 -- the locals of a tree that is numbered are pairwise different
 distinct_if_numbered : (found : Option Tree) (tree : Tree) → option_map (numbered 0) found ≡ Some tree → AllPairs (λ a b. a.var.0 ≢ b.var.0) (locals_in tree)

@@ -34,7 +34,6 @@ pub mod LaidReady
 pub mod LaidConditions
 pub mod LaidStatements
 pub mod Said
-pub mod Texts
 pub mod Built
 pub mod Accepted
 pub mod Faultless

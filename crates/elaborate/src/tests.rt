@@ -3,16 +3,19 @@
 use crate::elaborate_unit;
 use check_library::check;
 use core_ir::{CoreProgram, Operand, Point, Term, Value};
+use dart_text::{Text, TextRefusal};
 use std::alloc::{AllocError, Global};
 use std::string::String;
 use std::test::Fail;
 
 /// The core program of a text, whatever is wrong with it; None where it is no unit.
 fn program_of(alloc: Global, text: &str) -> Result<Option<CoreProgram>, AllocError> {
-    if text.len() > 100_000 {
-        return Ok(None);
-    }
-    let checked = check(alloc, "/a.dart", text)?;
+    let text = match Text::from_str(alloc, text) {
+        Ok(text) => text,
+        Err(TextRefusal::Memory) => return Err(AllocError),
+        Err(TextRefusal::NotUtf8 | TextRefusal::TooLong { .. }) => return Ok(None),
+    };
+    let checked = check(alloc, "/a.dart", &text)?;
     match &checked.unit {
         Some(unit) => Ok(Some(elaborate_unit(alloc, unit, &checked.typed)?)),
         None => Ok(None),

@@ -18,18 +18,24 @@ pub use typed::{Branch, TypedNode};
 pub enum DiagnosticCode {
     /// The right side of an operator hasn't the type that the left side's operator takes.
     ArgumentType,
+    /// An escape of a string stands for no character.
+    BadEscape,
     /// The condition of an `if` or a `while` is no bool.
     ConditionNotBool,
     /// A name is declared again in one block.
     DuplicateDefinition,
     /// The bytes of a file aren't UTF-8.
     FileNotUtf8,
+    /// An ASCII character begins no lexeme.
+    IllegalCharacter,
     /// A decimal literal past 2^63 - 1, or a hexadecimal one past 2^64 - 1.
     IntegerLiteralOutOfRange,
     /// A value hasn't the type of the variable that it is written to.
     InvalidAssignment,
     /// A file has more than 4,194,304 bytes.
     ProfileFileLength,
+    /// Characters beyond ASCII stand outside strings and comments.
+    ProfileIdentifier,
     /// A variable is named before its declaration.
     ReferencedBeforeDeclaration,
     /// The text is no unit of the grammar.
@@ -38,10 +44,18 @@ pub enum DiagnosticCode {
     UnassignedRead,
     /// An operator of int is used on a value that may be null.
     UncheckedNullableUse,
+    /// A bracket opens a group that no bracket closes.
+    UnclosedGroup,
     /// A name means nothing.
     UndefinedName,
     /// A value's type hasn't the operator.
     UndefinedOperator,
+    /// A bracket closes no group.
+    UnopenedGroup,
+    /// A comment never ends.
+    UnterminatedComment,
+    /// A string never ends.
+    UnterminatedString,
 }
 
 /// Something wrong in a text, and where: in UTF-16 code units, from 0.

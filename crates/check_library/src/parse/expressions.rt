@@ -8,8 +8,8 @@ ghost use Rattle.check_library.specs.Descents.{Gives, lower};
 
 use crate::parse::Miss;
 use crate::parse::leaves::{operand, place_over, right_side, token};
-use crate::scan::Words;
 use crate::token::{Kind, Token};
+use dart_tokens::Words;
 use dart_tree::{Expr, ExprNode};
 use std::alloc::Global;
 
@@ -17,7 +17,7 @@ use std::alloc::Global;
 #[tactic(auto, unfolding(crate::specs::Descents::take_expression), using(crate::proofs::Lowering::expression_without_room, crate::proofs::Lowering::expression_with_room))]
 pub fn expression<'k>(
     alloc: Global,
-    words: &Words<'_>,
+    words: &Words,
     room: u32,
     tokens: &'k [Token],
 ) -> Result<(Expr, &'k [Token]), Miss>
@@ -43,7 +43,7 @@ pub fn expression<'k>(
 /// `=` and an expression.
 fn equals_expression<'k>(
     alloc: Global,
-    words: &Words<'_>,
+    words: &Words,
     room: u32,
     tokens: &'k [Token],
 ) -> Result<((Token, Expr), &'k [Token]), Miss>
@@ -58,7 +58,7 @@ fn equals_expression<'k>(
 /// `=` and an expression, or nothing.
 pub fn initializer<'k>(
     alloc: Global,
-    words: &Words<'_>,
+    words: &Words,
     room: u32,
     tokens: &'k [Token],
 ) -> Result<(Option<(Token, Expr)>, &'k [Token]), Miss>

@@ -9,9 +9,10 @@ ghost use Rattle.readings.specs.Descent.{take_token, take_make, take_turn, take_
 ghost use Rattle.check_library.specs.Grammar.{is, at_span, place_of_token, first_start, last_end, place_over, int_type_of, bool_type_of};
 ghost use Rattle.check_library.specs.Descents.{Finds, first_kind, second_is, take_variable, take_operand, take_operator, take_type, lower};
 
+use crate::balance::word_at;
 use crate::literal::literal_of;
-use crate::scan::Words;
 use crate::token::{Kind, Token};
+use dart_tokens::Words;
 use dart_tree::{
     Expr, ExprNode, IntegerLiteral, Name, NodeId, Operator, OperatorKind, Place, Span, WrittenType,
     WrittenTypeNode,
@@ -97,7 +98,7 @@ pub fn variable(tokens: &[Token]) -> Option<(Name, &[Token])>
 
 /// What the token is as an operand; None where it is none.
 #[tactic(auto, unfolding(crate::specs::Descents::take_operand))]
-fn operand_node(words: &Words<'_>, token: Token) -> Option<ExprNode>
+fn operand_node(words: &Words, token: Token) -> Option<ExprNode>
     ensures reading { (rest : List Token) → take_operand words.now (token ∷ rest) ≡ option_map (λ node. (expr_of node, rest)) result }
     ensures one { IfSome result (λ node. nodes_in (expr_of node) ≡ 1) }
 {
@@ -109,7 +110,7 @@ fn operand_node(words: &Words<'_>, token: Token) -> Option<ExprNode>
         }),
         Kind::Integer => Some(ExprNode::Integer {
             at,
-            literal: literal_of(words.at(token.word)),
+            literal: literal_of(word_at(words, token.word)),
         }),
         Kind::True => Some(ExprNode::Boolean { at, value: true }),
         Kind::False => Some(ExprNode::Boolean { at, value: false }),
@@ -120,7 +121,7 @@ fn operand_node(words: &Words<'_>, token: Token) -> Option<ExprNode>
 
 /// An operand.
 #[tactic(auto, unfolding(crate::specs::Descents::take_operand))]
-pub fn operand<'k>(words: &Words<'_>, tokens: &'k [Token]) -> Option<(Expr, &'k [Token])>
+pub fn operand<'k>(words: &Words, tokens: &'k [Token]) -> Option<(Expr, &'k [Token])>
     ensures reading { Finds (λ x. (x.0, x.1.now)) result (take_operand words.now tokens.now) }
     ensures fewer { IfSome result (λ x. nodes_in x.0 + length x.1.now ≤ length tokens.now) }
 {
@@ -131,11 +132,7 @@ pub fn operand<'k>(words: &Words<'_>, tokens: &'k [Token]) -> Option<(Expr, &'k 
 
 /// An operand, where `room` nodes may lie on a way down.
 #[tactic(auto, using(crate::proofs::Lowering::operand_without_room, crate::proofs::Lowering::operand_with_room))]
-fn operand_within<'k>(
-    words: &Words<'_>,
-    room: u32,
-    tokens: &'k [Token],
-) -> Option<(Expr, &'k [Token])>
+fn operand_within<'k>(words: &Words, room: u32, tokens: &'k [Token]) -> Option<(Expr, &'k [Token])>
     ensures reading { Finds (λ x. (x.0, x.1.now)) result ((lower words.now room).operand tokens.now) }
     ensures fewer { IfSome result (λ x. nodes_in x.0 + length x.1.now ≤ length tokens.now) }
 {
@@ -164,7 +161,7 @@ fn operator(tokens: &[Token]) -> Option<(Operator, &[Token])>
 
 /// An operator and the operand behind it, where `room` nodes may lie on a way down from there.
 pub fn right_side<'k>(
-    words: &Words<'_>,
+    words: &Words,
     room: u32,
     tokens: &'k [Token],
 ) -> Option<((Operator, Expr), &'k [Token])>

@@ -11,8 +11,8 @@ ghost use Rattle.check_library.specs.Descents.{Gives, lower, take_declare, take_
 use crate::parse::Miss;
 use crate::parse::expressions::{expression, initializer};
 use crate::parse::leaves::{first_kind, place_over, second_is, token, variable, written_type};
-use crate::scan::Words;
 use crate::token::{Kind, Token};
+use dart_tokens::Words;
 use dart_tree::{Block, Stmt, StmtNode};
 use std::alloc::Global;
 
@@ -20,7 +20,7 @@ use std::alloc::Global;
 #[tactic(auto, unfolding(crate::specs::Descents::take_declare), using(crate::proofs::Lowering::type_without_room, crate::proofs::Lowering::type_with_room))]
 fn declare<'k>(
     alloc: Global,
-    words: &Words<'_>,
+    words: &Words,
     room: u32,
     tokens: &'k [Token],
 ) -> Result<(Stmt, &'k [Token]), Miss>
@@ -47,7 +47,7 @@ fn declare<'k>(
 #[tactic(auto, unfolding(crate::specs::Descents::take_assign))]
 fn assign<'k>(
     alloc: Global,
-    words: &Words<'_>,
+    words: &Words,
     room: u32,
     tokens: &'k [Token],
 ) -> Result<(Stmt, &'k [Token]), Miss>
@@ -67,7 +67,7 @@ fn assign<'k>(
 #[tactic(auto, unfolding(crate::specs::Descents::take_eval))]
 fn eval<'k>(
     alloc: Global,
-    words: &Words<'_>,
+    words: &Words,
     room: u32,
     tokens: &'k [Token],
 ) -> Result<(Stmt, &'k [Token]), Miss>
@@ -85,7 +85,7 @@ fn eval<'k>(
 #[tactic(auto, unfolding(crate::specs::Descents::take_print))]
 fn print<'k>(
     alloc: Global,
-    words: &Words<'_>,
+    words: &Words,
     room: u32,
     tokens: &'k [Token],
 ) -> Result<(Stmt, &'k [Token]), Miss>
@@ -106,7 +106,7 @@ fn print<'k>(
 #[tactic(auto, using(crate::proofs::Dispatch::assign_of_second, crate::proofs::Dispatch::eval_of_second))]
 fn named<'k>(
     alloc: Global,
-    words: &Words<'_>,
+    words: &Words,
     room: u32,
     tokens: &'k [Token],
 ) -> Result<(Stmt, &'k [Token]), Miss>
@@ -124,7 +124,7 @@ fn named<'k>(
 #[cycle(parse)]
 fn else_block<'k>(
     alloc: Global,
-    words: &Words<'_>,
+    words: &Words,
     room: u32,
     tokens: &'k [Token],
 ) -> Result<((Token, Block), &'k [Token]), Miss>
@@ -140,7 +140,7 @@ fn else_block<'k>(
 #[cycle(parse)]
 fn otherwise<'k>(
     alloc: Global,
-    words: &Words<'_>,
+    words: &Words,
     room: u32,
     tokens: &'k [Token],
 ) -> Result<(Option<(Token, Block)>, &'k [Token]), Miss>
@@ -159,7 +159,7 @@ fn otherwise<'k>(
 #[tactic(auto, unfolding(crate::specs::Descents::take_if))]
 fn if_statement<'k>(
     alloc: Global,
-    words: &Words<'_>,
+    words: &Words,
     room: u32,
     tokens: &'k [Token],
 ) -> Result<(Stmt, &'k [Token]), Miss>
@@ -186,7 +186,7 @@ fn if_statement<'k>(
 #[tactic(auto, unfolding(crate::specs::Descents::take_while))]
 fn while_statement<'k>(
     alloc: Global,
-    words: &Words<'_>,
+    words: &Words,
     room: u32,
     tokens: &'k [Token],
 ) -> Result<(Stmt, &'k [Token]), Miss>
@@ -211,7 +211,7 @@ fn while_statement<'k>(
 #[cycle(parse)]
 fn block_statement<'k>(
     alloc: Global,
-    words: &Words<'_>,
+    words: &Words,
     room: u32,
     tokens: &'k [Token],
 ) -> Result<(Stmt, &'k [Token]), Miss>
@@ -228,7 +228,7 @@ fn block_statement<'k>(
 #[cycle(parse)]
 fn statement_form<'k>(
     alloc: Global,
-    words: &Words<'_>,
+    words: &Words,
     room: u32,
     tokens: &'k [Token],
 ) -> Result<(Stmt, &'k [Token]), Miss>
@@ -254,7 +254,7 @@ fn statement_form<'k>(
 #[tactic(auto, using(crate::proofs::Lowering::statement_without_room, crate::proofs::Lowering::statement_with_room))]
 fn statement<'k>(
     alloc: Global,
-    words: &Words<'_>,
+    words: &Words,
     room: u32,
     tokens: &'k [Token],
 ) -> Result<(Stmt, &'k [Token]), Miss>
@@ -271,7 +271,7 @@ fn statement<'k>(
 #[cycle(parse)]
 fn statements<'k>(
     alloc: Global,
-    words: &Words<'_>,
+    words: &Words,
     room: u32,
     tokens: &'k [Token],
 ) -> Result<(Vec<Stmt>, &'k [Token]), Miss>
@@ -298,7 +298,7 @@ fn statements<'k>(
 #[tactic(auto, unfolding(crate::specs::Descents::take_block))]
 fn braces<'k>(
     alloc: Global,
-    words: &Words<'_>,
+    words: &Words,
     room: u32,
     tokens: &'k [Token],
 ) -> Result<(Block, &'k [Token]), Miss>
@@ -317,7 +317,7 @@ fn braces<'k>(
 #[tactic(auto, using(crate::proofs::Lowering::block_without_room, crate::proofs::Lowering::block_with_room))]
 pub fn block<'k>(
     alloc: Global,
-    words: &Words<'_>,
+    words: &Words,
     room: u32,
     tokens: &'k [Token],
 ) -> Result<(Block, &'k [Token]), Miss>

@@ -1,7 +1,7 @@
 //! Small programs and their diagnostics, worked out by hand from the rules of the language.
 
 use check_library::check;
-use dart_text::MAX_TEXT;
+use dart_text::Text;
 use diagnostics::code_name;
 use std::alloc::Global;
 use std::process::Abort;
@@ -584,9 +584,9 @@ const DEPTHS: [(&str, &str, u8); 14] = [
 ];
 
 /// The diagnostics of a text in their order, each as `code@offset+length`, with spaces between.
-fn listed(rt: &impl Abort, alloc: Global, text: &str) -> Result<String, Fail> {
-    assert!(rt; text.len() <= MAX_TEXT);
-    let checked = check(alloc, "/a.dart", text)?;
+fn listed(alloc: Global, text: &str) -> Result<String, Fail> {
+    let text = Text::from_str(alloc, text)?;
+    let checked = check(alloc, "/a.dart", &text)?;
     let mut found = String::new(alloc);
     for fault in checked.diagnostics.as_slice() {
         let gap = if found.is_empty() { "" } else { " " };
@@ -602,7 +602,7 @@ fn listed(rt: &impl Abort, alloc: Global, text: &str) -> Result<String, Fail> {
 /// Each text has the diagnostics that stand beside it.
 fn agree(rt: &impl Abort, alloc: Global, table: &[(&str, &str)]) -> Result<(), Fail> {
     for (text, expected) in table {
-        let found = listed(rt, alloc, text)?;
+        let found = listed(alloc, text)?;
         assert_eq!(rt; found.as_str(), *expected, "{text}");
     }
     Ok(())
@@ -658,9 +658,9 @@ fn nested(alloc: Global, form: &str, inner: &str, count: u16) -> Result<String, 
 }
 
 /// The text has one diagnostic, over the whole of it.
-fn is_refused(rt: &impl Abort, alloc: Global, text: &str) -> Result<bool, Fail> {
+fn is_refused(alloc: Global, text: &str) -> Result<bool, Fail> {
     let whole = format!(in alloc; "syntax_error@0+{}", text.len())?;
-    Ok(listed(rt, alloc, text)?.as_str() == whole.as_str())
+    Ok(listed(alloc, text)?.as_str() == whole.as_str())
 }
 
 #[test]
@@ -668,13 +668,13 @@ fn trees_are_at_most_200_deep(rt: HostRuntime) -> Result<(), Fail> {
     let alloc = rt.alloc();
     for (form, inner, most) in DEPTHS {
         let deepest = nested(alloc, form, inner, u16::from(most))?;
-        let found = listed(&rt, alloc, deepest.as_str())?;
+        let found = listed(alloc, deepest.as_str())?;
         assert_eq!(rt; found.as_str(), "", "{form} {inner}");
         let deeper = nested(alloc, form, inner, u16::from(most) + 1)?;
-        assert!(rt; is_refused(&rt, alloc, deeper.as_str())?, "{form} {inner}");
+        assert!(rt; is_refused(alloc, deeper.as_str())?, "{form} {inner}");
     }
     let judged = nested(alloc, "{", "x;", 196)?;
-    let found = listed(&rt, alloc, judged.as_str())?;
+    let found = listed(alloc, judged.as_str())?;
     assert_eq!(rt; found.as_str(), "undefined_name@208+1");
     Ok(())
 }
@@ -684,7 +684,7 @@ fn no_depth_is_too_deep_to_be_refused(rt: HostRuntime) -> Result<(), Fail> {
     let alloc = rt.alloc();
     for form in ["{", "if(true){", "while(true){"] {
         let text = nested(alloc, form, "", 10_000)?;
-        assert!(rt; is_refused(&rt, alloc, text.as_str())?, "{form}");
+        assert!(rt; is_refused(alloc, text.as_str())?, "{form}");
     }
     Ok(())
 }

@@ -2,7 +2,7 @@ use Rattle.std.proofs.Common.{◌≡◌, ◌≤◌, Some, length, sym, ◌∙◌
 use Rattle.check_library.specs.Grammar.{tree_of}
 use Rattle.elaborate.proofs.Accepted.{program_accepted, program_well_formed}
 use Rattle.elaborate.proofs.Faultless.{tree_distinct, tree_faultless}
-use Rattle.elaborate.proofs.Texts.{tokens-few}
+use Rattle.check_library.proofs.TokenCounts.{grammar_tokens-few}
 use Rattle.elaborate.proofs.elaborate.Goals as goal
 
 -- a text has fewer nodes than there are numbers
@@ -10,7 +10,7 @@ pub elaborate_unit-requires-clause-small : goal.elaborate_unit-requires-clause-s
 elaborate_unit-requires-clause-small c =
     let nodes = c.requires.check.few c.in-Some.unit c.in-Some.is in
     let short = c.requires.check.short in
-    omega (arith, nodes, short, tokens-few c.requires.text)
+    omega (arith, nodes, short, grammar_tokens-few c.requires.text)
 
 -- the program of a text in which nothing is wrong names what it has
 pub returns-clause-well_formed : goal.returns-clause-well_formed
@@ -21,7 +21,7 @@ returns-clause-well_formed c =
     let nodes = c.requires.check.few tree c.in-Some.is in
     let short = c.requires.check.short in
     program_well_formed tree c.in_ok-program-in-Some.program found.form (tree_distinct c.requires.text tree is) (tree_faultless c.requires.text tree c.requires.none is) found.program found.built
-    (omega (arith, nodes, short, tokens-few c.requires.text))
+    (omega (arith, nodes, short, grammar_tokens-few c.requires.text))
 
 -- and is accepted
 pub returns-clause-accepted : goal.returns-clause-accepted

@@ -1,5 +1,5 @@
 use Rattle.std.proofs.Common.{arith}
-use Rattle.elaborate.proofs.Texts.{tokens-few}
+use Rattle.check_library.proofs.TokenCounts.{grammar_tokens-few}
 use Rattle.elaborate.proofs.tests.program_of.Goals as goal
 
 -- a text has fewer nodes than there are numbers
@@ -8,4 +8,4 @@ elaborate_unit-requires-clause-small c =
     let checked = c.in_ok-checked.ensures.check in
     let nodes = checked.few c.in-Some.unit c.in-Some.is in
     let short = checked.short in
-    omega (arith, nodes, short, tokens-few c.args.text.now)
+    omega (arith, nodes, short, grammar_tokens-few c.args.text.now)

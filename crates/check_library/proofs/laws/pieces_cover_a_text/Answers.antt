@@ -1,8 +1,0 @@
-use Rattle.std.proofs.Common.{◌≤◌, length, arith}
-use Rattle.check_library.proofs.LawLemmas.{pieces-cover, pieces-some}
-use Rattle.check_library.proofs.laws.pieces_cover_a_text.Goals as goal
-
-pub returns : goal.returns
-returns c =
-    let enough : length c.args._text.now ≤ length c.args._text.now = omega arith in
-    record { cover = pieces-cover _ _ c.args._text.now enough; some = pieces-some _ _ c.args._text.now }
