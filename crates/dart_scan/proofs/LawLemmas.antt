@@ -7,7 +7,8 @@ use Rattle.dart_tokens.specs.declared.token.Kind.{Kind}
 use Rattle.dart_scan.specs.declared.piece.Class.TheVariants.{Word, Integer, Double, Mark, BeyondAscii, IllegalCharacter}
 use Rattle.dart_scan.specs.declared.piece.Piece.{Piece}
 use Rattle.dart_scan.specs.Characters.{is_beyond_ascii}
-use Rattle.dart_scan.specs.Lexemes.{begins, run, word_size, integer_size, double_size, mark_size, first_size}
+use Rattle.dart_scan.specs.Lexemes.{begins, run, word_size, integer_size, double_size, mark_size}
+use Rattle.dart_scan.proofs.MarkSizes.{first_size, mark_size-first}
 use Rattle.dart_scan.specs.Pieces.{longer, lexeme_at}
 
 longer-first : (a b : Piece) → a.size ≤ (longer a b).size
@@ -85,4 +86,4 @@ first-longest size (mark ∷ more) text e (suc k) d h b =
     chosen_size (begins text mark.0) (length (slice_index_or more k d).0) (length mark.0) (first_size more text) (λ _. no_longer_than (length mark.0) more later k d less) (first-longest (length mark.0) more text later k d less b)
 
 pub mark-of-marks : (text : List ℕ) → All (λ mark. IsTrue (begins text mark.0) → length mark.0 ≤ mark_size text) marks
-mark-of-marks text k d h b = first-longest 3 marks text refl k d h b
+mark-of-marks text k d h b = rw (mark_size-first text) (first-longest 3 marks text refl k d h b)

@@ -5,6 +5,7 @@ pub mod CommentLaws
 pub mod PieceLemmas
 pub mod PlainLemmas
 pub mod FormLemmas
+pub mod MarkSizes
 pub mod StepLemmas
 pub mod ResumeLemmas
 pub mod RangeLemmas

@@ -10,7 +10,8 @@ use Rattle.std.proofs.lemmas.Str.{IsUtf8-drop, IsCharBoundary-after_ascii, IsCha
 use Rattle.dart_tokens.specs.declared.token.Kind.{Kind}
 use Rattle.dart_tokens.specs.Marks.{marks}
 use Rattle.dart_scan.specs.Characters.{is_digit, is_hexadecimal_digit, is_identifier_start, is_identifier_part, is_blank, is_within_line, is_beyond_ascii}
-use Rattle.dart_scan.specs.Lexemes.{begins, run, word_size, before_digits, hexadecimal_size, integer_size, fraction_size, sign_size, exponent_size, double_size, first_size, mark_size}
+use Rattle.dart_scan.specs.Lexemes.{begins, run, word_size, before_digits, hexadecimal_size, integer_size, fraction_size, sign_size, exponent_size, double_size, mark_size}
+use Rattle.dart_scan.proofs.MarkSizes.{first_size, mark_size-first}
 use Rattle.dart_scan.specs.Comments.{comment_end}
 use Rattle.dart_scan.specs.Pieces.{comment_piece, longer, lexeme_at, piece_at}
 use Rattle.dart_scan.specs.declared.piece.Class.TheVariants.{Gap, UnterminatedComment, IllegalCharacter, BeyondAscii, Word, Integer, Double, Mark}
@@ -84,7 +85,7 @@ first-text (mark ∷ more) text a u =
     chosen (begins text mark.0) (length mark.0) (first_size more text) text (λ h. begins-text mark.0 text ascii.0 h u) (λ h. first-text more text ascii.1 u)
 
 mark-text : (text : List ℕ) → IsUtf8 text → IsTextFrom (mark_size text) text
-mark-text text u = first-text marks text refl u
+mark-text text u = rw (mark_size-first text) (first-text marks text refl u)
 
 -- what isn't beyond ASCII is ASCII
 stops_beyond : (byte : ℕ) → is_beyond_ascii byte ≡ false → byte < 128

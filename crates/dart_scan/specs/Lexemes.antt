@@ -1,9 +1,9 @@
 -- How long the lexemes are with which a text begins, strings aside.
 use Rattle.std.specs.Prelude.{ℕ, ◌+◌, ◌==◌, Bool, ◌&&◌, ◌||◌, List, [], ◌∷◌, length, drop, take_while, max, codes, nat_eq, if◌then◌else◌}
 use Rattle.std.specs.List.{starts_with}
+use Rattle.std.specs.Option.{option_map_or}
 use Rattle.dart_scan.specs.Characters.{is_digit, is_hexadecimal_digit, is_identifier_start, is_identifier_part}
-use Rattle.dart_tokens.specs.Marks.{marks}
-use Rattle.dart_tokens.specs.declared.token.Kind.{Kind}
+use Rattle.dart_tokens.specs.Marks.{first_mark}
 
 -- the text begins with these bytes
 abbrev pub begins : List ℕ → List ℕ → Bool
@@ -50,11 +50,6 @@ double_size text =
     let exponent = exponent_size (drop (whole + fraction) text) in
     if fraction == 0 && (whole == 0 || exponent == 0) then 0 else whole + (fraction + exponent)
 
--- the length of the first of these marks that the text begins with
-abbrev pub first_size : List (List ℕ × Kind) → List ℕ → ℕ
-first_size [] text = 0
-first_size (mark ∷ more) text = if begins text mark.0 then length mark.0 else first_size more text
-
 -- A mark of punctuation.
 abbrev pub mark_size : List ℕ → ℕ
-mark_size text = first_size marks text
+mark_size text = option_map_or (λ mark. mark.1) (first_mark text) 0

@@ -1,61 +1,11 @@
 //! Names behind a `$` in a string.
 
-ghost use Rattle.std.specs.Prelude.{◌≡◌, ◌≤◌, ◌&&◌, bytes_eq, length, nat_lt, take};
-ghost use Rattle.std.specs.List.{list_any};
-ghost use Rattle.dart_tokens.specs.Words.{is_reserved};
+ghost use Rattle.std.specs.Prelude.{◌≡◌, ◌≤◌, ◌&&◌, length, nat_lt, take};
 ghost use Rattle.dart_scan.specs.Lexemes.{run};
 ghost use Rattle.dart_scan.specs.Strings.{is_name_start, is_name_part, name_size, is_interpolated, begins_name};
 
 use crate::cut::lexeme::{identifier_part, identifier_start};
-
-/// The words that are no identifiers.
-const RESERVED: [&[u8]; 33] = [
-    b"assert",
-    b"break",
-    b"case",
-    b"catch",
-    b"class",
-    b"const",
-    b"continue",
-    b"default",
-    b"do",
-    b"else",
-    b"enum",
-    b"extends",
-    b"false",
-    b"final",
-    b"finally",
-    b"for",
-    b"if",
-    b"in",
-    b"is",
-    b"new",
-    b"null",
-    b"rethrow",
-    b"return",
-    b"super",
-    b"switch",
-    b"this",
-    b"throw",
-    b"true",
-    b"try",
-    b"var",
-    b"void",
-    b"while",
-    b"with",
-];
-
-fn is_among(words: &[&[u8]], word: &[u8]) -> bool
-    ensures { result ≡ list_any (λ other. bytes_eq word.now other.now) words.now }
-{
-    words.iter().any(|other| word == *other)
-}
-
-fn is_reserved(word: &[u8]) -> bool
-    ensures { result ≡ is_reserved word.now }
-{
-    is_among(&RESERVED, word)
-}
+use dart_tokens::is_reserved;
 
 /// The word may stand behind a `$`.
 fn is_interpolated(word: &[u8]) -> bool
