@@ -7,6 +7,7 @@ use plain_text::PlainText;
 use std::alloc::Global;
 use std::test::Fail;
 
+mod lexemes;
 mod programs;
 mod runs;
 mod updates;

@@ -522,7 +522,7 @@ const INTEGERS: [(&str, &str); 9] = [
 ];
 
 /// Texts that are no unit.
-const OTHER_TEXTS: [(&str, &str); 36] = [
+const OTHER_TEXTS: [(&str, &str); 34] = [
     ("void main(){if(true)print(1);}", "syntax_error@0+30"),
     (
         "void main(){if(true){}else if(true){}}",
@@ -553,8 +553,6 @@ const OTHER_TEXTS: [(&str, &str); 36] = [
     ("void main(){print(print(1));}", "syntax_error@0+29"),
     ("void main(){void x;}", "syntax_error@0+20"),
     ("void main(){;}", "syntax_error@0+14"),
-    ("void main(){{}", "syntax_error@0+14"),
-    ("void main(){}}", "syntax_error@0+14"),
     ("void main(){int null;}", "syntax_error@0+22"),
     ("void main(){true=false;}", "syntax_error@0+24"),
     ("void main(){int else=1;}", "syntax_error@0+24"),
