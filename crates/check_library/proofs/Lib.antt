@@ -1,6 +1,7 @@
 mod Examples
 pub mod BalanceLemmas
 pub mod TokenCounts
+pub mod WholeGroups
 pub mod LiteralLemmas
 pub mod ParseLemmas
 pub mod Lowering

@@ -1,7 +1,16 @@
-//! Laws of the diagnostics of a text, over their definitions alone.
+//! Laws of the tokens that the grammar reads and of the diagnostics of a text, over their definitions
+//! alone.
 
-ghost use Rattle.std.specs.Prelude.{◌≡◌, []};
+ghost use Rattle.std.specs.Prelude.{◌≡◌, [], map};
+ghost use Rattle.dart_tokens.specs.Groups.{faults_of as faults_of_groups};
+ghost use Rattle.dart_scan.specs.Scanned.{tokens_of, words_of};
 ghost use Rattle.check_library.specs.Diagnostics.{diagnostics, faults_in};
+ghost use Rattle.check_library.specs.Tokens.{token_of, grammar_tokens};
+
+/// Where no bracket of a text is wrong, the grammar reads the tokens of the text, one for one.
+pub fn a_text_of_whole_groups_is_read_token_by_token(_text: &[u8])
+    ensures { faults_of_groups (tokens_of _text.now) ≡ [] → grammar_tokens _text.now ≡ map (token_of (words_of _text.now)) (tokens_of _text.now) }
+{}
 
 /// A text of which nothing is reported has nothing wrong with it: the report leaves out repeats alone.
 pub fn no_diagnostics_means_no_faults(_text: &[u8])
