@@ -5,13 +5,13 @@ pub mod CommentLaws
 pub mod PieceLemmas
 pub mod PlainLemmas
 pub mod FormLemmas
-pub mod MarkSizes
 pub mod StepLemmas
 pub mod ResumeLemmas
 pub mod RangeLemmas
 pub mod LineLemmas
 pub mod GrowthLemmas
 pub mod CuttingLemmas
+pub mod CuttingViews
 pub mod LawLemmas
 pub mod StringLaws
 pub mod ValueExamples

@@ -8,10 +8,9 @@ use Rattle.std.proofs.lemmas.Bool.{false≢true, cond_both, and_parts, or_cases,
 use Rattle.std.proofs.lemmas.List.{get_or-drop}
 use Rattle.std.proofs.lemmas.Str.{IsUtf8-drop, IsCharBoundary-after_ascii, IsCharBoundary-from_take}
 use Rattle.dart_tokens.specs.declared.token.Kind.{Kind}
-use Rattle.dart_tokens.specs.Marks.{marks}
+use Rattle.dart_tokens.specs.Marks.{marks, first_among}
 use Rattle.dart_scan.specs.Characters.{is_digit, is_hexadecimal_digit, is_identifier_start, is_identifier_part, is_blank, is_within_line, is_beyond_ascii}
 use Rattle.dart_scan.specs.Lexemes.{begins, run, word_size, before_digits, hexadecimal_size, integer_size, fraction_size, sign_size, exponent_size, double_size, mark_size}
-use Rattle.dart_scan.proofs.MarkSizes.{first_size, mark_size-first}
 use Rattle.dart_scan.specs.Comments.{comment_end}
 use Rattle.dart_scan.specs.Pieces.{comment_piece, longer, lexeme_at, piece_at}
 use Rattle.dart_scan.specs.declared.piece.Class.TheVariants.{Gap, UnterminatedComment, IllegalCharacter, BeyondAscii, Word, Integer, Double, Mark}
@@ -78,14 +77,15 @@ double-text text u =
     chosen (fraction == 0 && (whole == 0 || exponent == 0)) 0 (whole + (fraction + exponent)) text (λ h. u)
     (λ h. subst P sum (behind_both (whole + fraction) exponent text (exponent-text (drop (whole + fraction) text) behind_fraction)))
 
-first-text : (table : List (List ℕ × Kind)) (text : List ℕ) → list_all (λ row. all_ascii row.0) table ≡ true → IsUtf8 text → IsTextFrom (first_size table text) text
+first-text : (table : List (List ℕ × Kind)) (text : List ℕ) → list_all (λ row. all_ascii row.0) table ≡ true → IsUtf8 text → IsTextFrom (option_map_or (λ found. found.1) (first_among table text) 0) text
 first-text [] text a u = u
 first-text (mark ∷ more) text a u =
     let ascii = and_parts _ _ a in
-    chosen (begins text mark.0) (length mark.0) (first_size more text) text (λ h. begins-text mark.0 text ascii.0 h u) (λ h. first-text more text ascii.1 u)
+    cond_both (begins text mark.0) (Some (mark.1, length mark.0)) (first_among more text) (λ found. IsTextFrom (option_map_or (λ mark. mark.1) found 0) text)
+    (λ h. begins-text mark.0 text ascii.0 h u) (λ _. first-text more text ascii.1 u)
 
 mark-text : (text : List ℕ) → IsUtf8 text → IsTextFrom (mark_size text) text
-mark-text text u = rw (mark_size-first text) (first-text marks text refl u)
+mark-text text u = first-text marks text refl u
 
 -- what isn't beyond ASCII is ASCII
 stops_beyond : (byte : ℕ) → is_beyond_ascii byte ≡ false → byte < 128

@@ -1,6 +1,7 @@
 -- Every piece of a text in UTF-8 is a text.
 use Rattle.std.proofs.Common.{◌≡◌, ℕ, zero, suc, ◌+◌, ◌-◌, ◌<◌, ◌==◌, Bool, true, false, ◌&&◌, List, [], ◌∷◌, ◌++◌, length, take, drop, take_while, get_or, min, nat_lt, codes, Option, Some, None, option_map, option_and_then, if◌then◌else◌, refl, sym, subst, arith, inl, inr, length-drop}
 use Rattle.std.specs.List.{list_all}
+use Rattle.std.specs.Prelude.{All}
 use Rattle.std.specs.Option.{option_map_or}
 use Rattle.std.specs.Str.{IsUtf8, IsCharBoundary}
 use Rattle.std.proofs.lemmas.Bool.{cond_both, and_parts, or_cases, cases_lt, eqb-true, ltb-true}
@@ -241,3 +242,9 @@ pieces_within-texts (suc steps) first (byte ∷ text) u =
 pub pieces-texts : (text : List ℕ) → IsUtf8 text → AreTexts (pieces text)
 unfolding pieces
 pieces-texts text u = pieces_within-texts (length text) true text u
+
+-- the same, of each piece
+pub texts-all : (spelled : List Spelled) → AreTexts spelled → All (λ piece. IsUtf8 piece.1) spelled
+texts-all [] h k d within = absurd (omega (arith, within))
+texts-all (piece ∷ more) h zero d within = h.0
+texts-all (piece ∷ more) h (suc k) d within = texts-all more h.1 k d (omega (arith, within))

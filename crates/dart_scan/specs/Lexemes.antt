@@ -52,4 +52,4 @@ double_size text =
 
 -- A mark of punctuation.
 abbrev pub mark_size : List ℕ → ℕ
-mark_size text = option_map_or (λ mark. mark.1) (first_mark text) 0
+mark_size text = option_map_or (λ found. found.1) (first_mark text) 0

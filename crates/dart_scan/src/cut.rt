@@ -9,7 +9,6 @@ mod ending;
 pub mod form;
 mod lexeme;
 mod line;
-mod mark;
 mod name;
 mod number;
 mod strings;

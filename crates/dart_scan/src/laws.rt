@@ -3,6 +3,7 @@
 ghost use Rattle.std.specs.Prelude.{◌≡◌, ◌⊎◌, ◌<◌, ◌≤◌, [], ◌∷◌, ◌++◌, length, take, drop, codes, false, All, IsTrue, IfSome, Some};
 ghost use Rattle.std.specs.List.{flat_map};
 ghost use Rattle.std.specs.Option.{ForSome};
+ghost use Rattle.std.specs.Str.{IsUtf8};
 ghost use Rattle.dart_tokens.specs.Marks.{marks};
 ghost use Rattle.dart_scan.specs.declared.piece.Class.TheVariants.{UnterminatedString};
 ghost use Rattle.dart_scan.specs.Characters.{is_within_line};
@@ -16,6 +17,11 @@ ghost use Rattle.dart_scan.specs.WholeStrings.{IsWhole};
 pub fn pieces_cover_a_text(_text: &[u8])
     ensures cover { flat_map (λ piece. piece.1) (pieces _text.now) ≡ _text.now }
     ensures some { All (λ piece. 0 < length piece.1) (pieces _text.now) }
+{}
+
+/// Each piece of a text in UTF-8 is in UTF-8: none begins or ends within a character.
+pub fn pieces_of_a_text_are_texts(_text: &[u8])
+    ensures { IsUtf8 _text.now → All (λ piece. IsUtf8 piece.1) (pieces _text.now) }
 {}
 
 /// A lexeme is the longest at its place: no word, integer, double or mark that the text begins with

@@ -1,6 +1,6 @@
 //! Marks of punctuation.
 
-ghost use Rattle.std.specs.Prelude.{◌≡◌};
+ghost use Rattle.std.specs.Prelude.{◌≡◌, ◌≤◌, IfSome, length};
 ghost use Rattle.dart_tokens.specs.Marks.{first_mark};
 
 use crate::token::Kind;
@@ -8,7 +8,8 @@ use crate::token::Kind;
 /// The mark that a text begins with: its kind, and how many bytes it has; none, where it begins with
 /// none. Of several the longest is taken.
 pub fn mark_at(text: &[u8]) -> Option<(Kind, usize)>
-    ensures { result ≡ first_mark text.now }
+    ensures mark { result ≡ first_mark text.now }
+    ensures within { IfSome result (λ found. found.1 ≤ length text.now) }
 {
     match text {
         [b'.', b'.', b'.', ..] => Some((Kind::PeriodPeriodPeriod, 3)),

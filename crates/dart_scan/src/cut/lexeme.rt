@@ -2,13 +2,13 @@
 
 ghost use Rattle.std.specs.Prelude.{◌≡◌, ◌+◌, ◌<◌, ◌≤◌, IsTrue, codes, drop, false, length};
 ghost use Rattle.dart_scan.specs.Characters.{is_identifier_start, is_identifier_part, is_blank, is_within_line, is_beyond_ascii};
-ghost use Rattle.dart_scan.specs.Lexemes.{begins, run, word_size};
+ghost use Rattle.dart_scan.specs.Lexemes.{begins, mark_size, run, word_size};
 ghost use Rattle.dart_scan.specs.Pieces.{longer, lexeme_at, comment_piece, piece_at};
 
 use crate::cut::comment::comment_size;
-use crate::cut::mark::mark_size;
 use crate::cut::number::{digit, double_size, integer_size};
 use crate::piece::{Class, Piece};
+use dart_tokens::mark_at;
 
 /// An ASCII letter, `_` or `$`.
 pub fn identifier_start(byte: u8) -> bool
@@ -45,6 +45,17 @@ fn word_size(text: &[u8]) -> usize
         1 + identifier_parts(rest)
     } else {
         0
+    }
+}
+
+/// How many bytes the mark of punctuation has that the text begins with; none: 0.
+fn mark_size(text: &[u8]) -> usize
+    ensures size { result ≡ mark_size text.now }
+    ensures within { result ≤ length text.now }
+{
+    match mark_at(text) {
+        Some((_, size)) => size,
+        None => 0,
     }
 }
 

@@ -1,5 +1,5 @@
 use Rattle.std.proofs.Common.{refl, sym, ◌∙◌}
-use Rattle.dart_scan.proofs.CuttingLemmas.{marked-begins, fresh-begins}
+use Rattle.dart_scan.proofs.CuttingViews.{marked-begins, fresh-begins}
 use Rattle.dart_scan.proofs.cut.cutting.Cutting.begin.Goals as goal
 
 pub returns-then-starts_with-clause-sound : goal.returns-then-starts_with-clause-sound

@@ -1,4 +1,4 @@
-use Rattle.dart_scan.proofs.CuttingLemmas.{on-ok, brace-steps}
+use Rattle.dart_scan.proofs.CuttingViews.{on-ok, brace-steps}
 use Rattle.dart_scan.proofs.cut.cutting.Cutting.brace.Goals as goal
 
 pub returns-in-Some : goal.returns-in-Some

@@ -2,7 +2,8 @@ use Rattle.std.proofs.Common.{false, length, sym, ap, subst, ◌∙◌, arith}
 use Rattle.dart_scan.specs.Strings.{string_form}
 use Rattle.dart_scan.specs.Pieces.{piece_at, braces_behind}
 use Rattle.dart_scan.specs.Cutting.{Steps}
-use Rattle.dart_scan.proofs.CuttingLemmas.{enters, passes, on-ok, rest-size, braces-within}
+use Rattle.dart_scan.proofs.CuttingLemmas.{enters, passes, rest-size, braces-within}
+use Rattle.dart_scan.proofs.CuttingViews.{on-ok}
 use Rattle.dart_scan.proofs.cut.cutting.Cutting.next.Goals as goal
 
 pub piece_at-requires : goal.piece_at-requires

@@ -1,7 +1,7 @@
 use Rattle.std.proofs.Common.{◌≡◌, ◌==◌, true, length, arith}
 use Rattle.std.proofs.lemmas.Bool.Decides.{nat_tests}
 use Rattle.dart_scan.specs.Openings.{shape}
-use Rattle.dart_scan.proofs.CuttingLemmas.{reach-is}
+use Rattle.dart_scan.proofs.CuttingViews.{reach-is}
 use Rattle.dart_scan.proofs.cut.cutting.Cutting.reach.Goals as goal
 
 pub returns-clause-reach : goal.returns-clause-reach

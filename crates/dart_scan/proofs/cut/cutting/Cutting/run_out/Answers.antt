@@ -1,4 +1,4 @@
-use Rattle.dart_scan.proofs.CuttingLemmas.{run-start, run-end, run-steps, run-done}
+use Rattle.dart_scan.proofs.CuttingViews.{run-start, run-end, run-steps, run-done}
 use Rattle.dart_scan.proofs.cut.cutting.Cutting.run_out.Goals as goal
 
 pub abandon-requires-clause-start : goal.abandon-requires-clause-start

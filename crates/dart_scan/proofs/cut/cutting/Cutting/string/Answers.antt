@@ -1,5 +1,6 @@
 use Rattle.std.proofs.Common.{arith}
-use Rattle.dart_scan.proofs.CuttingLemmas.{on-ok, begins-before, string-quotes, string-expression, string-name, string-never}
+use Rattle.dart_scan.proofs.CuttingLemmas.{begins-before}
+use Rattle.dart_scan.proofs.CuttingViews.{on-ok, string-quotes, string-expression, string-name, string-never}
 use Rattle.dart_scan.proofs.cut.cutting.Cutting.string.Goals as goal
 
 pub abandon-requires-clause-start : goal.abandon-requires-clause-start
