@@ -1,5 +1,6 @@
 -- The tree of a text in which nothing is wrong.
-use Rattle.std.proofs.Common.{◌≡◌, ℕ, List, [], Option, Some, None, option_map, subst, refl, sym, ap, ◌∙◌}
+use Rattle.std.proofs.Common.{◌≡◌, ℕ, List, [], ◌∷◌, ◌++◌, map, length, Option, Some, None, option_map, subst, refl, sym, ap, ◌∙◌}
+use Rattle.std.proofs.lemmas.List.{length-map}
 use Rattle.std.specs.Prelude.{◌≢◌, AllPairs}
 use Rattle.std.specs.Option.{option_map_or}
 use Rattle.dart_tree.specs.Tree.{Tree}
@@ -7,8 +8,15 @@ use Rattle.dart_tree.specs.Numbers.{numbered}
 use Rattle.flow_model.specs.Sub.{no_rows}
 use Rattle.judgement.specs.Judgement.{faults_of}
 use Rattle.check_library.specs.Grammar.{tree_of}
-use Rattle.check_library.specs.Diagnostics.{no_unit, faults_in}
-use Rattle.check_library.proofs.Reports.{tree_faults-none}
+use Rattle.dart_tokens.specs.Groups.{faults_of as faults_of_groups}
+use Rattle.dart_scan.specs.Scanned.{tokens_of, words_of, faults_of as faults_of_pieces}
+use Rattle.judgement.specs.declared.Fault.{Fault}
+use Rattle.check_library.specs.Diagnostics.{no_unit, fault_of_piece, fault_of_group, lexical_faults, tree_faults, faults_in, diagnostics}
+use Rattle.check_library.specs.Order.{sorted_faults}
+use Rattle.check_library.specs.declared.token.Token.{Token}
+use Rattle.check_library.specs.Tokens.{token_of, grammar_tokens}
+use Rattle.check_library.proofs.Reports.{none_found, tree_faults-none}
+use Rattle.check_library.proofs.WholeGroups.{read_one_for_one}
 use Rattle.elaborate.specs.Frame.{locals_in}
 use Rattle.elaborate.proofs.Distinct.{numbered_distinct}
 
@@ -24,3 +32,28 @@ distinct_if_numbered (Some t) tree is = let same : numbered 0 t ≡ tree = cc in
 -- and so are those of the tree of a text
 pub tree_distinct : (text : List ℕ) (tree : Tree) → tree_of text ≡ Some tree → AllPairs (λ a b. a.var.0 ≢ b.var.0) (locals_in tree)
 tree_distinct text tree is = distinct_if_numbered _ tree is
+
+-- nothing is wrong with another text that has the same diagnostics
+pub faults-none_again : (text other : List ℕ) (reported : List Fault) → reported ≡ diagnostics text → reported ≡ diagnostics other → faults_in text ≡ [] → faults_in other ≡ []
+unfolding diagnostics
+faults-none_again text other reported of_text of_other none = none_found (faults_in other) (sym of_other ∙ of_text ∙ ap sorted_faults none)
+
+left_of_none : (xs ys : List Fault) → xs ++ ys ≡ [] → xs ≡ []
+left_of_none [] ys none = refl
+left_of_none (x ∷ xs) ys none = absurd (cc)
+
+right_of_none : (xs ys : List Fault) → xs ++ ys ≡ [] → ys ≡ []
+right_of_none [] ys none = none
+right_of_none (x ∷ xs) ys none = absurd (cc)
+
+none_mapped : {X : Type 0} (f : X → Fault) (xs : List X) → map f xs ≡ [] → xs ≡ []
+none_mapped f [] none = refl
+none_mapped f (x ∷ xs) none = absurd (cc)
+
+-- where nothing is wrong, the grammar reads as many tokens as the text has
+pub tokens_counted : (text : List ℕ) → faults_in text ≡ [] → length (grammar_tokens text) ≡ length (tokens_of text)
+tokens_counted text none =
+    let lexical : lexical_faults text ≡ [] = left_of_none (lexical_faults text) (tree_faults text) none in
+    let brackets = right_of_none (map fault_of_piece (faults_of_pieces text)) (map (fault_of_group (tokens_of text)) (faults_of_groups (tokens_of text))) lexical in
+    let whole : faults_of_groups (tokens_of text) ≡ [] = none_mapped (fault_of_group (tokens_of text)) (faults_of_groups (tokens_of text)) brackets in
+    ap (λ (tokens : List Token). length tokens) (read_one_for_one text whole) ∙ length-map (tokens_of text) (token_of (words_of text))

@@ -25,7 +25,7 @@ ghost use Rattle.flow_model.specs.Sub.{no_rows};
 ghost use Rattle.flow_model.specs.Flow.{start_of};
 ghost use Rattle.judgement.specs.Typed.{typed_unit};
 ghost use Rattle.check_library.specs.Checked.{IsCheckOf, IsFaultless};
-ghost use Rattle.check_library.specs.Tokens.{grammar_tokens};
+ghost use Rattle.dart_scan.specs.Scanned.{tokens_of};
 ghost use Rattle.core_check.specs.WellFormed.{IsWellFormed};
 ghost use Rattle.core_check.specs.Accepted.{IsAccepted};
 ghost use Rattle.elaborate.specs.Frame.{frame_of};
@@ -51,7 +51,7 @@ pub fn elaborate(alloc: Global, checked: &Checked) -> Result<CoreProgram, AllocE
     ensures program { IfOk result (λ program. IfSome checked.now.unit (λ unit. IsElaborationOf unit program)) }
     ensures well_formed { IfOk result IsWellFormed }
     ensures accepted { IfOk result IsAccepted }
-    ensures few { IfOk result (λ program. (text : List ℕ) → IsCheckOf text checked.now → length program.points ≤ 64 * length (grammar_tokens text)) }
+    ensures few { IfOk result (λ program. (text : List ℕ) → IsCheckOf text checked.now → length program.points ≤ 64 * length (tokens_of text)) }
 {
     match &checked.unit {
         Some(unit) => {

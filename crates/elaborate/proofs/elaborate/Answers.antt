@@ -1,7 +1,7 @@
 use Rattle.std.proofs.Common.{◌≡◌, ◌≤◌, Some, length, sym, ◌∙◌, arith}
 use Rattle.check_library.specs.Grammar.{tree_of}
 use Rattle.elaborate.proofs.Accepted.{program_accepted, program_well_formed}
-use Rattle.elaborate.proofs.Faultless.{tree_distinct, tree_faultless}
+use Rattle.elaborate.proofs.Faultless.{tree_distinct, tree_faultless, faults-none_again, tokens_counted}
 use Rattle.check_library.proofs.TokenCounts.{grammar_tokens-few}
 use Rattle.elaborate.proofs.elaborate.Goals as goal
 
@@ -30,3 +30,11 @@ returns-clause-accepted c =
     let found = c.in_ok-program-in-Some.ensures in
     let is : tree_of c.requires.text ≡ Some tree = sym c.requires.check.unit ∙ c.in-Some.is in
     program_accepted tree c.in_ok-program-in-Some.program found.form (tree_distinct c.requires.text tree is) (tree_faultless c.requires.text tree c.requires.none is) found.program
+
+-- and has at most 64 points for each token of the text
+pub returns-clause-few : goal.returns-clause-few
+returns-clause-few c = λ text check.
+    let nodes = check.few c.in-Some.unit c.in-Some.is in
+    let built = c.in_ok-program-in-Some.ensures.built in
+    let none = faults-none_again c.requires.text text _ c.requires.check.diagnostics check.diagnostics c.requires.none in
+    omega (arith, nodes, tokens_counted text none, built.few)
