@@ -1,0 +1,4 @@
+use Rattle.dart_types.proofs.hierarchy.superinterfaces_of.Goals as goal
+
+pub returns : goal.returns
+returns c = ?

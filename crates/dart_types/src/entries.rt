@@ -1,0 +1,71 @@
+//! Rows in the order of their ids, and how one is found.
+
+ghost use Rattle.std.specs.Prelude.{◌≡◌, ◌≤◌, AllPairs, true, false, find, length};
+ghost use Rattle.std.specs.List.Sorted.{IsPartitionPoint};
+ghost use Rattle.std.specs.Option.{option_copied, option_map};
+ghost use Rattle.dart_types.specs.Same.{same_class, same_var};
+ghost use Rattle.dart_types.specs.WellFormed.{class_before, var_before};
+
+use crate::class_rows::{ClassRow, VarRow};
+use crate::ids::{ClassId, VarId};
+use crate::superinterfaces::Superinterface;
+use crate::types::DartType;
+
+/// A class with its superinterfaces, in the order of their classes.
+#[derive(Drop)]
+pub(crate) struct ClassEntry {
+    pub(crate) row: ClassRow,
+    pub(crate) superinterfaces: Vec<Superinterface>,
+}
+
+/// The entry of a class, if it has one.
+pub(crate) fn find_entry(entries: &[ClassEntry], class: ClassId) -> Option<&ClassEntry>
+    requires { AllPairs (λ a b. class_before a.row.id b.row.id ≡ true) entries.now }
+    ensures { option_copied result ≡ find (λ entry. same_class entry.row.id class) entries.now }
+{
+    let at = place_of_class(entries, class);
+    if at >= entries.len() {
+        return None;
+    }
+    let entry = &entries[at];
+    if entry.row.id == class {
+        Some(entry)
+    } else {
+        None
+    }
+}
+
+/// The bound of a type variable, if it has one.
+pub(crate) fn find_bound(rows: &[VarRow], var: VarId) -> Option<&DartType>
+    requires { AllPairs (λ a b. var_before a.var b.var ≡ true) rows.now }
+    ensures { option_copied result ≡ option_map (λ row. row.bound) (find (λ row. same_var row.var var) rows.now) }
+{
+    let at = place_of_var(rows, var);
+    if at >= rows.len() {
+        return None;
+    }
+    let row = &rows[at];
+    if row.var == var {
+        Some(&row.bound)
+    } else {
+        None
+    }
+}
+
+// How many entries have smaller ids.
+fn place_of_class(entries: &[ClassEntry], class: ClassId) -> usize
+    requires { AllPairs (λ a b. class_before a.row.id b.row.id ≡ true) entries.now }
+    ensures bound { result ≤ length entries.now }
+    ensures parts { IsPartitionPoint (λ e. class_before e.row.id class ≡ true) (λ e. class_before e.row.id class ≡ false) entries.now result }
+{
+    entries.partition_point(|entry| entry.row.id < class)
+}
+
+// How many rows have smaller ids.
+fn place_of_var(rows: &[VarRow], var: VarId) -> usize
+    requires { AllPairs (λ a b. var_before a.var b.var ≡ true) rows.now }
+    ensures bound { result ≤ length rows.now }
+    ensures parts { IsPartitionPoint (λ r. var_before r.var var ≡ true) (λ r. var_before r.var var ≡ false) rows.now result }
+{
+    rows.partition_point(|row| row.var < var)
+}
