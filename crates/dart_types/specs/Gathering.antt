@@ -1,5 +1,5 @@
 -- Superinterfaces that are gathered in a list.
-use Rattle.std.specs.Prelude.{◌≡◌, ◌<◌, ◌≤◌, ◌⊎◌, ℕ, List, Some, Contains, All, AllPairs, false}
+use Rattle.std.specs.Prelude.{◌≡◌, ◌<◌, ◌≤◌, ◌⊎◌, ℕ, List, take, Some, Contains, All, AllPairs, false}
 use Rattle.dart_types.specs.Ty.{Ty, Types, interface}
 use Rattle.dart_types.specs.Sizes.{size_of, held}
 use Rattle.dart_types.specs.Substitution.{put, by_params}
@@ -67,3 +67,8 @@ IsPut params args list t = (s : Superinterface) × Contains list s × (t ≡ nor
 abbrev pub AreKnownBelow : ℕ → List ClassEntry → List VarRow → Type 0
 AreKnownBelow depth entries vars =
     All (λ entry. entry.row.depth < depth → AreSuperinterfaces (table_of entries vars) entry.row.id entry.superinterfaces.items) entries
+
+-- beside each class that is less far from Object stand its superinterfaces, and beside those of the first entries that are as far
+pub record AreKnownTo (depth i : ℕ) (entries : List ClassEntry) (vars : List VarRow) : Type 0 where
+  pub below : AreKnownBelow depth entries vars
+  pub passed : All (λ (entry : ClassEntry). entry.row.depth ≡ depth → AreSuperinterfaces (table_of entries vars) entry.row.id entry.superinterfaces.items) (take i entries)

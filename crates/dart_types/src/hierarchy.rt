@@ -111,8 +111,8 @@ fn gather_supers(
     Ok(())
 }
 
-// The superinterfaces of a class, where those of all that are less far from `Object` are known.
-fn superinterfaces_of(
+/// The superinterfaces of a class, where those of all that are less far from `Object` are known.
+pub(crate) fn superinterfaces_of(
     alloc: Global,
     row: &ClassRow,
     entries: &[ClassEntry],
@@ -127,35 +127,4 @@ fn superinterfaces_of(
     let mut list = Vec::new(alloc);
     gather_supers(alloc, row, entries, vars, &mut list)?;
     Ok(list)
-}
-
-// Puts their superinterfaces beside the classes of one depth, where those of all that are less far
-// from `Object` are known.
-fn fill(
-    alloc: Global,
-    depth: u64,
-    entries: &mut [ClassEntry],
-    vars: &[VarRow],
-) -> Result<(), RowsRefusal>
-    requires formed { IsWellFormed (table_of entries.old vars.now) }
-    requires known { AreKnownBelow depth entries.old vars.now }
-    ensures rows { table_of entries.new vars.now ≡ table_of entries.old vars.now }
-    ensures ok { OnOk result (AreKnownBelow (depth + 1) entries.new vars.now) }
-    ensures err { IfErr result (IsCauseIn (table_of entries.old vars.now)) }
-{
-    for i in 0..entries.len() {
-        if entries[i].row.depth == depth {
-            let list = superinterfaces_of(alloc, &entries[i].row, entries, vars)?;
-            put_beside(&mut entries[i], list);
-        }
-    }
-    Ok(())
-}
-
-// Puts its superinterfaces beside a class.
-fn put_beside(entry: &mut ClassEntry, list: Vec<Superinterface>)
-    ensures row { entry.new.row ≡ entry.old.row }
-    ensures list { entry.new.superinterfaces.items ≡ list.items }
-{
-    entry.superinterfaces = list;
 }

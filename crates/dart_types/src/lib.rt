@@ -12,6 +12,7 @@ mod class_rows;
 mod copies;
 mod entries;
 mod equality;
+mod filling;
 mod gathering;
 mod hierarchy;
 mod ids;

@@ -10,12 +10,13 @@ ghost use Rattle.dart_types.specs.RowsCause.{IsCauseIn};
 ghost use Rattle.dart_types.specs.FormedProp.{IsWellFormed-prop};
 
 use crate::class_rows::{ClassRow, VarRow};
-use crate::entries::{ClassEntry, find_bound, find_entry};
+use crate::entries::{ClassEntry, copy_entries, copy_vars, entries_of, find_bound, find_entry};
+use crate::filling::fill_all;
 use crate::ids::{ClassId, VarId};
 use crate::refusal::RowsRefusal;
 use crate::superinterfaces::Superinterface;
 use crate::types::DartType;
-use std::alloc::Global;
+use std::alloc::{AllocError, Global};
 use std::marker::Model;
 
 /// Well-formed rows of classes and type variables, in the order of their ids. One is found by a
@@ -49,16 +50,30 @@ impl Rows {
     /// lists are in the order of their ids. `TooLarge` comes exactly where some class has a
     /// superinterface, in its own parameters, in which more than `NODE_LIMIT` types stand.
     pub fn new(
-        _alloc: Global,
-        _classes: Vec<ClassRow>,
-        _vars: Vec<VarRow>,
+        alloc: Global,
+        classes: Vec<ClassRow>,
+        vars: Vec<VarRow>,
     ) -> Result<Rows, RowsRefusal>
-        requires { IsWellFormed (record { classes = _classes.items; vars = _vars.items }) }
-        ensures ok { IfOk result (λ rows. rows.table ≡ record { classes = _classes.items; vars = _vars.items }) }
-        ensures ok_within_limit { OnOk result (AreWithinLimit (record { classes = _classes.items; vars = _vars.items })) }
-        ensures err { IfErr result (IsCauseIn (record { classes = _classes.items; vars = _vars.items })) }
+        requires { IsWellFormed (record { classes = classes.items; vars = vars.items }) }
+        ensures ok { IfOk result (λ rows. rows.table ≡ record { classes = classes.items; vars = vars.items }) }
+        ensures ok_within_limit { OnOk result (AreWithinLimit (record { classes = classes.items; vars = vars.items })) }
+        ensures err { IfErr result (IsCauseIn (record { classes = classes.items; vars = vars.items })) }
     {
-        Err(RowsRefusal::Memory)
+        let mut entries = entries_of(alloc, classes)?;
+        fill_all(alloc, &mut entries, &vars)?;
+        Ok(Rows {
+            classes: entries,
+            vars,
+        })
+    }
+
+    /// A second value of the same rows.
+    pub fn copy(&self, alloc: Global) -> Result<Rows, AllocError>
+        ensures { IfOk result (λ copied. copied ≡ self.now) }
+    {
+        let classes = copy_entries(alloc, &self.classes)?;
+        let vars = copy_vars(alloc, &self.vars)?;
+        Ok(Rows { classes, vars })
     }
 
     /// The row of a class, if it has one. It takes no memory.
