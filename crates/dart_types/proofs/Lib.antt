@@ -32,3 +32,4 @@ pub mod FunctionSteps
 pub mod SeenFalls
 pub mod NameSteps
 pub mod Derives
+pub mod Filled
