@@ -33,3 +33,4 @@ pub mod SeenFalls
 pub mod NameSteps
 pub mod Derives
 pub mod Filled
+pub mod RowTests
