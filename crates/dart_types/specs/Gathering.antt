@@ -1,0 +1,74 @@
+-- Superinterfaces that are gathered in a list.
+use Rattle.std.specs.Prelude.{◌≡◌, ◌<◌, ◌≤◌, ◌⊎◌, ℕ, List, take, Some, Contains, All, AllPairs, false}
+use Rattle.dart_types.specs.Ty.{Ty, Types, interface}
+use Rattle.dart_types.specs.Sizes.{size_of, held}
+use Rattle.dart_types.specs.Substitution.{put, by_params}
+use Rattle.dart_types.specs.Normal.{normal}
+use Rattle.dart_types.specs.Tables.{Table, class_of}
+use Rattle.dart_types.specs.WellFormed.{class_before}
+use Rattle.dart_types.specs.Superinterfaces.{IsSuperinterface, interface_of, AreSuperinterfaces}
+use Rattle.dart_types.specs.Entries.{table_of}
+use Rattle.dart_types.specs.Replacements.{replaced}
+use Rattle.dart_types.specs.declared.ids.ClassId.{ClassId}
+use Rattle.dart_types.specs.declared.ids.VarId.{VarId}
+use Rattle.dart_types.specs.declared.class_rows.ClassRow.{ClassRow}
+use Rattle.dart_types.specs.declared.class_rows.VarRow.{VarRow}
+use Rattle.dart_types.specs.declared.entries.ClassEntry.{ClassEntry}
+use Rattle.dart_types.specs.declared.replacements.Replacement.{Replacement}
+use Rattle.dart_types.specs.declared.superinterfaces.Superinterface.{Superinterface}
+use Rattle.dart_types.specs.declared.refusal.TheConstants.{NODE_LIMIT}
+use Rattle.dart_types.specs.declared.refusal.RowsRefusal.{RowsRefusal}
+use Rattle.dart_types.specs.declared.refusal.RowsRefusal.TheVariants.{TooLarge, Memory}
+
+-- the superinterfaces stand in the order of their classes
+abbrev pub AreOrdered : List Superinterface → Type 0
+AreOrdered list = AllPairs (λ (a b : Superinterface). class_before b.class a.class ≡ false) list
+
+-- none has more nodes than a type may have
+abbrev pub AreFitting : List Superinterface → Type 0
+AreFitting list = All (λ (s : Superinterface). size_of (interface_of s) ≤ NODE_LIMIT) list
+
+-- the later list has those of the earlier one and these types, and no others; it keeps the order and the limit
+pub record Adds (wanted : Ty → Type 0) (before after : List Superinterface) : Type 0 where
+  pub kept : (s : Superinterface) → Contains before s → Contains after s
+  pub added : (t : Ty) → wanted t → (s : Superinterface) × Contains after s × (interface_of s ≡ t)
+  pub no_other : (s : Superinterface) → Contains after s → Contains before s ⊎ wanted (interface_of s)
+  pub in_order : AreOrdered before → AreOrdered after
+  pub fitting : AreFitting before → AreFitting after
+
+-- a refusal names the class, and one of these types has more nodes than a type may have, and so many; only want of memory is free
+abbrev pub IsCauseAmong : (Ty → Type 0) → ClassId → RowsRefusal → Type 0
+IsCauseAmong wanted c (TooLarge class nodes) =
+    (class ≡ c) × ((t : Ty) × wanted t × (NODE_LIMIT < size_of t) × (nodes ≡ held (size_of t)))
+IsCauseAmong wanted c Memory = Unit {0}
+
+-- the type is one of these superinterfaces with the replacements put in
+abbrev pub IsReplaced : List Replacement → List Superinterface → Ty → Type 0
+IsReplaced replacements list t = (s : Superinterface) × Contains list s × (t ≡ replaced replacements (interface_of s))
+
+-- what a direct supertype gives a class: itself, and the superinterfaces of its class with the arguments put in
+pub data IsAbove (table : Table) : Ty → Ty → Type 0 where
+  itself : {v : Ty} → IsAbove table v v
+  beyond : {d : ClassId} {ts : Types} {row : ClassRow} {u : Ty} → class_of table d ≡ Some row → IsSuperinterface table d u → IsAbove table (interface d ts) (put (by_params row.params ts) u)
+
+-- the type is the normal form of what this direct supertype gives
+abbrev pub IsGivenBy : Table → Ty → Ty → Type 0
+IsGivenBy table v t = (w : Ty) × IsAbove table v w × (t ≡ normal w)
+
+-- the type is the normal form of what one of these direct supertypes gives
+abbrev pub IsGiven : Table → List Ty → Ty → Type 0
+IsGiven table supers t = (v : Ty) × Contains supers v × IsGivenBy table v t
+
+-- the type is the normal form of one of these superinterfaces with the arguments put in for the parameters
+abbrev pub IsPut : List VarId → Types → List Superinterface → Ty → Type 0
+IsPut params args list t = (s : Superinterface) × Contains list s × (t ≡ normal (put (by_params params args) (interface_of s)))
+
+-- beside each class that is less far from Object stand its superinterfaces
+abbrev pub AreKnownBelow : ℕ → List ClassEntry → List VarRow → Type 0
+AreKnownBelow depth entries vars =
+    All (λ entry. entry.row.depth < depth → AreSuperinterfaces (table_of entries vars) entry.row.id entry.superinterfaces.items) entries
+
+-- beside each class that is less far from Object stand its superinterfaces, and beside those of the first entries that are as far
+pub record AreKnownTo (depth i : ℕ) (entries : List ClassEntry) (vars : List VarRow) : Type 0 where
+  pub below : AreKnownBelow depth entries vars
+  pub passed : All (λ (entry : ClassEntry). entry.row.depth ≡ depth → AreSuperinterfaces (table_of entries vars) entry.row.id entry.superinterfaces.items) (take i entries)

@@ -1,0 +1,32 @@
+-- The superinterfaces of a class.
+use Rattle.std.specs.Prelude.{◌≡◌, ◌≤◌, List, ◌↔◌, Contains, All, AllPairs, Some, false}
+use Rattle.dart_types.specs.Ty.{Ty, Types, interface, types_of}
+use Rattle.dart_types.specs.Sizes.{size_of}
+use Rattle.dart_types.specs.Substitution.{put, by_params}
+use Rattle.dart_types.specs.Normal.{normal}
+use Rattle.dart_types.specs.Tables.{Table, class_of}
+use Rattle.dart_types.specs.WellFormed.{class_before}
+use Rattle.dart_types.specs.declared.ids.ClassId.{ClassId}
+use Rattle.dart_types.specs.declared.class_rows.ClassRow.{ClassRow}
+use Rattle.dart_types.specs.declared.superinterfaces.Superinterface.{Superinterface}
+use Rattle.dart_types.specs.declared.refusal.TheConstants.{NODE_LIMIT}
+
+-- a type over the parameters of a class is a superinterface of it: a direct supertype, or one of the class of a superinterface, with the arguments put in
+pub data IsSuperinterface (table : Table) (c : ClassId) : Ty → Type 0 where
+  direct : {row : ClassRow} {v : Ty} → class_of table c ≡ Some row → Contains row.supers v → IsSuperinterface table c v
+  further : {d : ClassId} {ts : Types} {row : ClassRow} {v : Ty} → IsSuperinterface table c (interface d ts) → class_of table d ≡ Some row → Contains row.supers v → IsSuperinterface table c (put (by_params row.params ts) v)
+
+-- the type that an entry of a list of superinterfaces stands for
+abbrev pub interface_of : Superinterface → Ty
+interface_of s = interface s.class (types_of s.args)
+
+-- the list has the normal forms of a class's superinterfaces and no other types, in the order of their classes; none has more nodes than a type may have
+pub record AreSuperinterfaces (table : Table) (c : ClassId) (list : List Superinterface) : Type 0 where
+  pub every : (v : Ty) → IsSuperinterface table c v → (s : Superinterface) × Contains list s × (interface_of s ≡ normal v)
+  pub no_other : (s : Superinterface) → Contains list s → (v : Ty) × IsSuperinterface table c v × (interface_of s ≡ normal v)
+  pub in_order : AllPairs (λ (a b : Superinterface). class_before b.class a.class ≡ false) list
+  pub within_limit : All (λ (s : Superinterface). size_of (interface_of s) ≤ NODE_LIMIT) list
+
+-- no superinterface of a class has more nodes than a type may have
+abbrev pub AreWithinLimit : Table → Type 0
+AreWithinLimit table = (c : ClassId) (v : Ty) → IsSuperinterface table c v → size_of (normal v) ≤ NODE_LIMIT

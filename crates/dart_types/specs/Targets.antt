@@ -1,0 +1,20 @@
+-- What the test of subtyping asks of the right type.
+use Rattle.std.specs.Prelude.{Bool, true, false}
+use Rattle.dart_types.specs.Ty.{Ty, invalid, never, void, null, interface, function, variable, promoted, nullable}
+
+-- whether a type is no `X & U`, not `void` and without `?`
+abbrev pub is_bare : Ty → Bool
+is_bare invalid = true
+is_bare never = true
+is_bare void = false
+is_bare null = true
+is_bare (interface c ts) = true
+is_bare (function r o n e) = true
+is_bare (variable x) = true
+is_bare (promoted x t) = false
+is_bare (nullable t) = false
+
+-- the type, with `?` where null is meant too
+abbrev pub or_nullable : Bool → Ty → Ty
+or_nullable true t = nullable t
+or_nullable false t = t

@@ -1,0 +1,152 @@
+//! Rows in the order of their ids, and how one is found.
+
+ghost use Rattle.std.specs.Prelude.{◌≡◌, ◌≤◌, AllPairs, true, false, find, length, map, IfOk};
+ghost use Rattle.std.specs.List.Sorted.{IsPartitionPoint};
+ghost use Rattle.std.specs.Option.{option_copied, option_map};
+ghost use Rattle.dart_types.specs.Same.{same_class, same_var};
+ghost use Rattle.dart_types.specs.WellFormed.{class_before, var_before};
+
+use crate::class_rows::{ClassRow, VarRow};
+use crate::ids::{ClassId, VarId};
+use crate::superinterfaces::Superinterface;
+use crate::types::DartType;
+use std::alloc::{AllocError, Global};
+
+/// A class with its superinterfaces, in the order of their classes.
+#[derive(Drop)]
+pub(crate) struct ClassEntry {
+    pub(crate) row: ClassRow,
+    pub(crate) superinterfaces: Vec<Superinterface>,
+}
+
+impl ClassEntry {
+    /// A second value of the same row and the same superinterfaces.
+    pub(crate) fn copy(&self, alloc: Global) -> Result<ClassEntry, AllocError>
+        ensures row { IfOk result (λ copied. copied.row ≡ self.now.row) }
+        ensures list { IfOk result (λ copied. copied.superinterfaces.items ≡ self.now.superinterfaces.items) }
+    {
+        let row = self.row.copy(alloc)?;
+        let mut superinterfaces = Vec::new(alloc);
+        for superinterface in &self.superinterfaces {
+            superinterfaces.push(superinterface.copy(alloc)?)?;
+        }
+        Ok(ClassEntry {
+            row,
+            superinterfaces,
+        })
+    }
+}
+
+/// Entries of these rows, with no superinterfaces beside them.
+pub(crate) fn entries_of(alloc: Global, rows: Vec<ClassRow>) -> Result<Vec<ClassEntry>, AllocError>
+    ensures { IfOk result (λ entries. map (λ entry. entry.row) entries.items ≡ rows.items) }
+{
+    let mut entries = Vec::new(alloc);
+    for row in rows {
+        entries.push(ClassEntry {
+            row,
+            superinterfaces: Vec::new(alloc),
+        })?;
+    }
+    Ok(entries)
+}
+
+/// Second values of all entries.
+pub(crate) fn copy_entries(
+    alloc: Global,
+    entries: &[ClassEntry],
+) -> Result<Vec<ClassEntry>, AllocError>
+    ensures rows { IfOk result (λ copies. map (λ entry. entry.row) copies.items ≡ map (λ entry. entry.row) entries.now) }
+    ensures lists { IfOk result (λ copies. map (λ entry. entry.superinterfaces.items) copies.items ≡ map (λ entry. entry.superinterfaces.items) entries.now) }
+{
+    let mut copies = Vec::new(alloc);
+    for entry in entries {
+        copies.push(entry.copy(alloc)?)?;
+    }
+    Ok(copies)
+}
+
+/// Second values of the rows of type variables.
+pub(crate) fn copy_vars(alloc: Global, rows: &[VarRow]) -> Result<Vec<VarRow>, AllocError>
+    ensures { IfOk result (λ copies. copies.items ≡ rows.now) }
+{
+    let mut copies = Vec::new(alloc);
+    for row in rows {
+        copies.push(row.copy(alloc)?)?;
+    }
+    Ok(copies)
+}
+
+/// The entry of a class, if it has one.
+pub(crate) fn find_entry(entries: &[ClassEntry], class: ClassId) -> Option<&ClassEntry>
+    requires { AllPairs (λ a b. class_before a.row.id b.row.id ≡ true) entries.now }
+    ensures { option_copied result ≡ find (λ entry. same_class entry.row.id class) entries.now }
+{
+    let at = place_of_class(entries, class);
+    if at >= entries.len() {
+        return None;
+    }
+    let entry = &entries[at];
+    if entry.row.id == class {
+        Some(entry)
+    } else {
+        None
+    }
+}
+
+/// The bound of a type variable, if it has one.
+pub(crate) fn find_bound(rows: &[VarRow], var: VarId) -> Option<&DartType>
+    requires { AllPairs (λ a b. var_before a.var b.var ≡ true) rows.now }
+    ensures { option_copied result ≡ option_map (λ row. row.bound) (find (λ row. same_var row.var var) rows.now) }
+{
+    let at = place_of_var(rows, var);
+    if at >= rows.len() {
+        return None;
+    }
+    let row = &rows[at];
+    if row.var == var {
+        Some(&row.bound)
+    } else {
+        None
+    }
+}
+
+/// The row of a class, if it has one.
+pub(crate) fn find_row(rows: &[ClassRow], class: ClassId) -> Option<&ClassRow>
+    requires { AllPairs (λ a b. class_before a.id b.id ≡ true) rows.now }
+    ensures { option_copied result ≡ find (λ row. same_class row.id class) rows.now }
+{
+    let at = place_of_row(rows, class);
+    if at >= rows.len() {
+        return None;
+    }
+    let row = &rows[at];
+    if row.id == class { Some(row) } else { None }
+}
+
+// How many entries have smaller ids.
+fn place_of_class(entries: &[ClassEntry], class: ClassId) -> usize
+    requires { AllPairs (λ a b. class_before a.row.id b.row.id ≡ true) entries.now }
+    ensures bound { result ≤ length entries.now }
+    ensures parts { IsPartitionPoint (λ e. class_before e.row.id class ≡ true) (λ e. class_before e.row.id class ≡ false) entries.now result }
+{
+    entries.partition_point(|entry| entry.row.id < class)
+}
+
+// How many rows have smaller ids.
+fn place_of_var(rows: &[VarRow], var: VarId) -> usize
+    requires { AllPairs (λ a b. var_before a.var b.var ≡ true) rows.now }
+    ensures bound { result ≤ length rows.now }
+    ensures parts { IsPartitionPoint (λ r. var_before r.var var ≡ true) (λ r. var_before r.var var ≡ false) rows.now result }
+{
+    rows.partition_point(|row| row.var < var)
+}
+
+// How many rows have smaller ids.
+fn place_of_row(rows: &[ClassRow], class: ClassId) -> usize
+    requires { AllPairs (λ a b. class_before a.id b.id ≡ true) rows.now }
+    ensures bound { result ≤ length rows.now }
+    ensures parts { IsPartitionPoint (λ r. class_before r.id class ≡ true) (λ r. class_before r.id class ≡ false) rows.now result }
+{
+    rows.partition_point(|row| row.id < class)
+}

@@ -1,0 +1,85 @@
+//! The superinterfaces of all classes, formed one distance from `Object` after another.
+
+ghost use Rattle.std.specs.Prelude.{◌≡◌, ◌≤◌, ◌<◌, ◌+◌, IfErr, OnOk, All, length};
+ghost use Rattle.dart_types.specs.WellFormed.{IsWellFormed};
+ghost use Rattle.dart_types.specs.Entries.{table_of, HaveSuperinterfaces};
+ghost use Rattle.dart_types.specs.RowsCause.{IsCauseIn};
+ghost use Rattle.dart_types.specs.Gathering.{AreKnownBelow, AreKnownTo};
+
+use crate::class_rows::VarRow;
+use crate::entries::ClassEntry;
+use crate::hierarchy::superinterfaces_of;
+use crate::refusal::RowsRefusal;
+use std::alloc::Global;
+
+/// Puts their superinterfaces beside all classes.
+pub(crate) fn fill_all(
+    alloc: Global,
+    entries: &mut Vec<ClassEntry>,
+    vars: &[VarRow],
+) -> Result<(), RowsRefusal>
+    requires { IsWellFormed (table_of entries.old.items vars.now) }
+    ensures rows { OnOk result (table_of entries.new.items vars.now ≡ table_of entries.old.items vars.now) }
+    ensures ok { OnOk result (HaveSuperinterfaces entries.new.items vars.now) }
+    ensures err { IfErr result (IsCauseIn (table_of entries.old.items vars.now)) }
+{
+    let top = greatest_depth(entries);
+    for depth in 0..top {
+        fill(alloc, depth, entries, vars)?;
+    }
+    fill(alloc, top, entries, vars)
+}
+
+// The greatest distance of a class from `Object`.
+fn greatest_depth(entries: &[ClassEntry]) -> u64
+    ensures { All (λ entry. entry.row.depth ≤ result) entries.now }
+{
+    let mut greatest: u64 = 0;
+    for entry in entries {
+        greatest = greatest.max(entry.row.depth);
+    }
+    greatest
+}
+
+// Puts their superinterfaces beside the classes of one depth, where those of all that are less far
+// from `Object` are known.
+fn fill(
+    alloc: Global,
+    depth: u64,
+    entries: &mut Vec<ClassEntry>,
+    vars: &[VarRow],
+) -> Result<(), RowsRefusal>
+    requires formed { IsWellFormed (table_of entries.old.items vars.now) }
+    requires known { AreKnownBelow depth entries.old.items vars.now }
+    ensures rows { OnOk result (table_of entries.new.items vars.now ≡ table_of entries.old.items vars.now) }
+    ensures ok { OnOk result (AreKnownBelow (depth + 1) entries.new.items vars.now) }
+    ensures err { IfErr result (IsCauseIn (table_of entries.old.items vars.now)) }
+{
+    for i in 0..entries.len() {
+        fill_at(alloc, depth, i, entries, vars)?;
+    }
+    Ok(())
+}
+
+// Puts its superinterfaces beside the class at a place, if it has this depth.
+fn fill_at(
+    alloc: Global,
+    depth: u64,
+    i: usize,
+    entries: &mut Vec<ClassEntry>,
+    vars: &[VarRow],
+) -> Result<(), RowsRefusal>
+    requires place { i < length entries.old.items }
+    requires formed { IsWellFormed (table_of entries.old.items vars.now) }
+    requires known { AreKnownTo depth i entries.old.items vars.now }
+    ensures rows { OnOk result (table_of entries.new.items vars.now ≡ table_of entries.old.items vars.now) }
+    ensures ok { OnOk result (AreKnownTo depth (i + 1) entries.new.items vars.now) }
+    ensures err { IfErr result (IsCauseIn (table_of entries.old.items vars.now)) }
+{
+    if entries[i].row.depth != depth {
+        return Ok(());
+    }
+    let list = superinterfaces_of(alloc, &entries[i].row, entries, vars)?;
+    entries[i].superinterfaces = list;
+    Ok(())
+}

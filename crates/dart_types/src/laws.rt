@@ -1,0 +1,39 @@
+//! Laws of subtyping and of substitution, for every well-formed rows and all types.
+
+ghost use Rattle.std.specs.Prelude.{◌≡◌};
+ghost use Rattle.dart_types.specs.Normal.{normal};
+ghost use Rattle.dart_types.specs.Scope.{IsInScope, IsWithinBounds};
+ghost use Rattle.dart_types.specs.Sub.{Sub};
+ghost use Rattle.dart_types.specs.Substitution.{put, by_pairs};
+
+use crate::ids::VarId;
+use crate::rows::Rows;
+use crate::types::DartType;
+
+/// A type is a subtype of itself, and of all that a supertype of it is a subtype of.
+pub fn subtype_laws(_rows: &Rows, _s: &DartType, _t: &DartType, _u: &DartType)
+    ensures reflexive { Sub _rows.now.table _s.now _s.now }
+    ensures transitive { Sub _rows.now.table _s.now _t.now → Sub _rows.now.table _t.now _u.now → Sub _rows.now.table _s.now _u.now }
+{}
+
+/// A type and its normal form are subtypes of each other, and a normal form is its own.
+pub fn normal_form_laws(_rows: &Rows, _t: &DartType)
+    ensures below { Sub _rows.now.table _t.now (normal _t.now) }
+    ensures above { Sub _rows.now.table (normal _t.now) _t.now }
+    ensures settled { normal (normal _t.now) ≡ normal _t.now }
+{}
+
+/// Types over the variables in scope stay subtypes where each variable is replaced by a type within
+/// its bound.
+pub fn substitution_keeps_subtypes(
+    _rows: &Rows,
+    _scope: &[VarId],
+    _with: &[(VarId, DartType)],
+    _s: &DartType,
+    _t: &DartType,
+)
+    requires bounds { IsWithinBounds _scope.now (by_pairs _with.now) _rows.now.table }
+    requires left { IsInScope _scope.now (by_pairs _with.now) _s.now }
+    requires right { IsInScope _scope.now (by_pairs _with.now) _t.now }
+    ensures { Sub _rows.now.table _s.now _t.now → Sub _rows.now.table (put (by_pairs _with.now) _s.now) (put (by_pairs _with.now) _t.now) }
+{}

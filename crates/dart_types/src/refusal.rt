@@ -1,0 +1,48 @@
+//! Why a type isn't formed.
+
+use crate::ids::ClassId;
+use std::alloc::AllocError;
+
+/// How many types may stand in a type that a rule forms, itself among them.
+pub const NODE_LIMIT: u64 = 4096;
+
+/// Why a rule forms no type.
+#[derive(Clone, Copy, Debug, PartialEq, Eq)]
+pub enum TypeRefusal {
+    /// More than `NODE_LIMIT` types stand in it: so many, or 2^64 - 1 where there are more.
+    TooLarge { nodes: u64 },
+    /// Memory ran out.
+    Memory,
+}
+
+impl From<AllocError> for TypeRefusal {
+    ghost use Rattle.std.specs.Prelude.{◌≡◌};
+    ghost use Rattle.dart_types.specs.declared.refusal.TypeRefusal.TheVariants.{Memory};
+
+    ghost from_gives = { λ e r. r ≡ Memory };
+
+    fn from(_refused: AllocError) -> TypeRefusal {
+        TypeRefusal::Memory
+    }
+}
+
+/// Why rows aren't formed.
+#[derive(Clone, Copy, Debug, PartialEq, Eq)]
+pub enum RowsRefusal {
+    /// A superinterface of the class has more than `NODE_LIMIT` types in it: so many, or 2^64 - 1
+    /// where there are more.
+    TooLarge { class: ClassId, nodes: u64 },
+    /// Memory ran out.
+    Memory,
+}
+
+impl From<AllocError> for RowsRefusal {
+    ghost use Rattle.std.specs.Prelude.{◌≡◌};
+    ghost use Rattle.dart_types.specs.declared.refusal.RowsRefusal.TheVariants.{Memory};
+
+    ghost from_gives = { λ e r. r ≡ Memory };
+
+    fn from(_refused: AllocError) -> RowsRefusal {
+        RowsRefusal::Memory
+    }
+}

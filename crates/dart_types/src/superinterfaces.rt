@@ -1,0 +1,61 @@
+//! A superinterface of a class, as its row keeps it.
+
+ghost use Rattle.std.specs.Prelude.{◌≡◌, ◌≤◌, AllPairs, true, false, length, filter, IfOk};
+ghost use Rattle.std.specs.List.Sorted.{IsPartitionPoint};
+ghost use Rattle.dart_types.specs.Same.{same_class};
+ghost use Rattle.dart_types.specs.WellFormed.{class_before};
+
+use crate::ids::ClassId;
+use crate::types::TypeList;
+use std::alloc::{AllocError, Global};
+
+/// A class that another class reaches by its direct supertypes, with its type arguments over the
+/// parameters of that other class, in normal form.
+#[derive(Drop)]
+pub struct Superinterface {
+    /// The class that is reached.
+    pub class: ClassId,
+    /// Its type arguments.
+    pub args: TypeList,
+}
+
+impl Superinterface {
+    /// A second value of the same superinterface.
+    pub(crate) fn copy(&self, alloc: Global) -> Result<Superinterface, AllocError>
+        ensures { IfOk result (λ copied. copied ≡ self.now) }
+    {
+        let args = self.args.copy(alloc)?;
+        Ok(Superinterface {
+            class: self.class,
+            args,
+        })
+    }
+}
+
+/// The superinterfaces, in the order of their classes, that are of one class.
+pub(crate) fn of_class(superinterfaces: &[Superinterface], class: ClassId) -> &[Superinterface]
+    requires { AllPairs (λ a b. class_before b.class a.class ≡ false) superinterfaces.now }
+    ensures { result.now ≡ filter (λ s. same_class s.class class) superinterfaces.now }
+{
+    let from = first_of_class(superinterfaces, class);
+    let to = end_of_class(superinterfaces, class);
+    &superinterfaces[from..to]
+}
+
+// How many superinterfaces are of classes with smaller ids.
+fn first_of_class(superinterfaces: &[Superinterface], class: ClassId) -> usize
+    requires { AllPairs (λ a b. class_before b.class a.class ≡ false) superinterfaces.now }
+    ensures bound { result ≤ length superinterfaces.now }
+    ensures parts { IsPartitionPoint (λ s. class_before s.class class ≡ true) (λ s. class_before s.class class ≡ false) superinterfaces.now result }
+{
+    superinterfaces.partition_point(|superinterface| superinterface.class < class)
+}
+
+// How many superinterfaces are of classes with smaller ids or of the class itself.
+pub(crate) fn end_of_class(superinterfaces: &[Superinterface], class: ClassId) -> usize
+    requires { AllPairs (λ a b. class_before b.class a.class ≡ false) superinterfaces.now }
+    ensures bound { result ≤ length superinterfaces.now }
+    ensures parts { IsPartitionPoint (λ s. class_before class s.class ≡ false) (λ s. class_before class s.class ≡ true) superinterfaces.now result }
+{
+    superinterfaces.partition_point(|superinterface| !(class < superinterface.class))
+}
