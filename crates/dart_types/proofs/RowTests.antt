@@ -4,7 +4,7 @@ use Rattle.std.specs.Prelude.{◌⊎◌, All, AllPairs}
 use Rattle.std.proofs.lemmas.Bool.{cases_eq}
 use Rattle.std.proofs.lemmas.List.{get_or_default, get_or-take, length-take, take_all, drop_all}
 use Rattle.dart_types.specs.Ty.{Ty, Types, Named, no_more, more, no_named, more_named, types_of, count}
-use Rattle.dart_types.specs.Named.{named_of}
+use Rattle.dart_types.specs.Named.{named_of, names_of}
 use Rattle.dart_types.specs.Tables.{Table, head_depth, depth_above}
 use Rattle.dart_types.specs.WellFormed.{IsSimple, AreSimple, IsEarlier, AreEarlier, AreEarlierNamed, IsOver, AreOver, AreOverNamed}
 use Rattle.dart_types.specs.declared.ids.VarId.{VarId}
@@ -133,7 +133,7 @@ module _ {X : Type 0} (lib index : X → ℕ) (xs : List X) where
   pub not_rising : (i : ℕ) (d e : X) → 1 ≤ i → i < length xs → id_before (lib (get_or xs (i - 1) d)) (index (get_or xs (i - 1) d)) (lib (get_or xs i e)) (index (get_or xs i e)) ≡ false → AllPairs IsBefore xs → ⊥
   not_rising i d e one within other order =
       let h : IsBefore (get_or xs (i - 1) d) (get_or xs i e) =
-          subst (λ (y : X). IsBefore (get_or xs (i - 1) d) y) (get_or_default xs i d e within) (order (i - 1) i d (omega arith) within) in
+      subst (λ (y : X). IsBefore (get_or xs (i - 1) d) y) (get_or_default xs i d e within) (order (i - 1) i d (omega arith) within) in
       let e : true ≡ false = sym h ∙ other in
       cc
 
@@ -149,3 +149,9 @@ none_are_empty (t ∷ ts) h = cc
 pub count-types_of : (ts : List Ty) → count (types_of ts) ≡ length ts
 count-types_of [] = refl
 count-types_of (t ∷ ts) = omega (arith, count-types_of ts)
+
+-- what holds of each name holds of that of each named parameter
+pub name_at : (P : List ℕ → Type 0) (ns : List NamedType) (i : ℕ) (n : NamedType) → i < length ns → n ≡ get_or ns i n → All P (names_of ns) → P n.name
+name_at P [] i n lt is h = absurd (omega arith)
+name_at P (m ∷ ns) zero n lt is h = subst (λ (x : NamedType). P x.name) (sym is) (h 0 m.name (omega arith))
+name_at P (m ∷ ns) (suc i) n lt is h = name_at P ns i n (omega arith) is (λ k d under. h (suc k) d (omega arith))

@@ -19,18 +19,26 @@ mod ids;
 mod laws;
 mod normal;
 mod normal_sizes;
+#[cfg(test)]
+mod notation;
 mod pairs;
 mod params;
 mod refusal;
 mod replacements;
 mod row_checks;
 mod rows;
+#[cfg(test)]
+mod rows_tests;
+#[cfg(test)]
+mod sample_rows;
 mod scopes;
 mod sizes;
 mod substitution;
 #[cfg(test)]
 mod substitution_tests;
 mod subtyping;
+#[cfg(test)]
+mod subtyping_tests;
 mod superinterfaces;
 mod type_checks;
 mod types;

@@ -1,11 +1,12 @@
 //! Types as values: a type, a function type, and lists of them.
 
-ghost use Rattle.std.specs.Prelude.{◌≡◌, ◌++◌, ◌∷◌, [], OnOk, OnErr, All};
+ghost use Rattle.std.specs.Prelude.{◌≡◌, ◌++◌, ◌∷◌, [], OnOk, OnErr, All, IsTrue, ◌↔◌};
 ghost use Rattle.dart_types.specs.Named.{IsNameBefore, AreInOrder, names_of};
 
 use crate::ids::{ClassId, VarId};
 use plain_text::PlainText;
 use std::alloc::{AllocError, Global};
+use std::cmp::Ordering;
 use std::marker::Model;
 
 /// The form of a type.
@@ -195,6 +196,19 @@ impl NamedTypes {
         &self.items
     }
 
+    /// Whether a parameter of this name may be put at the end: its name comes behind those that are
+    /// there. It takes no memory.
+    pub fn takes(&self, name: &PlainText) -> bool
+        ensures { IsTrue result ↔ All (λ before. IsNameBefore before name.now) (names_of self.now) }
+    {
+        for item in &self.items {
+            if !is_name_before(item.name.as_str(), name.as_str()) {
+                return false;
+            }
+        }
+        true
+    }
+
     /// Puts a named parameter at the end. After an `Err` the list is as before.
     pub fn push(&mut self, named: NamedType) -> Result<(), AllocError>
         requires { All (λ before. IsNameBefore before named.name) (names_of self.old) }
@@ -203,5 +217,16 @@ impl NamedTypes {
     {
         self.items.push(named)?;
         Ok(())
+    }
+}
+
+// Whether a name comes before another.
+fn is_name_before(name: &str, other: &str) -> bool
+    ensures { IsTrue result ↔ IsNameBefore name.now other.now }
+{
+    match name.cmp(other) {
+        Ordering::Less => true,
+        Ordering::Equal => false,
+        Ordering::Greater => false,
     }
 }

@@ -20,7 +20,7 @@ returns-then-eq c =
     let test : c.is_empty.result ≡ nat_eq (length args) 0 = c.is_empty.ensures ∙ ap (λ (ts : List Ty). nat_eq (length ts) 0) c.as_slice.ensures in (
       λ h. sym is ∙ ap (λ (d : ClassId). interface d (types_of args)) root ∙ ap (λ (ts : List Ty). interface OBJECT (types_of ts)) (is_empty args (sym test ∙ h)),
       λ h.
-      let e : interface class (types_of args) ≡ interface OBJECT no_more = is ∙ h in
-      let k : types_of args ≡ no_more = cc in
-      test ∙ none_are_empty args k,
+          let e : interface class (types_of args) ≡ interface OBJECT no_more = is ∙ h in
+          let k : types_of args ≡ no_more = cc in
+          test ∙ none_are_empty args k,
     )
