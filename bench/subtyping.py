@@ -12,6 +12,8 @@ stands the slope of the answers over the sizes, as bench/check.py has it.
     diamonds   classes of one parameter, each of which implements two that both implement the next: C0<int> of Cn<num>
     nested     a list of a list, and so on, of int, and the same of num
     bounds     a type variable whose bound is the one before it, and so on, and num
+    rows       many classes beside each other, of which one is asked for: it and the class above it
+    parameters function types of many parameters
 
 Nothing fails on time. The status is 1 where an answer is wrong, and else 0.
 """
@@ -43,6 +45,8 @@ FAMILIES = (
     Family("diamonds", "diamonds", (10, 20, 40, 80), 500_000),
     Family("nested", "lists", (250, 500, 1_000, 2_000), 1_000),
     Family("bounds", "variables", (250, 500, 1_000, 2_000), 2_000),
+    Family("rows", "classes", (1_000, 2_000, 4_000, 8_000), 500_000),
+    Family("parameters", "parameters", (250, 500, 1_000, 2_000), 2_000),
 )
 
 

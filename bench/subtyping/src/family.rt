@@ -5,7 +5,10 @@ ghost use Rattle.std.specs.Prelude.{◌<◌};
 use crate::parts::{
     INT, LIST, NUM, OTHER, bounded, class, first_classes, of, plain, row, top, var, variable,
 };
-use dart_types::{ClassRow, DartType, OBJECT, Rows, RowsRefusal, VarRow};
+use dart_types::{
+    ClassRow, DartType, FunctionType, NamedTypes, OBJECT, Rows, RowsRefusal, TypeList, TypeNode,
+    VarRow,
+};
 use std::alloc::{AllocError, Global};
 
 /// A form of rows.
@@ -17,6 +20,10 @@ pub enum Family {
     Nested,
     /// Type variables, each with the one before it as its bound.
     Bounds,
+    /// Classes beside each other, of which one in the middle is asked for.
+    Rows,
+    /// Function types of many parameters.
+    Parameters,
 }
 
 /// Whether one type is a subtype of another.
@@ -104,6 +111,36 @@ fn bounds(alloc: Global, count: u32) -> Result<Option<Rows>, AllocError>
     rows_of(alloc, first_classes(alloc)?, vars)
 }
 
+/// The rows of so many classes beside each other, all with one class above them.
+fn beside(alloc: Global, count: u32) -> Result<Option<Rows>, AllocError>
+    requires { count < 1000000 }
+{
+    let mut classes = first_classes(alloc)?;
+    let mut vars = Vec::new(alloc);
+    vars.push(bounded(0, top(alloc)?))?;
+    for index in FIRST..FIRST + count + 1 {
+        classes.push(row(alloc, class(index), Some(plain(alloc, class(NUM))), 2)?)?;
+    }
+    rows_of(alloc, classes, vars)
+}
+
+/// A function type of so many parameters of one class, with this result.
+fn function(alloc: Global, param: u32, count: u32, end: DartType) -> Result<DartType, AllocError> {
+    let mut required = TypeList::new(alloc);
+    for _ in 0..count {
+        required.push(plain(alloc, class(param)))?;
+    }
+    let f = FunctionType {
+        required,
+        optional: TypeList::new(alloc),
+        named: NamedTypes::new(alloc),
+        result: end,
+    };
+    Ok(DartType {
+        node: TypeNode::Function(Box::new(alloc, f)?),
+    })
+}
+
 impl Family {
     /// The question of a size, whose answer is yes or no; None where there are no such rows.
     pub fn question(
@@ -128,6 +165,16 @@ impl Family {
                 nested(alloc, wanted, size)?,
             ),
             Family::Bounds => (bounds(alloc, size)?, var(variable(size)), wanted),
+            Family::Rows => (
+                beside(alloc, size)?,
+                plain(alloc, class(FIRST + size / 2)),
+                wanted,
+            ),
+            Family::Parameters => (
+                bounds(alloc, 0)?,
+                function(alloc, NUM, size, plain(alloc, class(INT)))?,
+                function(alloc, INT, size, wanted)?,
+            ),
         };
         Ok(rows.map(|rows| Question { rows, left, right }))
     }

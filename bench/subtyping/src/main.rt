@@ -49,6 +49,8 @@ fn words_of(words: &[String]) -> Option<Words>
         "diamonds" => Family::Diamonds,
         "nested" => Family::Nested,
         "bounds" => Family::Bounds,
+        "rows" => Family::Rows,
+        "parameters" => Family::Parameters,
         _ => return None,
     };
     let is_subtype = match words[3].as_str() {
