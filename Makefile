@@ -13,9 +13,8 @@ test:
 
 bench:
 	@cd crates/dart_serve && mkdir -p out && { rt run -- serve < /dev/null > /dev/null 2> out/bench.log || { cat out/bench.log >&2; exit 1; }; }
-	@cd bench/subtyping && mkdir -p out && { rt run -- bounds 1 1 yes > /dev/null 2> out/bench.log || { cat out/bench.log >&2; exit 1; }; }
 	@python3 bench/tokens.py
 	@python3 bench/check.py
 	@python3 bench/edit.py
 	@python3 bench/run.py
-	@python3 bench/subtyping.py
+	@python3 bench/subtypes.py
