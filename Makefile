@@ -16,3 +16,4 @@ bench:
 	@python3 bench/check.py
 	@python3 bench/edit.py
 	@python3 bench/run.py
+	@python3 bench/subtypes.py
