@@ -1,12 +1,12 @@
 -- What lies above Null, Object and Function.
-use Rattle.std.proofs.Common.{◌≡◌, Bool, true, false, Option, Some, List, refl, sym, ap, subst}
+use Rattle.std.proofs.Common.{◌≡◌, true, Some, refl, subst}
 use Rattle.std.specs.Prelude.{Contains}
 use Rattle.dart_types.specs.Ty.{Ty, Types, Named, invalid, never, void, null, interface, function, variable, promoted, nullable, no_more, more}
 use Rattle.dart_types.specs.Heads.{object, is_object, is_function_class, is_top, is_plain}
 use Rattle.dart_types.specs.Substitution.{put, by_params}
 use Rattle.dart_types.specs.Tables.{Table, class_of}
 use Rattle.dart_types.specs.WellFormed.{IsWellFormed}
-use Rattle.dart_types.specs.Sub.{Sub, Subs, reflexivity, right_top, left_bottom, left_null, right_object, left_nullable, right_nullable, left_promoted_variable, left_promoted_type, right_promoted, left_variable_bound, interface_arguments, super_interface, function_class, function_types, left_top, none_left, one_left}
+use Rattle.dart_types.specs.Sub.{Sub, Subs, reflexivity, right_top, left_null, right_object, left_nullable, right_nullable, right_promoted, interface_arguments, super_interface, function_class, left_top, none_left, one_left}
 use Rattle.dart_types.specs.declared.ids.ClassId.{ClassId}
 use Rattle.dart_types.specs.declared.ids.VarId.{VarId}
 use Rattle.dart_types.specs.declared.ids.TheConstants.{OBJECT, FUNCTION}

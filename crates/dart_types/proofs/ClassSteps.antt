@@ -1,16 +1,16 @@
 -- The steps of the test of subtyping from one class to another.
-use Rattle.std.proofs.Common.{◌≡◌, ℕ, ◌+◌, ◌*◌, ◌<◌, ◌≤◌, Bool, true, false, IsTrue, List, Option, Some, None, [], ◌∷◌, length, filter, get_or, zero, suc, cond, refl, sym, ◌∙◌, ap, subst, arith, inl, inr}
+use Rattle.std.proofs.Common.{◌≡◌, ℕ, ◌+◌, ◌<◌, ◌≤◌, Bool, true, false, IsTrue, List, Some, None, [], ◌∷◌, length, filter, get_or, zero, suc, cond, refl, sym, ◌∙◌, ap, subst, arith, inl, inr}
 use Rattle.std.specs.Prelude.{◌≢◌, ◌↔◌, ◌⊎◌, Contains, unwrap_or}
 use Rattle.dart_types.specs.Ty.{Ty, Types, Named, invalid, never, void, null, interface, function, variable, promoted, nullable, no_more, more, no_named, more_named, types_of, count}
-use Rattle.dart_types.specs.Same.{same_class, same_var}
+use Rattle.dart_types.specs.Same.{same_var}
 use Rattle.dart_types.specs.Heads.{is_object, is_plain}
 use Rattle.dart_types.specs.Substitution.{put, put_all, put_named, argument_of, by_params}
 use Rattle.dart_types.specs.Scopes.{in_scope, stands_for, close_all, Frames}
 use Rattle.dart_types.specs.Normal.{normal, normal_all}
-use Rattle.dart_types.specs.Tables.{Table, class_of, bound_of, depth_of, head_depth}
+use Rattle.dart_types.specs.Tables.{Table, class_of, depth_of, head_depth}
 use Rattle.dart_types.specs.Targets.{is_bare}
-use Rattle.dart_types.specs.WellFormed.{IsSupertype, IsSimple, AreSimple, IsWellFormed}
-use Rattle.dart_types.specs.Measure.{measure, weight, deep, heavy, of_var, heaviest_of, deepness_of, rank_of}
+use Rattle.dart_types.specs.WellFormed.{IsSupertype, IsWellFormed}
+use Rattle.dart_types.specs.Measure.{measure, weight, deep, heavy, of_var, heaviest_of, deepness_of}
 use Rattle.dart_types.specs.Superinterfaces.{IsSuperinterface, direct, further, AreSuperinterfaces, interface_of}
 use Rattle.dart_types.specs.Sub.{Sub, Subs, reflexivity, right_top, right_object, right_nullable, right_promoted, interface_arguments, super_interface, none_left, one_left}
 use Rattle.dart_types.specs.Forms.{form_of}
@@ -22,13 +22,12 @@ use Rattle.dart_types.specs.declared.scopes.SeenList.{SeenList}
 use Rattle.dart_types.specs.declared.scopes.Form.{Form}
 use Rattle.dart_types.specs.declared.scopes.Form.TheVariants.{Invalid, Never, Void, Null, Interface, Function, Var, Promoted, Nullable}
 use Rattle.dart_types.proofs.Formed.{formed_super, super_depth}
-use Rattle.dart_types.proofs.SameIds.{equal_from_same_class, same_class-refl}
 use Rattle.dart_types.proofs.Transitive.{trans}
 use Rattle.dart_types.proofs.NormalPut.{put_all_normal_below, put_all_normal_above, deep_normal, heavy_normal}
 use Rattle.dart_types.proofs.MeasureFalls.{not_above}
 use Rattle.dart_types.proofs.Inversions.{bare_not_top}
-use Rattle.dart_types.proofs.Climb.{counted, superinterface_simple, climb_up, climb_falls, climb_down}
-use Rattle.dart_types.proofs.Steps.{yes, no, through, refused}
+use Rattle.dart_types.proofs.Climb.{superinterface_simple, climb_up, climb_falls, climb_down}
+use Rattle.dart_types.proofs.Steps.{yes, no, through}
 
 -- types are the same under what stands for each variable alike
 mutual

@@ -1,23 +1,21 @@
 -- The way up from a class to a superinterface, in one step.
-use Rattle.std.proofs.Common.{◌≡◌, ℕ, ◌+◌, ◌<◌, ◌≤◌, Bool, true, false, List, length, Option, Some, None, [], ◌∷◌, cond, refl, sym, ◌∙◌, ap, subst, arith, inl, inr}
-use Rattle.std.specs.Prelude.{◌⊎◌, ◌||◌, Contains, unwrap_or}
-use Rattle.dart_types.specs.Ty.{Ty, Types, Named, invalid, never, void, null, interface, function, variable, promoted, nullable, no_more, more, count}
+use Rattle.std.proofs.Common.{◌≡◌, ◌<◌, Bool, true, false, List, length, Option, Some, [], ◌∷◌, cond, refl, sym, ◌∙◌, subst, arith, inl, inr}
+use Rattle.std.specs.Prelude.{◌⊎◌, ◌||◌, unwrap_or}
+use Rattle.dart_types.specs.Ty.{Ty, Types, invalid, never, void, null, interface, function, variable, promoted, nullable, no_more, more, count}
 use Rattle.dart_types.specs.Same.{same_var}
 use Rattle.dart_types.specs.Heads.{is_object}
 use Rattle.dart_types.specs.Substitution.{put, put_all, argument_of, by_params}
-use Rattle.dart_types.specs.Normal.{normal, normal_all}
-use Rattle.dart_types.specs.Tables.{Table, class_of, bound_of}
+use Rattle.dart_types.specs.Tables.{Table, class_of}
 use Rattle.dart_types.specs.WellFormed.{is_among, IsSimple, AreSimple, IsSupertype, HasArguments, IsOver, IsWellFormed}
-use Rattle.dart_types.specs.Measure.{weight, deep, heavy, of_var, deepness_of, heaviest_of, weight_of, rank_of, step_of, ranks_of, measure}
+use Rattle.dart_types.specs.Measure.{measure}
 use Rattle.dart_types.specs.Superinterfaces.{IsSuperinterface, direct, further}
-use Rattle.dart_types.specs.Sub.{Sub, Subs, reflexivity, right_top, right_object, right_nullable, right_promoted, interface_arguments, super_interface, none_left, one_left}
+use Rattle.dart_types.specs.Sub.{Sub, Subs, reflexivity, right_top, right_object, interface_arguments, super_interface, none_left, one_left}
 use Rattle.dart_types.specs.declared.ids.ClassId.{ClassId}
 use Rattle.dart_types.specs.declared.ids.VarId.{VarId}
 use Rattle.dart_types.specs.declared.class_rows.ClassRow.{ClassRow}
 use Rattle.dart_types.proofs.Formed.{formed_super}
 use Rattle.dart_types.proofs.Transitive.{super_simple}
 use Rattle.dart_types.proofs.Substitutes.{count-put_all, put-by_params, put_all-by_params}
-use Rattle.dart_types.proofs.NormalPut.{deep_normal, heavy_normal}
 use Rattle.dart_types.proofs.MeasureFalls.{super_falls}
 
 -- an interface has as many arguments as its class has parameters

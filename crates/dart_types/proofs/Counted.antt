@@ -1,6 +1,5 @@
 -- A count of nodes that went through a whole list.
-use Rattle.std.proofs.Common.{◌≡◌, ◌≤◌, ◌+◌, ℕ, List, length, drop, sym, ◌∙◌, ap, arith, subst}
-use Rattle.std.proofs.lemmas.List.{drop_all}
+use Rattle.std.proofs.Common.{◌≡◌, ◌≤◌, ◌+◌, ℕ, List, length, drop, sym, ◌∙◌, ap, arith}
 use Rattle.dart_types.specs.Sizes.{held}
 
 -- where nothing of the list is left, the count is that of the whole list

@@ -1,6 +1,6 @@
 -- The test of subtyping that computes holds just where the rules have a derivation.
-use Rattle.std.proofs.Common.{◌≡◌, ℕ, zero, suc, ◌+◌, ◌<◌, ◌≤◌, Bool, true, false, IsTrue, List, [], ◌∷◌, length, get_or, Option, Some, None, nat_eq, nat_le, refl, sym, ◌∙◌, ap, subst, arith, inl, inr}
-use Rattle.std.specs.Prelude.{◌&&◌, ◌||◌, ◌⊎◌, ◌↔◌, Contains, bytes_eq}
+use Rattle.std.proofs.Common.{◌≡◌, ℕ, zero, suc, ◌+◌, ◌<◌, ◌≤◌, Bool, true, false, List, [], ◌∷◌, length, Option, Some, None, nat_eq, nat_le, refl, sym, subst, arith, inl, inr}
+use Rattle.std.specs.Prelude.{◌&&◌, ◌||◌, ◌⊎◌, Contains, bytes_eq}
 use Rattle.std.specs.List.{list_any}
 use Rattle.std.specs.Option.{option_map_or}
 use Rattle.std.specs.Cmp.Lexicographic.{bytes_decides}
@@ -13,13 +13,12 @@ use Rattle.dart_types.specs.Substitution.{put, by_params}
 use Rattle.dart_types.specs.Tables.{Table, class_of, bound_of}
 use Rattle.dart_types.specs.WellFormed.{IsWellFormed}
 use Rattle.dart_types.specs.Measure.{measure, heaviest_of, deepness_of}
-use Rattle.dart_types.specs.Sub.{Sub, Subs, SubParams, SubNamed, HasNamed, first, later, is_required, required_in, reflexivity, right_top, left_bottom, left_null, right_object, left_nullable, right_nullable, left_promoted_variable, left_promoted_type, right_promoted, left_variable_bound, interface_arguments, super_interface, function_class, function_types, left_top, none_left, one_left, no_param, one_param, no_name, one_name}
+use Rattle.dart_types.specs.Sub.{Sub, Subs, SubParams, SubNamed, HasNamed, first, later, required_in, reflexivity, right_top, left_bottom, left_null, right_object, left_nullable, right_nullable, left_promoted_variable, left_promoted_type, right_promoted, left_variable_bound, interface_arguments, super_interface, function_class, function_types, left_top, none_left, one_left, no_param, one_param, no_name, one_name}
 use Rattle.dart_types.specs.SubTest.{pairwise, params_fit, name_fits, named_fit, by_arguments, by_supertypes, by_signature, by_left, is_null, by_right, derives, sub}
 use Rattle.dart_types.specs.declared.ids.ClassId.{ClassId}
-use Rattle.dart_types.specs.declared.ids.VarId.{VarId}
 use Rattle.dart_types.specs.declared.ids.TheConstants.{OBJECT}
 use Rattle.dart_types.specs.declared.class_rows.ClassRow.{ClassRow}
-use Rattle.dart_types.proofs.SameIds.{both_true, nat_from_test, nat_eq-refl, equal_from_same_class, same_class-refl}
+use Rattle.dart_types.proofs.SameIds.{both_true, nat_from_test, equal_from_same_class, same_class-refl}
 use Rattle.dart_types.proofs.SameType.{same_type-refl, equal_from_same_type}
 use Rattle.dart_types.proofs.MeasureFalls.{falls_left, right_bare_falls, right_promoted_falls, left_bare_falls, left_promoted_falls, bound_falls, left_top_falls, super_falls}
 use Rattle.dart_types.proofs.MeasureParts.{HasType, at_first, at_later, arguments_fall, params_fall, names_fall, results_fall}

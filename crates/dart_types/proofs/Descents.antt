@@ -1,10 +1,10 @@
 -- What the direct supertypes of a class give it are its superinterfaces.
-use Rattle.std.proofs.Common.{◌≡◌, List, Some, refl, sym, ◌∙◌, ap, subst, length, inl, inr}
+use Rattle.std.proofs.Common.{◌≡◌, Some, refl, sym, ◌∙◌, ap, subst}
 use Rattle.std.specs.Prelude.{Contains}
-use Rattle.dart_types.specs.Ty.{Ty, Types, Named, invalid, never, void, null, interface, function, variable, promoted, nullable, count}
+use Rattle.dart_types.specs.Ty.{Ty, Types, invalid, never, void, null, interface, function, variable, promoted, nullable}
 use Rattle.dart_types.specs.Substitution.{put, put_all, by_params}
 use Rattle.dart_types.specs.Tables.{Table, class_of}
-use Rattle.dart_types.specs.WellFormed.{IsSupertype, IsWellFormed}
+use Rattle.dart_types.specs.WellFormed.{IsWellFormed}
 use Rattle.dart_types.specs.Superinterfaces.{IsSuperinterface, direct, further}
 use Rattle.dart_types.specs.Gathering.{IsAbove, itself, beyond}
 use Rattle.dart_types.specs.declared.ids.ClassId.{ClassId}

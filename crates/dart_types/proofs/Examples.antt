@@ -1,16 +1,14 @@
 -- What the definitions say of a few classes of `dart:core`.
-use Rattle.std.proofs.Common.{◌≡◌, ℕ, zero, suc, ◌<◌, Bool, true, false, List, [], ◌∷◌, length, get_or, refl, ap, arith}
-use Rattle.std.specs.Prelude.{Contains, All, AllPairs}
+use Rattle.std.proofs.Common.{◌≡◌, ℕ, zero, suc, true, false, List, [], ◌∷◌, refl, ap, arith}
+use Rattle.std.specs.Prelude.{All, AllPairs}
 use Rattle.std.proofs.lemmas.List.Elements.{All-nil, All-cons}
-use Rattle.dart_types.specs.Ty.{Ty, Types, Named, invalid, never, void, null, interface, function, variable, promoted, nullable, no_more, more, no_named, more_named}
+use Rattle.dart_types.specs.Ty.{Ty, never, void, null, interface, function, variable, promoted, nullable, no_more, more, no_named, more_named}
 use Rattle.dart_types.specs.Sizes.{size_of}
 use Rattle.dart_types.specs.Heads.{object}
-use Rattle.dart_types.specs.Substitution.{put, by_pairs}
 use Rattle.dart_types.specs.Normal.{normal, substituted}
 use Rattle.dart_types.specs.Tables.{Table}
 use Rattle.dart_types.specs.WellFormed.{IsSupertype, IsOver, IsFormedClass, IsFormedVar, IsWellFormed, class_before, var_before}
-use Rattle.dart_types.specs.Sub.{Sub, Subs, HasNamed, first, reflexivity, right_top, left_bottom, left_null, right_object, left_nullable, right_nullable, left_promoted_variable, left_promoted_type, right_promoted, left_variable_bound, interface_arguments, super_interface, function_class, function_types, left_top, none_left, one_left, no_param, one_param, no_name, one_name}
-use Rattle.dart_types.specs.declared.ids.LibId.{LibId}
+use Rattle.dart_types.specs.Sub.{Sub, reflexivity, right_top, left_bottom, left_null, right_object, left_promoted_variable, left_promoted_type, interface_arguments, super_interface, function_types, none_left, one_left, no_param, one_param, no_name}
 use Rattle.dart_types.specs.declared.ids.ClassId.{ClassId}
 use Rattle.dart_types.specs.declared.ids.VarId.{VarId}
 use Rattle.dart_types.specs.declared.ids.TheConstants.{CORE, OBJECT, FUNCTION}

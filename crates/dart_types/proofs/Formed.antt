@@ -1,9 +1,9 @@
 -- What well-formed rows say of a class and of a bound that is looked up.
-use Rattle.std.proofs.Common.{◌≡◌, ℕ, zero, suc, ◌+◌, ◌<◌, ◌≤◌, max, Bool, true, false, List, [], ◌∷◌, length, get_or, Option, Some, None, refl, sym, ◌∙◌, ap, subst, cond, arith}
-use Rattle.std.specs.Prelude.{find, Contains, All}
+use Rattle.std.proofs.Common.{◌≡◌, ℕ, zero, suc, ◌+◌, ◌<◌, ◌≤◌, Bool, true, false, List, [], ◌∷◌, length, get_or, Option, Some, None, refl, sym, ◌∙◌, ap, subst, cond, arith}
+use Rattle.std.specs.Prelude.{find, Contains}
 use Rattle.std.specs.Option.{option_map}
 use Rattle.std.proofs.lemmas.List.Elements.{All-contains}
-use Rattle.dart_types.specs.Ty.{Ty, Types, interface, invalid, never, void, null, function, variable, promoted, nullable, count}
+use Rattle.dart_types.specs.Ty.{Ty}
 use Rattle.dart_types.specs.Same.{same_class, same_var}
 use Rattle.dart_types.specs.Heads.{object}
 use Rattle.dart_types.specs.Tables.{Table, class_of, bound_of, depth_of, depth_above, head_depth}

@@ -1,9 +1,9 @@
 -- The argument of a parameter, found place by place.
-use Rattle.std.proofs.Common.{◌≡◌, ℕ, suc, ◌+◌, ◌<◌, ◌≤◌, Bool, true, false, List, [], ◌∷◌, length, drop, get_or, Option, Some, None, refl, sym, ◌∙◌, ap, cond, arith, drop-cons, add-one, ◌==◌}
+use Rattle.std.proofs.Common.{◌≡◌, ℕ, suc, ◌+◌, ◌<◌, ◌≤◌, Bool, true, false, List, [], ◌∷◌, length, drop, get_or, Some, None, refl, sym, ◌∙◌, ap, cond, arith, drop-cons, add-one, ◌==◌}
 use Rattle.std.specs.Prelude.{◌&&◌}
 use Rattle.std.proofs.lemmas.List.{drop_all}
 use Rattle.std.proofs.lemmas.Bool.Decides.{nat_tests}
-use Rattle.dart_types.specs.Ty.{Ty, Types, invalid, interface, no_more, types_of}
+use Rattle.dart_types.specs.Ty.{Ty, invalid, interface, no_more, types_of}
 use Rattle.dart_types.specs.Same.{same_var, same_class}
 use Rattle.dart_types.specs.Heads.{is_object}
 use Rattle.dart_types.specs.Substitution.{argument_of}

@@ -1,23 +1,19 @@
 -- The steps of the test of subtyping from a function type.
-use Rattle.std.proofs.Common.{◌≡◌, ℕ, ◌+◌, ◌<◌, ◌≤◌, Bool, true, false, IsTrue, List, [], ◌∷◌, length, refl, sym, ◌∙◌, ap, subst, cond, arith, inl, inr, ◌==◌}
+use Rattle.std.proofs.Common.{◌≡◌, ℕ, ◌<◌, ◌≤◌, Bool, true, false, IsTrue, List, [], ◌∷◌, length, refl, sym, ◌∙◌, ap, subst, arith, inl, inr, ◌==◌}
 use Rattle.std.specs.Prelude.{◌↔◌, ◌⊎◌, ◌&&◌, ◌||◌, bytes_eq}
 use Rattle.std.proofs.lemmas.Bool.Decides.{nat_tests}
-use Rattle.dart_types.specs.Ty.{Ty, Types, Named, invalid, never, void, null, interface, function, variable, promoted, nullable, no_more, more, no_named, more_named, types_of, count, join}
+use Rattle.dart_types.specs.Ty.{Ty, Types, Named, interface, function, no_more, more, no_named, more_named, types_of, count, join}
 use Rattle.dart_types.specs.Same.{same_class}
 use Rattle.dart_types.specs.Heads.{is_object, is_function_class}
-use Rattle.dart_types.specs.Substitution.{put, put_all, put_named}
+use Rattle.dart_types.specs.Substitution.{put_named}
 use Rattle.dart_types.specs.Scopes.{Frames, close_all}
 use Rattle.dart_types.specs.Tables.{Table}
-use Rattle.dart_types.specs.Targets.{is_bare}
-use Rattle.dart_types.specs.WellFormed.{IsWellFormed}
-use Rattle.dart_types.specs.Sub.{Sub, SubParams, SubNamed, HasNamed, first, later, is_required, required_in, reflexivity, right_top, right_object, right_nullable, right_promoted, function_class, function_types, no_param, one_param, no_name, one_name}
-use Rattle.dart_types.specs.Forms.{form_of}
+use Rattle.dart_types.specs.Sub.{Sub, SubParams, SubNamed, HasNamed, first, later, is_required, required_in, reflexivity, right_top, right_object, function_class, function_types, no_param, one_param, no_name, one_name}
 use Rattle.dart_types.specs.declared.ids.ClassId.{ClassId}
 use Rattle.dart_types.specs.declared.ids.VarId.{VarId}
 use Rattle.dart_types.specs.declared.ids.TheConstants.{OBJECT, FUNCTION}
-use Rattle.dart_types.proofs.Inversions.{bare_not_top}
 use Rattle.dart_types.proofs.NamedParams.{required-refl}
-use Rattle.dart_types.proofs.Steps.{yes, no, through}
+use Rattle.dart_types.proofs.Steps.{no, through}
 
 -- names stay, and what is required of them, whatever is put into the types
 is_required-put : (σ : VarId → Ty) (ns : Named) (m : List ℕ) → is_required (put_named σ ns) m ≡ is_required ns m

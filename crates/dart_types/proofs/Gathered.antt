@@ -1,6 +1,6 @@
 -- Lists that grow, in the order of classes.
-use Rattle.std.proofs.Common.{◌≡◌, ℕ, zero, suc, ◌+◌, ◌-◌, ◌<◌, ◌≤◌, Bool, true, false, List, [], ◌∷◌, ◌++◌, length, take, drop, get_or, refl, sym, ◌∙◌, ap, subst, cond, arith, inl, inr}
-use Rattle.std.specs.Prelude.{◌⊎◌, ◌&&◌, ◌||◌, nat_lt, nat_eq, Contains, All, AllPairs, Result, Ok, Err, OnOk, IfErr, IsErrAnd}
+use Rattle.std.proofs.Common.{◌≡◌, ℕ, zero, suc, ◌+◌, ◌-◌, ◌<◌, ◌≤◌, Bool, true, false, List, [], ◌∷◌, length, take, drop, get_or, refl, sym, ◌∙◌, ap, subst, cond, arith, inl, inr}
+use Rattle.std.specs.Prelude.{◌⊎◌, ◌&&◌, ◌||◌, nat_lt, nat_eq, Contains, All, Result, Ok, Err, OnOk, IfErr, IsErrAnd}
 use Rattle.std.proofs.lemmas.Bool.Decides.{nat_tests}
 use Rattle.std.specs.List.{AllWithin, filter, insert}
 use Rattle.std.specs.List.Sorted.{IsPartitionPoint}
@@ -12,7 +12,7 @@ use Rattle.dart_types.specs.Ty.{Ty}
 use Rattle.dart_types.specs.Sizes.{size_of}
 use Rattle.dart_types.specs.Superinterfaces.{interface_of}
 use Rattle.dart_types.specs.WellFormed.{class_before}
-use Rattle.dart_types.specs.Gathering.{Adds, AreOrdered, AreFitting, IsCauseAmong}
+use Rattle.dart_types.specs.Gathering.{Adds, AreOrdered, IsCauseAmong}
 use Rattle.dart_types.specs.declared.ids.ClassId.{ClassId}
 use Rattle.dart_types.specs.declared.superinterfaces.Superinterface.{Superinterface}
 use Rattle.dart_types.specs.declared.refusal.TheConstants.{NODE_LIMIT}

@@ -1,6 +1,6 @@
 -- What one direct supertype gives a class, from the superinterfaces that are known.
-use Rattle.std.proofs.Common.{◌≡◌, ℕ, ◌+◌, ◌<◌, ◌≤◌, List, [], ◌∷◌, length, Option, Some, None, refl, sym, ◌∙◌, ap, subst, arith, inl, inr}
-use Rattle.std.specs.Prelude.{◌⊎◌, Contains, All, find}
+use Rattle.std.proofs.Common.{◌≡◌, ◌<◌, ◌≤◌, List, [], ◌∷◌, length, Option, Some, None, refl, sym, ◌∙◌, ap, subst, arith, inl, inr}
+use Rattle.std.specs.Prelude.{◌⊎◌, Contains, find}
 use Rattle.std.specs.Option.{option_map}
 use Rattle.std.proofs.lemmas.List.Elements.{All-contains, All-nil}
 use Rattle.dart_types.specs.Ty.{Ty, Types, interface, types_of, count}
@@ -8,8 +8,8 @@ use Rattle.dart_types.specs.Same.{same_class}
 use Rattle.dart_types.specs.Sizes.{size_of, held}
 use Rattle.dart_types.specs.Substitution.{put, by_params}
 use Rattle.dart_types.specs.Normal.{normal}
-use Rattle.dart_types.specs.Tables.{Table, class_of, depth_of, head_depth}
-use Rattle.dart_types.specs.WellFormed.{HasArguments, IsSupertype, IsOver, IsWellFormed}
+use Rattle.dart_types.specs.Tables.{Table, class_of, depth_of}
+use Rattle.dart_types.specs.WellFormed.{HasArguments, IsSupertype, IsWellFormed}
 use Rattle.dart_types.specs.Entries.{table_of}
 use Rattle.dart_types.specs.Superinterfaces.{IsSuperinterface, AreSuperinterfaces, interface_of}
 use Rattle.dart_types.specs.RowsCause.{IsCauseIn}

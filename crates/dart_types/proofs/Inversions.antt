@@ -1,17 +1,15 @@
 -- The rules read backwards, as the test of subtyping goes through them.
-use Rattle.std.proofs.Common.{◌≡◌, ℕ, ◌≤◌, Bool, true, false, List, Option, Some, None, length, refl, sym, ◌∙◌, ap, subst, inl, inr}
-use Rattle.std.specs.Prelude.{◌⊎◌, Contains}
-use Rattle.dart_types.specs.Ty.{Ty, Types, Named, invalid, never, void, null, interface, function, variable, promoted, nullable, no_more, more, count}
-use Rattle.dart_types.specs.Heads.{object, is_object, is_function_class, is_top, is_plain}
-use Rattle.dart_types.specs.Substitution.{put, put_all, by_params}
-use Rattle.dart_types.specs.Tables.{Table, class_of, bound_of}
+use Rattle.std.proofs.Common.{◌≡◌, Bool, true, false, List, Some, refl, sym, subst, inl, inr}
+use Rattle.std.specs.Prelude.{◌⊎◌}
+use Rattle.dart_types.specs.Ty.{Ty, Types, invalid, never, void, null, interface, function, variable, promoted, nullable}
+use Rattle.dart_types.specs.Heads.{object, is_object, is_top, is_plain}
+use Rattle.dart_types.specs.Substitution.{put, by_params}
+use Rattle.dart_types.specs.Tables.{Table, bound_of}
 use Rattle.dart_types.specs.Targets.{is_bare, or_nullable}
 use Rattle.dart_types.specs.WellFormed.{IsSupertype, IsWellFormed}
-use Rattle.dart_types.specs.Sub.{Sub, Subs, reflexivity, right_top, left_bottom, left_null, right_object, left_nullable, right_nullable, left_promoted_variable, left_promoted_type, right_promoted, left_variable_bound, interface_arguments, super_interface, function_class, function_types, left_top, none_left, one_left}
+use Rattle.dart_types.specs.Sub.{Sub, reflexivity, right_top, left_bottom, left_null, right_object, left_nullable, right_nullable, left_promoted_variable, left_promoted_type, right_promoted, left_variable_bound, interface_arguments, super_interface, function_class, left_top}
 use Rattle.dart_types.specs.declared.ids.ClassId.{ClassId}
 use Rattle.dart_types.specs.declared.ids.VarId.{VarId}
-use Rattle.dart_types.specs.declared.ids.TheConstants.{OBJECT}
-use Rattle.dart_types.specs.declared.class_rows.ClassRow.{ClassRow}
 use Rattle.dart_types.proofs.Formed.{formed_super, object_has_none}
 use Rattle.dart_types.proofs.Above.{nullable_bare, nullable_null, void_top, object_args, class_of_object}
 use Rattle.dart_types.proofs.Transitive.{trans}

@@ -1,13 +1,13 @@
 -- The measure of s <: t falls from the two sides of a rule to those of its premises.
-use Rattle.std.proofs.Common.{◌≡◌, ℕ, zero, suc, ◌+◌, ◌*◌, ◌<◌, ◌≤◌, max, Bool, true, false, List, [], ◌∷◌, length, get_or, Option, Some, None, refl, sym, ◌∙◌, ap, subst, cond, arith}
+use Rattle.std.proofs.Common.{◌≡◌, ℕ, zero, suc, ◌+◌, ◌*◌, ◌<◌, ◌≤◌, max, Bool, true, false, List, [], ◌∷◌, length, get_or, Option, Some, None, refl, sym, ap, subst, cond, arith}
 use Rattle.std.specs.Prelude.{◌||◌, Contains, unwrap_or}
 use Rattle.std.specs.Option.{option_map_or}
-use Rattle.dart_types.specs.Ty.{Ty, Types, Named, invalid, never, void, null, interface, function, variable, promoted, nullable, no_more, more, no_named, more_named, count}
+use Rattle.dart_types.specs.Ty.{Ty, Types, invalid, never, void, null, interface, function, variable, promoted, nullable, no_more, more, count}
 use Rattle.dart_types.specs.Same.{same_class, same_var}
 use Rattle.dart_types.specs.Substitution.{put, put_all, argument_of, by_params}
 use Rattle.dart_types.specs.Tables.{Table, class_of, bound_of, depth_of, head_depth}
 use Rattle.dart_types.specs.WellFormed.{is_among, IsSimple, AreSimple, IsSupertype, IsEarlier, AreEarlier, IsWellFormed}
-use Rattle.dart_types.specs.Measure.{VarMeasure, weight, weights, weights_named, deep, deeps, heavy, heavies, of_bound, by_bounds, of_var, weight_of, deepness_of, heaviest_of, tallest_of, most_of, deepest_of, rank_of, step_of, ranks_of, measure}
+use Rattle.dart_types.specs.Measure.{VarMeasure, weight, weights, deep, deeps, heavy, heavies, of_bound, by_bounds, of_var, weight_of, deepness_of, heaviest_of, tallest_of, deepest_of, rank_of, step_of, ranks_of, measure}
 use Rattle.dart_types.specs.declared.ids.ClassId.{ClassId}
 use Rattle.dart_types.specs.declared.ids.VarId.{VarId}
 use Rattle.dart_types.specs.declared.class_rows.ClassRow.{ClassRow}

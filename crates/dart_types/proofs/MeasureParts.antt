@@ -1,6 +1,6 @@
 -- The measure of s <: t falls to the pairs of parts that the rules on arguments, parameters and results ask for.
 use Rattle.std.proofs.Common.{◌≡◌, ℕ, ◌+◌, ◌*◌, ◌<◌, ◌≤◌, List, arith}
-use Rattle.dart_types.specs.Ty.{Ty, Types, Named, interface, function, no_more, more, no_named, more_named, join}
+use Rattle.dart_types.specs.Ty.{Ty, Types, Named, interface, function, no_more, more, join}
 use Rattle.dart_types.specs.Tables.{Table}
 use Rattle.dart_types.specs.WellFormed.{IsWellFormed}
 use Rattle.dart_types.specs.Measure.{VarMeasure, weight, weights, weights_named, deep, deeps, heavy, heavies, of_var, weight_of, deepness_of, heaviest_of, measure}

@@ -1,8 +1,8 @@
 -- The steps of the test of subtyping through the named parameters of two function types.
-use Rattle.std.proofs.Common.{◌≡◌, ℕ, ◌+◌, ◌<◌, ◌≤◌, Bool, true, false, IsTrue, List, length, drop, get_or, map, refl, sym, ◌∙◌, ap, subst, arith}
+use Rattle.std.proofs.Common.{◌≡◌, ℕ, ◌+◌, ◌<◌, ◌≤◌, true, false, IsTrue, List, length, drop, get_or, sym, ◌∙◌, ap, subst}
 use Rattle.std.specs.Prelude.{◌↔◌}
 use Rattle.std.proofs.Math.ListN.{length-map}
-use Rattle.dart_types.specs.Ty.{Ty, Types, Named}
+use Rattle.dart_types.specs.Ty.{Ty}
 use Rattle.dart_types.specs.Named.{named_of, names_of, AreInOrder}
 use Rattle.dart_types.specs.NamedSearch.{StandsFrom, IsNotFrom}
 use Rattle.dart_types.specs.Substitution.{put, put_named}

@@ -1,8 +1,8 @@
 -- Which named parameters are required.
-use Rattle.std.proofs.Common.{◌≡◌, ℕ, Bool, true, false, List, refl, ap, subst, cond}
+use Rattle.std.proofs.Common.{◌≡◌, ℕ, Bool, true, false, List, refl, subst, cond}
 use Rattle.std.specs.Prelude.{◌&&◌, ◌||◌, bytes_eq}
 use Rattle.std.specs.Cmp.Lexicographic.{bytes_decides}
-use Rattle.dart_types.specs.Ty.{Ty, Named, no_named, more_named}
+use Rattle.dart_types.specs.Ty.{Named, no_named, more_named}
 use Rattle.dart_types.specs.Sub.{is_required, required_in}
 use Rattle.dart_types.proofs.SameIds.{both_true}
 

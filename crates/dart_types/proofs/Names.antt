@@ -1,13 +1,12 @@
 -- Named parameters in the order of their names, looked up by name.
-use Rattle.std.proofs.Common.{◌≡◌, ℕ, zero, suc, ◌+◌, ◌<◌, ◌≤◌, Bool, true, false, List, [], ◌∷◌, length, drop, get_or, map, refl, sym, ◌∙◌, ap, subst, cond, arith, drop-cons, add-one, slice_index_or, inl, inr}
-use Rattle.std.specs.Prelude.{◌≢◌, ◌&&◌, ◌||◌, bytes_eq, AllPairs}
-use Rattle.std.specs.Cmp.{IsTotalOrder}
+use Rattle.std.proofs.Common.{◌≡◌, ℕ, zero, suc, ◌+◌, ◌<◌, ◌≤◌, Bool, true, false, List, [], ◌∷◌, length, drop, get_or, refl, sym, ◌∙◌, ap, subst, cond, arith, drop-cons, add-one, slice_index_or, inl, inr}
+use Rattle.std.specs.Prelude.{◌&&◌, ◌||◌, bytes_eq, AllPairs}
 use Rattle.std.specs.Cmp.Lexicographic.{bytes_decides}
 use Rattle.std.proofs.Math.ListN.{length-map}
 use Rattle.std.proofs.lemmas.Bool.{cases_lt}
 use Rattle.std.proofs.lemmas.Cmp.{nat_list_cmp_total, tied_itself}
 use Rattle.std.proofs.lemmas.List.{get_or-map, get_or_default}
-use Rattle.dart_types.specs.Ty.{Ty, Named, no_named, more_named}
+use Rattle.dart_types.specs.Ty.{Ty}
 use Rattle.dart_types.specs.Named.{named_of, names_of, IsNameBefore, AreInOrder}
 use Rattle.dart_types.specs.NamedSearch.{StandsFrom, IsNotFrom}
 use Rattle.dart_types.specs.Sub.{is_required, required_in, HasNamed, first, later}

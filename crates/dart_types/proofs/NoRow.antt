@@ -1,6 +1,5 @@
 -- A class without a row has no superinterface.
-use Rattle.std.proofs.Common.{◌≡◌, ◌≤◌, List, [], length, None, Some, arith}
-use Rattle.std.specs.Prelude.{Contains, All, AllPairs, false}
+use Rattle.std.proofs.Common.{◌≡◌, ◌≤◌, [], None, arith}
 use Rattle.std.proofs.lemmas.List.Elements.{All-nil}
 use Rattle.dart_types.specs.Ty.{Ty}
 use Rattle.dart_types.specs.Sizes.{size_of}

@@ -1,11 +1,11 @@
 -- A type and its normal form.
-use Rattle.std.proofs.Common.{◌≡◌, ◌≤◌, ◌+◌, ℕ, Bool, true, List, refl, sym, ◌∙◌, ap, subst, arith}
+use Rattle.std.proofs.Common.{◌≡◌, ◌+◌, ℕ, Bool, List, refl, sym, ◌∙◌, ap, subst, arith}
 use Rattle.std.specs.Prelude.{◌&&◌, ◌||◌, bytes_eq}
 use Rattle.dart_types.specs.Ty.{Ty, Types, Named, invalid, never, void, null, interface, function, variable, promoted, nullable, no_more, more, no_named, more_named, count, join}
 use Rattle.dart_types.specs.Normal.{nullable_of, normal, normal_all, normal_named}
 use Rattle.dart_types.specs.Tables.{Table}
 use Rattle.dart_types.specs.WellFormed.{IsWellFormed}
-use Rattle.dart_types.specs.Sub.{Sub, Subs, SubParams, SubNamed, HasNamed, first, later, is_required, required_in, reflexivity, right_top, left_bottom, left_null, left_nullable, right_nullable, left_promoted_variable, left_promoted_type, right_promoted, interface_arguments, function_types, none_left, one_left, no_param, one_param, no_name, one_name}
+use Rattle.dart_types.specs.Sub.{Sub, Subs, SubParams, SubNamed, HasNamed, first, later, is_required, reflexivity, right_top, left_bottom, left_null, left_nullable, right_nullable, left_promoted_variable, left_promoted_type, right_promoted, interface_arguments, function_types, none_left, one_left, no_param, one_param, no_name, one_name}
 use Rattle.dart_types.specs.declared.ids.VarId.{VarId}
 use Rattle.dart_types.proofs.NamedParams.{required_from}
 use Rattle.dart_types.proofs.Transitive.{trans}

@@ -1,14 +1,14 @@
 -- Types put in before and after normal forms are taken.
-use Rattle.std.proofs.Common.{◌≡◌, ◌≤◌, ℕ, ◌+◌, max, List, refl, sym, ◌∙◌, ap, subst, arith}
+use Rattle.std.proofs.Common.{◌≡◌, ◌≤◌, ◌+◌, List, refl, ◌∙◌, ap, subst, arith}
 use Rattle.dart_types.specs.Ty.{Ty, Types, Named, invalid, never, void, null, interface, function, variable, promoted, nullable, no_more, more, no_named, more_named}
 use Rattle.dart_types.specs.Substitution.{put, put_all, put_named}
 use Rattle.dart_types.specs.Normal.{nullable_of, normal, normal_all, normal_named}
 use Rattle.dart_types.specs.Tables.{Table}
 use Rattle.dart_types.specs.WellFormed.{IsSimple, AreSimple, IsWellFormed}
-use Rattle.dart_types.specs.Measure.{VarMeasure, weight, deep, deeps, heavy, heavies}
+use Rattle.dart_types.specs.Measure.{VarMeasure, deep, deeps, heavy, heavies}
 use Rattle.dart_types.specs.Sub.{Sub, Subs, none_left, one_left}
 use Rattle.dart_types.specs.declared.ids.VarId.{VarId}
-use Rattle.dart_types.proofs.NormalForms.{normal-normal, settles}
+use Rattle.dart_types.proofs.NormalForms.{settles}
 use Rattle.dart_types.proofs.Transitive.{trans}
 
 -- `?` on a normal form of a type, with σ put in, has the normal form of `?` on the type with σ put in

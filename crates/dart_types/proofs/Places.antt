@@ -1,10 +1,10 @@
 -- Lists of types compared place by place, as the test of subtyping goes through them.
-use Rattle.std.proofs.Common.{◌≡◌, ℕ, zero, suc, ◌+◌, ◌<◌, ◌≤◌, ◌++◌, List, [], ◌∷◌, length, drop, get_or, Option, Some, None, refl, sym, ◌∙◌, ap, subst, arith, drop-cons, add-one, inl, inr}
-use Rattle.std.specs.Prelude.{slice_get, ◌⊎◌}
+use Rattle.std.proofs.Common.{◌≡◌, ℕ, zero, suc, ◌+◌, ◌<◌, ◌≤◌, ◌++◌, List, [], ◌∷◌, length, drop, get_or, Some, None, refl, sym, ◌∙◌, ap, subst, arith, drop-cons, add-one, inl, inr}
+use Rattle.std.specs.Prelude.{slice_get}
 use Rattle.std.specs.Option.{option_map}
 use Rattle.std.proofs.lemmas.List.{drop_all, get_or_default, get_or_append_left, get_or-append-add, length-append}
-use Rattle.std.proofs.lemmas.Option.{slice_get_cases, slice_get_past}
-use Rattle.dart_types.specs.Ty.{Ty, Types, Named, no_more, more, no_named, more_named, types_of, join, count, invalid}
+use Rattle.std.proofs.lemmas.Option.{slice_get_cases}
+use Rattle.dart_types.specs.Ty.{Ty, Types, Named, no_more, more, types_of, join, count, invalid}
 use Rattle.dart_types.specs.Named.{named_of}
 use Rattle.dart_types.specs.Substitution.{put, put_all, put_named}
 use Rattle.dart_types.specs.Tables.{Table}

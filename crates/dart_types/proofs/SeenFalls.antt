@@ -1,6 +1,6 @@
 -- The measure falls from interfaces and function types that are seen to their parts.
-use Rattle.std.proofs.Common.{◌≡◌, ℕ, ◌<◌, ◌++◌, List, length, get_or, sym, subst}
-use Rattle.dart_types.specs.Ty.{Ty, Types, Named, interface, function, types_of, join, invalid}
+use Rattle.std.proofs.Common.{◌≡◌, ℕ, ◌<◌, List, length, get_or, sym, subst}
+use Rattle.dart_types.specs.Ty.{Ty, Types, interface, types_of, join, invalid}
 use Rattle.dart_types.specs.Named.{named_of}
 use Rattle.dart_types.specs.Node.{function_type}
 use Rattle.dart_types.specs.Substitution.{put, put_all, put_named}

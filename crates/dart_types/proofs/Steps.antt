@@ -1,19 +1,18 @@
 -- The steps of the test of subtyping on forms of types: what each answer rests on, and that the measure falls.
-use Rattle.std.proofs.Common.{◌≡◌, ℕ, ◌+◌, ◌<◌, ◌≤◌, Bool, true, false, IsTrue, List, [], Option, Some, None, length, refl, sym, ◌∙◌, ap, subst, arith, inl, inr}
-use Rattle.std.specs.Prelude.{◌≢◌, ◌↔◌, ◌⊎◌, Contains}
-use Rattle.dart_types.specs.Ty.{Ty, Types, Named, invalid, never, void, null, interface, function, variable, promoted, nullable, no_more, more, no_named, more_named, count}
-use Rattle.dart_types.specs.Heads.{object, is_object, is_function_class, is_top, is_plain}
+use Rattle.std.proofs.Common.{◌≡◌, ◌<◌, ◌≤◌, Bool, true, false, IsTrue, [], Some, None, refl, sym, ◌∙◌, ap, subst, arith, inl, inr}
+use Rattle.std.specs.Prelude.{◌↔◌, ◌⊎◌}
+use Rattle.dart_types.specs.Ty.{Ty, Types, Named, invalid, never, void, null, interface, function, variable, promoted, nullable, no_more, more, no_named, more_named}
+use Rattle.dart_types.specs.Heads.{is_object, is_plain}
 use Rattle.dart_types.specs.Substitution.{put, put_all, put_named}
-use Rattle.dart_types.specs.Scopes.{Frames, close, close_all}
-use Rattle.dart_types.specs.Tables.{Table, class_of, bound_of}
+use Rattle.dart_types.specs.Scopes.{Frames, close}
+use Rattle.dart_types.specs.Tables.{Table, bound_of}
 use Rattle.dart_types.specs.Targets.{is_bare, or_nullable}
 use Rattle.dart_types.specs.WellFormed.{IsWellFormed}
-use Rattle.dart_types.specs.Measure.{measure, deepness_of, deep, of_var}
-use Rattle.dart_types.specs.Sub.{Sub, Subs, SubParams, SubNamed, reflexivity, right_top, left_bottom, left_null, right_object, left_nullable, right_nullable, left_promoted_variable, left_promoted_type, right_promoted, left_variable_bound, interface_arguments, super_interface, function_class, function_types, left_top, none_left, one_left}
-use Rattle.dart_types.specs.declared.ids.ClassId.{ClassId}
+use Rattle.dart_types.specs.Measure.{measure, deepness_of}
+use Rattle.dart_types.specs.Sub.{Sub, reflexivity, right_top, left_bottom, left_null, left_nullable, right_nullable, left_promoted_variable, left_promoted_type, right_promoted, left_variable_bound}
 use Rattle.dart_types.specs.declared.ids.VarId.{VarId}
 use Rattle.dart_types.proofs.MeasureBounds.{bound_deepness}
-use Rattle.dart_types.proofs.MeasureFalls.{right_bare_falls, right_promoted_falls, left_bare_falls, left_promoted_falls, bound_falls}
+use Rattle.dart_types.proofs.MeasureFalls.{right_bare_falls, left_bare_falls, left_promoted_falls, bound_falls}
 use Rattle.dart_types.proofs.Inversions.{promoted_parts, nullable_parts, null_target, target_null, into_target, invalid_target, var_target, promoted_target, var_nullable_promoted, promoted_nullable_promoted, invalid_nullable_promoted, nullable_twice, plain_target, plain_nullable_promoted, void_target, void_nullable_promoted}
 
 -- an answer, and what it says

@@ -1,5 +1,5 @@
 -- What is put in for variables, one substitution after another, and what rules read of it.
-use Rattle.std.proofs.Common.{◌≡◌, ℕ, ◌+◌, Bool, true, false, List, [], ◌∷◌, length, Option, Some, None, refl, sym, ◌∙◌, ap, subst, cond, arith}
+use Rattle.std.proofs.Common.{◌≡◌, ℕ, ◌+◌, Bool, true, false, List, [], ◌∷◌, length, Some, refl, ap, cond, arith}
 use Rattle.std.specs.Prelude.{◌&&◌, ◌||◌, bytes_eq, unwrap_or}
 use Rattle.dart_types.specs.Ty.{Ty, Types, Named, invalid, never, void, null, interface, function, variable, promoted, nullable, no_more, more, no_named, more_named, count, join}
 use Rattle.dart_types.specs.Same.{same_var}

@@ -1,15 +1,14 @@
 -- Subtyping holds of types with others within the bounds put in for their variables.
-use Rattle.std.proofs.Common.{◌≡◌, ◌≤◌, ◌+◌, ℕ, Bool, true, false, List, [], ◌∷◌, length, Option, Some, None, refl, sym, ◌∙◌, ap, subst, cond, arith}
-use Rattle.std.specs.Prelude.{◌||◌, Contains, unwrap_or}
-use Rattle.dart_types.specs.Ty.{Ty, Types, Named, invalid, never, void, null, interface, function, variable, promoted, nullable, no_more, more, no_named, more_named, count, join}
+use Rattle.std.proofs.Common.{◌≡◌, ℕ, Bool, true, false, List, [], ◌∷◌, length, Some, sym, ◌∙◌, subst, cond, arith}
+use Rattle.std.specs.Prelude.{◌||◌, unwrap_or}
+use Rattle.dart_types.specs.Ty.{Ty, Types, Named, invalid, never, void, null, interface, function, variable, promoted, nullable, no_more, more, count, join}
 use Rattle.dart_types.specs.Same.{same_var}
 use Rattle.dart_types.specs.Substitution.{put, put_all, put_named, argument_of, by_params}
-use Rattle.dart_types.specs.Tables.{Table, class_of, bound_of}
+use Rattle.dart_types.specs.Tables.{Table}
 use Rattle.dart_types.specs.WellFormed.{is_among, IsSimple, AreSimple, IsWellFormed}
 use Rattle.dart_types.specs.Scope.{IsInScope, AreInScope, AreInScopeNamed, IsWithinBounds}
 use Rattle.dart_types.specs.Sub.{Sub, Subs, SubParams, SubNamed, HasNamed, first, later, reflexivity, right_top, left_bottom, left_null, right_object, left_nullable, right_nullable, left_promoted_variable, left_promoted_type, right_promoted, left_variable_bound, interface_arguments, super_interface, function_class, function_types, left_top, none_left, one_left, no_param, one_param, no_name, one_name}
 use Rattle.dart_types.specs.declared.ids.VarId.{VarId}
-use Rattle.dart_types.specs.declared.class_rows.ClassRow.{ClassRow}
 use Rattle.dart_types.proofs.Formed.{formed_super}
 use Rattle.dart_types.proofs.Transitive.{trans, super_simple}
 use Rattle.dart_types.proofs.Substitutes.{count-put_all, put_all-join, put-by_params, object_put, function_class_put, top_put, plain_put, has_put, required_in-put_named}

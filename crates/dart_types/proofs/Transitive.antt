@@ -1,19 +1,17 @@
 -- Subtyping is transitive.
-use Rattle.std.proofs.Common.{◌≡◌, ℕ, ◌+◌, ◌≤◌, Bool, true, false, List, [], ◌∷◌, refl, sym, ◌∙◌, ap, subst, cond, arith, Option, Some, None}
-use Rattle.std.specs.Prelude.{Contains, unwrap_or}
+use Rattle.std.proofs.Common.{◌≡◌, ℕ, ◌+◌, ◌≤◌, Bool, true, false, List, [], ◌∷◌, refl, ◌∙◌, ap, cond, arith, Some}
+use Rattle.std.specs.Prelude.{unwrap_or}
 use Rattle.dart_types.specs.Ty.{Ty, Types, Named, invalid, never, void, null, interface, function, variable, promoted, nullable, no_more, more, no_named, more_named, count, join}
 use Rattle.dart_types.specs.Same.{same_var}
-use Rattle.dart_types.specs.Heads.{object, is_object, is_function_class, is_top, is_plain}
 use Rattle.dart_types.specs.Substitution.{put, put_all, argument_of, by_params}
-use Rattle.dart_types.specs.Tables.{Table, class_of, bound_of}
+use Rattle.dart_types.specs.Tables.{Table}
 use Rattle.dart_types.specs.WellFormed.{IsSimple, AreSimple, IsSupertype, IsWellFormed}
 use Rattle.dart_types.specs.Sub.{Sub, Subs, SubParams, SubNamed, HasNamed, first, later, required_in, reflexivity, right_top, left_bottom, left_null, right_object, left_nullable, right_nullable, left_promoted_variable, left_promoted_type, right_promoted, left_variable_bound, interface_arguments, super_interface, function_class, function_types, left_top, none_left, one_left, no_param, one_param, no_name, one_name}
 use Rattle.dart_types.specs.declared.ids.ClassId.{ClassId}
 use Rattle.dart_types.specs.declared.ids.VarId.{VarId}
-use Rattle.dart_types.specs.declared.class_rows.ClassRow.{ClassRow}
 use Rattle.dart_types.proofs.Formed.{formed_super}
 use Rattle.dart_types.proofs.NamedParams.{required_trans}
-use Rattle.dart_types.proofs.Above.{nullable_bare, nullable_null, void_top, plain_then, above_top, above_function}
+use Rattle.dart_types.proofs.Above.{nullable_bare, nullable_null, plain_then, above_top, above_function}
 
 mutual
   -- t with some parts, at places where they are covariant, replaced by what is below them

@@ -3,7 +3,6 @@ use Rattle.std.specs.Prelude.{List, map, All}
 use Rattle.dart_types.specs.Tables.{Table}
 use Rattle.dart_types.specs.Superinterfaces.{AreSuperinterfaces}
 use Rattle.dart_types.specs.declared.entries.ClassEntry.{ClassEntry}
-use Rattle.dart_types.specs.declared.class_rows.ClassRow.{ClassRow}
 use Rattle.dart_types.specs.declared.class_rows.VarRow.{VarRow}
 
 -- the rows, without the lists of superinterfaces beside them

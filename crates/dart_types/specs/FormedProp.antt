@@ -1,10 +1,10 @@
 -- Rows are well formed in one way at most, so a value may hold the proof that they are.
-use Rattle.std.specs.Prelude.{◌≡◌, ℕ, Bool, true, List, [], ◌∷◌, Option, Some, None}
-use Rattle.std.specs.Coded.{Coded, Coded-set, coded_list, coded_ℕ, coded_bool, ×_prop, Unit-prop, le_prop}
+use Rattle.std.specs.Prelude.{◌≡◌, ℕ, Bool, true, List, Option, Some, None}
+use Rattle.std.specs.Coded.{Coded-set, coded_list, coded_ℕ, coded_bool, ×_prop, Unit-prop, le_prop}
 use Rattle.dart_types.specs.Ty.{Ty, Types, Named, invalid, never, void, null, interface, function, variable, promoted, nullable, no_more, more, no_named, more_named}
 use Rattle.dart_types.specs.TyCode.{type_code}
-use Rattle.dart_types.specs.Tables.{Table, class_of, bound_of}
-use Rattle.dart_types.specs.WellFormed.{is_among, IsSimple, AreSimple, IsSupertype, IsEarlierVar, IsEarlier, AreEarlier, AreEarlierNamed, HasArguments, IsOver, AreOver, AreOverNamed, IsFormedClass, IsFormedVar, IsWellFormed}
+use Rattle.dart_types.specs.Tables.{Table, class_of}
+use Rattle.dart_types.specs.WellFormed.{is_among, IsSimple, AreSimple, IsSupertype, IsEarlier, AreEarlier, AreEarlierNamed, HasArguments, IsOver, AreOver, AreOverNamed, IsFormedClass, IsFormedVar, IsWellFormed}
 use Rattle.dart_types.specs.declared.ids.VarId.{VarId}
 use Rattle.dart_types.specs.declared.class_rows.ClassRow.{ClassRow}
 use Rattle.dart_types.specs.declared.class_rows.VarRow.{VarRow}

@@ -1,7 +1,7 @@
 -- Well-formed rows as one value.
 use Rattle.std.specs.Prelude.{List, refl}
-use Rattle.std.specs.Coded.{Coded, code_by, coded×, coded_list, Coded-set}
-use base.Stored.{coded_sub, coded_via}
+use Rattle.std.specs.Coded.{Coded, code_by, coded×, coded_list}
+use base.Stored.{coded_sub}
 use Rattle.dart_types.specs.Tables.{Table}
 use Rattle.dart_types.specs.WellFormed.{IsWellFormed}
 use Rattle.dart_types.specs.FormedProp.{IsWellFormed-prop}

@@ -1,6 +1,6 @@
 -- Forms of types in a scope.
 use Rattle.std.specs.Prelude.{List, ◌++◌}
-use Rattle.dart_types.specs.Ty.{Ty, Types, Named, join, invalid, never, void, null, interface, function, variable, promoted, nullable, types_of}
+use Rattle.dart_types.specs.Ty.{Ty, Types, Named, join, invalid, never, void, null, interface, variable, promoted, nullable, types_of}
 use Rattle.dart_types.specs.Named.{named_of}
 use Rattle.dart_types.specs.Node.{function_type}
 use Rattle.dart_types.specs.declared.types.FunctionType.{FunctionType}

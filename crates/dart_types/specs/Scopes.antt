@@ -1,5 +1,5 @@
 -- Scopes: what the parameters of classes stand for, and the types that this makes of others.
-use Rattle.std.specs.Prelude.{List, [], ◌∷◌, Option, None, Some, unwrap_or, map}
+use Rattle.std.specs.Prelude.{List, [], ◌∷◌, Option, None, Some}
 use Rattle.std.specs.Coded.{Coded, coded×, coded_list}
 use Rattle.dart_types.specs.Ty.{Ty, Types, Named, variable, types_of}
 use Rattle.dart_types.specs.TyCode.{type_code}

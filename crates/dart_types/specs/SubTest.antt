@@ -5,7 +5,7 @@ use Rattle.std.specs.Option.{option_map_or}
 use Rattle.std.proofs.Common.{zero, suc}
 use Rattle.dart_types.specs.Ty.{Ty, Types, Named, invalid, never, void, null, interface, function, variable, promoted, nullable, no_more, more, no_named, more_named, count, join}
 use Rattle.dart_types.specs.Same.{same_class, same_type}
-use Rattle.dart_types.specs.Heads.{object, is_object, is_function_class, is_top, is_plain}
+use Rattle.dart_types.specs.Heads.{object, is_object, is_function_class}
 use Rattle.dart_types.specs.Substitution.{put, by_params}
 use Rattle.dart_types.specs.Tables.{Table, class_of, bound_of}
 use Rattle.dart_types.specs.Sub.{required_in}

@@ -1,5 +1,5 @@
 -- The superinterfaces of a class.
-use Rattle.std.specs.Prelude.{◌≡◌, ◌≤◌, List, ◌↔◌, Contains, All, AllPairs, Some, false}
+use Rattle.std.specs.Prelude.{◌≡◌, ◌≤◌, List, Contains, All, AllPairs, Some, false}
 use Rattle.dart_types.specs.Ty.{Ty, Types, interface, types_of}
 use Rattle.dart_types.specs.Sizes.{size_of}
 use Rattle.dart_types.specs.Substitution.{put, by_params}

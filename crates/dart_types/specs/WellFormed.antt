@@ -1,8 +1,8 @@
 -- Well-formed rows.
-use Rattle.std.specs.Prelude.{◌≡◌, ◌≢◌, ◌<◌, ◌&&◌, ◌||◌, nat_eq, nat_lt, ℕ, Bool, true, List, [], ◌∷◌, length, Option, Some, None, All, AllPairs, IsSome}
+use Rattle.std.specs.Prelude.{◌≡◌, ◌≢◌, ◌<◌, ◌&&◌, ◌||◌, nat_eq, nat_lt, Bool, true, List, [], ◌∷◌, length, Option, Some, None, All, AllPairs, IsSome}
 use Rattle.std.specs.List.{list_any}
 use Rattle.dart_types.specs.Ty.{Ty, Types, Named, invalid, never, void, null, interface, function, variable, promoted, nullable, no_more, more, no_named, more_named, count}
-use Rattle.dart_types.specs.Same.{same_class, same_var}
+use Rattle.dart_types.specs.Same.{same_var}
 use Rattle.dart_types.specs.Heads.{object}
 use Rattle.dart_types.specs.Tables.{Table, class_of, bound_of, depth_above}
 use Rattle.dart_types.specs.declared.ids.ClassId.{ClassId}

@@ -1,9 +1,11 @@
 //! Laws of subtyping and of substitution, for every well-formed rows and all types.
 
-ghost use Rattle.std.specs.Prelude.{◌≡◌};
+ghost use Rattle.std.specs.Prelude.{◌≡◌, ◌↔◌, IsTrue};
+ghost use Rattle.dart_types.specs.Ty.{Ty};
 ghost use Rattle.dart_types.specs.Normal.{normal};
 ghost use Rattle.dart_types.specs.Scope.{IsInScope, IsWithinBounds};
 ghost use Rattle.dart_types.specs.Sub.{Sub};
+ghost use Rattle.dart_types.specs.SubTest.{sub};
 ghost use Rattle.dart_types.specs.Substitution.{put, by_pairs};
 
 use crate::ids::VarId;
@@ -14,6 +16,11 @@ use crate::types::DartType;
 pub fn subtype_laws(_rows: &Rows, _s: &DartType, _t: &DartType, _u: &DartType)
     ensures reflexive { Sub _rows.now.table _s.now _s.now }
     ensures transitive { Sub _rows.now.table _s.now _t.now → Sub _rows.now.table _t.now _u.now → Sub _rows.now.table _s.now _u.now }
+{}
+
+/// The test that definitions compute holds exactly where the rules have a derivation.
+pub fn subtype_test_law(_rows: &Rows)
+    ensures { (s t : Ty) → IsTrue (sub _rows.now.table s t) ↔ Sub _rows.now.table s t }
 {}
 
 /// A type and its normal form are subtypes of each other, and a normal form is its own.

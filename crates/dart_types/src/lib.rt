@@ -3,9 +3,11 @@
 //! A `DartType` is a type as contracts compare it: two of equal parts are equal (`specs/Ty.antt`).
 //! The rules of subtyping are a relation, one constructor for each (`specs/Sub.antt`), over the rows
 //! of classes and type variables that `Rows` holds; they are well formed by its type
-//! (`specs/WellFormed.antt`), so no call has a condition on them. `is_subtype` decides the relation,
-//! and takes no memory; `substitute` puts arguments in (`specs/Substitution.antt`). The crate stands
-//! on `plain_text`.
+//! (`specs/WellFormed.antt`), so no call has a condition on them. `Rows::new` forms the
+//! superinterfaces of each class once (`specs/Superinterfaces.antt`), so that no way up to them is
+//! walked; `Rows::are_well_formed` tests what it asks. `is_subtype` decides the relation, and takes no
+//! memory; `substitute` puts arguments in (`specs/Substitution.antt`). The crate stands on
+//! `plain_text`.
 #![tactic(auto)]
 
 mod class_rows;
@@ -45,7 +47,7 @@ mod types;
 
 pub use class_rows::{ClassRow, VarList, VarRow};
 pub use ids::{CORE, ClassId, FUNCTION, LibId, OBJECT, VarId};
-pub use laws::{normal_form_laws, substitution_keeps_subtypes, subtype_laws};
+pub use laws::{normal_form_laws, substitution_keeps_subtypes, subtype_laws, subtype_test_law};
 pub use refusal::{NODE_LIMIT, RowsRefusal, TypeRefusal};
 pub use rows::Rows;
 pub use sizes::size;

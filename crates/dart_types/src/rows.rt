@@ -1,6 +1,6 @@
 //! The rows of classes and type variables.
 
-ghost use Rattle.std.specs.Prelude.{◌≡◌, ◌↔◌, IfOk, IfErr, IsTrue, OnOk};
+ghost use Rattle.std.specs.Prelude.{◌≡◌, ◌↔◌, IfOk, IfErr, IsTrue, OnOk, slice_get};
 ghost use Rattle.std.specs.Option.{option_copied};
 ghost use Rattle.dart_types.specs.Tables.{class_of, bound_of};
 ghost use Rattle.dart_types.specs.Entries.{table_of};
@@ -93,6 +93,23 @@ impl Rows {
             None => None,
             Some(entry) => Some(&entry.row),
         }
+    }
+
+    /// The row of the class at a place, in the order of their ids. It takes no memory.
+    pub fn class_at(&self, place: usize) -> Option<&ClassRow>
+        ensures { option_copied result ≡ slice_get self.now.table.classes place }
+    {
+        if place >= self.classes.len() {
+            return None;
+        }
+        Some(&self.classes[place].row)
+    }
+
+    /// The rows of the type variables, in the order of their ids. It takes no memory.
+    pub fn vars(&self) -> &[VarRow]
+        ensures { result.now ≡ self.now.table.vars }
+    {
+        &self.vars
     }
 
     /// The bound of a type variable, if it has one. It takes no memory.

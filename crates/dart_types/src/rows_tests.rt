@@ -21,6 +21,9 @@ fn copies_have_the_same_rows(rt: HostRuntime) -> Result<(), Fail> {
     assert!(rt; is_subtype(&copied, &s, &t));
     assert!(rt; copied.class(core(8)).is_some());
     assert!(rt; copied.class(core(77)).is_none());
+    assert!(rt; copied.class_at(15).is_some());
+    assert!(rt; copied.class_at(16).is_none());
+    assert_eq!(rt; copied.vars().len(), 17);
     assert!(rt; copied.bound(var(3)).is_some());
     assert!(rt; copied.bound(var(6)).is_none());
     assert_eq!(rt; copied.superinterfaces(core(4)).len(), 3);

@@ -1,4 +1,4 @@
-use Rattle.std.proofs.Common.{◌≡◌, ℕ, List, get_or, sym, ap, ◌∙◌, arith, Some, subst, true, false}
+use Rattle.std.proofs.Common.{◌≡◌, ℕ, get_or, sym, ap, ◌∙◌, arith, Some, subst, true, false}
 use Rattle.dart_types.specs.declared.entries.ClassEntry.{ClassEntry}
 use Rattle.dart_types.specs.Same.{same_class}
 use Rattle.dart_types.proofs.Searches.{found, none_at_end, none_there}

@@ -1,4 +1,4 @@
-use Rattle.std.proofs.Common.{ℕ, rules}
+use Rattle.std.proofs.Common.{rules}
 use Rattle.std.proofs.lemmas.List.Sorted.{IsPartitionPoint-from_clause}
 use Rattle.dart_types.specs.declared.class_rows.VarRow.{VarRow}
 use Rattle.dart_types.specs.WellFormed.{var_before}

@@ -1,4 +1,4 @@
-use Rattle.std.proofs.Common.{◌≡◌, ◌≤◌, List, ◌∙◌, subst}
+use Rattle.std.proofs.Common.{◌≤◌, List, ◌∙◌, subst}
 use Rattle.std.specs.Prelude.{All}
 use Rattle.dart_types.specs.declared.entries.ClassEntry.{ClassEntry}
 use Rattle.dart_types.proofs.Filled.{on_both, all_known}

@@ -1,4 +1,4 @@
-use Rattle.std.proofs.Common.{◌≡◌, List, true, refl, subst, sym}
+use Rattle.std.proofs.Common.{◌≡◌, List, refl, subst, sym}
 use Rattle.std.specs.Prelude.{Contains}
 use Rattle.dart_types.specs.Superinterfaces.{interface_of}
 use Rattle.dart_types.specs.Gathering.{Adds}

@@ -4,7 +4,7 @@ use Rattle.dart_types.specs.Superinterfaces.{interface_of}
 use Rattle.dart_types.specs.Replacements.{replaced}
 use Rattle.dart_types.specs.Gathering.{IsReplaced, IsCauseAmong}
 use Rattle.dart_types.specs.declared.superinterfaces.Superinterface.{Superinterface}
-use Rattle.dart_types.proofs.Gathered.{First, Among, adds_nothing, adds_both, adds_same, cause_among, handed_on, first_none, first_next, next_first, first_all, all_first}
+use Rattle.dart_types.proofs.Gathered.{First, adds_nothing, adds_both, adds_same, cause_among, handed_on, first_none, first_next, next_first, first_all, all_first}
 use Rattle.dart_types.proofs.gathering.gather.Goals as goal
 
 pub loop-known-init : goal.loop-known-init

@@ -1,4 +1,4 @@
-use Rattle.std.proofs.Common.{◌≡◌, List, true, refl, subst, sym}
+use Rattle.std.proofs.Common.{List, refl, subst, sym}
 use Rattle.std.specs.Prelude.{Contains}
 use Rattle.dart_types.specs.Same.{same_class}
 use Rattle.dart_types.specs.declared.superinterfaces.Superinterface.{Superinterface}

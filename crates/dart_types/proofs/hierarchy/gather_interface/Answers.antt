@@ -1,5 +1,5 @@
-use Rattle.std.proofs.Common.{◌≡◌, true, [], sym, ◌∙◌, ap, subst, inl, inr}
-use Rattle.std.specs.Prelude.{◌⊎◌, AllPairs}
+use Rattle.std.proofs.Common.{◌≡◌, true, [], sym, ◌∙◌, inl, inr}
+use Rattle.std.specs.Prelude.{◌⊎◌}
 use Rattle.dart_types.specs.Ty.{Ty, interface, types_of}
 use Rattle.dart_types.specs.WellFormed.{class_before}
 use Rattle.dart_types.specs.Entries.{table_of}

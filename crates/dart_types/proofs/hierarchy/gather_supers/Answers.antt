@@ -1,9 +1,9 @@
-use Rattle.std.proofs.Common.{◌≡◌, ◌+◌, List, sym, ◌∙◌, subst, inr}
+use Rattle.std.proofs.Common.{◌+◌, List, sym, subst}
 use Rattle.std.specs.Prelude.{Contains}
 use Rattle.dart_types.specs.Ty.{Ty}
 use Rattle.dart_types.specs.Entries.{table_of}
 use Rattle.dart_types.specs.Gathering.{Adds, IsGivenBy, IsGiven, IsCauseAmong}
-use Rattle.dart_types.proofs.Gathered.{First, Among, adds_nothing, adds_both, adds_same, cause_among, handed_on, first_none, first_next, next_first, first_all, all_first}
+use Rattle.dart_types.proofs.Gathered.{First, adds_nothing, adds_both, adds_same, cause_among, handed_on, first_none, first_next, next_first, first_all, all_first}
 use Rattle.dart_types.proofs.hierarchy.gather_supers.Goals as goal
 
 pub gather_super-requires-clause-direct : goal.gather_super-requires-clause-direct

@@ -1,4 +1,4 @@
-use Rattle.std.proofs.Common.{[], List, subst}
+use Rattle.std.proofs.Common.{List, subst}
 use Rattle.dart_types.specs.Entries.{table_of}
 use Rattle.dart_types.specs.RowsCause.{IsCauseIn}
 use Rattle.dart_types.specs.Gathering.{Adds, IsGiven}

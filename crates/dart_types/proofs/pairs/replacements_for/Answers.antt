@@ -1,8 +1,6 @@
 use Rattle.std.proofs.Common.{◌≡◌, ◌≤◌, ◌<◌, ◌+◌, List, length, take, get_or, refl, ap, sym, ◌∙◌, subst, arith}
 use Rattle.std.proofs.lemmas.List.{take_all, get_or_default}
-use Rattle.dart_types.specs.Ty.{Ty}
 use Rattle.dart_types.specs.Replacements.{pairs_of}
-use Rattle.dart_types.specs.declared.ids.VarId.{VarId}
 use Rattle.dart_types.specs.declared.replacements.Replacement.{Replacement}
 use Rattle.dart_types.proofs.Replacing.{replaced_params, pairs_of-next, settled_pairs, paired, length-paired, get_or-paired}
 use Rattle.dart_types.proofs.pairs.replacements_for.Goals as goal

@@ -1,4 +1,4 @@
-use Rattle.std.proofs.Common.{◌≡◌, ◌<◌, ◌≤◌, ℕ, List, slice_index_or}
+use Rattle.std.proofs.Common.{◌<◌, ◌≤◌, ℕ, List, slice_index_or}
 use Rattle.std.specs.Prelude.{◌≢◌}
 use Rattle.dart_types.specs.Named.{names_of}
 use Rattle.dart_types.proofs.params.find_named.Given as goal

@@ -1,8 +1,7 @@
-use Rattle.std.proofs.Common.{◌≡◌, List, true, length, nat_eq, ap, sym, ◌∙◌, subst}
-use Rattle.dart_types.specs.Ty.{Ty, Types, interface, no_more, types_of}
+use Rattle.std.proofs.Common.{◌≡◌, List, true, length, nat_eq, ap, sym, ◌∙◌}
+use Rattle.dart_types.specs.Ty.{Ty, interface, no_more, types_of}
 use Rattle.dart_types.specs.Node.{type_of}
 use Rattle.dart_types.specs.Same.{same_class}
-use Rattle.dart_types.specs.Heads.{object}
 use Rattle.dart_types.specs.declared.ids.ClassId.{ClassId}
 use Rattle.dart_types.specs.declared.ids.TheConstants.{OBJECT}
 use Rattle.dart_types.proofs.SameIds.{equal_from_same_class}

@@ -1,4 +1,4 @@
-use Rattle.std.proofs.Common.{◌≡◌, sym, ◌∙◌}
+use Rattle.std.proofs.Common.{sym, ◌∙◌}
 use Rattle.dart_types.proofs.Frames.{argument_past_end, argument_later}
 use Rattle.dart_types.proofs.scopes.argument_for.Goals as goal
 

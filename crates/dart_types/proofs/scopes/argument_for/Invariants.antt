@@ -1,4 +1,4 @@
-use Rattle.std.proofs.Common.{◌≡◌, ◌≤◌, drop, length}
+use Rattle.std.proofs.Common.{◌≡◌, drop}
 use Rattle.dart_types.specs.Ty.{types_of}
 use Rattle.dart_types.specs.Substitution.{argument_of}
 use Rattle.dart_types.proofs.scopes.argument_for.Given as goal

@@ -1,17 +1,17 @@
-use Rattle.std.proofs.Common.{◌≡◌, ℕ, ◌+◌, ◌<◌, ◌≤◌, ◌++◌, Bool, true, false, List, length, drop, get_or, Some, None, refl, sym, ap, ◌∙◌, subst, arith, inl, inr}
+use Rattle.std.proofs.Common.{◌≡◌, ℕ, ◌+◌, ◌<◌, ◌≤◌, true, List, length, drop, get_or, refl, sym, ap, ◌∙◌, subst, arith, inl, inr}
 use Rattle.std.specs.Prelude.{◌⊎◌, Contains, filter}
 use Rattle.std.specs.Option.{option_map}
 use Rattle.std.proofs.lemmas.List.{get_or_default, length-append}
-use Rattle.dart_types.specs.Ty.{Ty, Types, variable, nullable, promoted, interface, null, invalid, types_of, count}
+use Rattle.dart_types.specs.Ty.{Ty, Types, nullable, promoted, interface, invalid, types_of, count}
 use Rattle.dart_types.specs.Named.{named_of, names_of, AreInOrder}
 use Rattle.dart_types.specs.NamedSearch.{StandsFrom, IsNotFrom}
 use Rattle.dart_types.specs.Same.{same_class}
 use Rattle.dart_types.specs.Measure.{measure}
 use Rattle.dart_types.specs.Substitution.{put, put_all, put_named, by_params}
-use Rattle.dart_types.specs.Scopes.{Frames, in_scope, close, close_all}
-use Rattle.dart_types.specs.Forms.{form_of, seen_type, seen_types, seen_function, seen_params, seen_named, params_of}
+use Rattle.dart_types.specs.Scopes.{Frames, in_scope, close_all}
+use Rattle.dart_types.specs.Forms.{form_of, seen_type, params_of}
 use Rattle.dart_types.specs.Targets.{or_nullable}
-use Rattle.dart_types.specs.Sub.{Sub, Subs, SubParams, SubNamed, required_in, right_top, right_nullable}
+use Rattle.dart_types.specs.Sub.{Sub, Subs, SubParams, required_in, right_top, right_nullable}
 use Rattle.dart_types.specs.declared.types.NamedType.{NamedType}
 use Rattle.dart_types.specs.declared.scopes.Form.{Form}
 use Rattle.dart_types.specs.declared.superinterfaces.Superinterface.{Superinterface}

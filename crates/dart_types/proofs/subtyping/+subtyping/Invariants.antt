@@ -1,5 +1,5 @@
-use Rattle.std.proofs.Common.{◌≡◌, ℕ, ◌+◌, ◌*◌, ◌<◌, ◌≤◌, List, drop, get_or, length}
-use Rattle.dart_types.specs.Ty.{Ty, variable, nullable, promoted, interface, types_of}
+use Rattle.std.proofs.Common.{ℕ, ◌+◌, ◌*◌, ◌<◌, ◌≤◌, drop, get_or, length}
+use Rattle.dart_types.specs.Ty.{variable, nullable, promoted, interface, types_of}
 use Rattle.dart_types.specs.Named.{named_of}
 use Rattle.dart_types.specs.Scopes.{close_all, close_named}
 use Rattle.dart_types.specs.Forms.{form_of, seen_types, seen_function, seen_params, seen_named, params_of}

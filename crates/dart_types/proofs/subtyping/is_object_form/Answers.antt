@@ -1,4 +1,4 @@
-use Rattle.std.proofs.Common.{◌≡◌, Bool, sym, ap, ◌∙◌, length, ◌==◌}
+use Rattle.std.proofs.Common.{Bool, sym, ap, ◌∙◌, length, ◌==◌}
 use Rattle.std.specs.Prelude.{◌&&◌}
 use Rattle.dart_types.specs.Heads.{is_object}
 use Rattle.dart_types.specs.Forms.{form_of}

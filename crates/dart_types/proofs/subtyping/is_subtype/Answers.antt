@@ -1,4 +1,4 @@
-use Rattle.std.proofs.Common.{◌≡◌, true, subst, sym, ◌∙◌}
+use Rattle.std.proofs.Common.{◌∙◌}
 use Rattle.dart_types.proofs.Derives.{is_sub}
 use Rattle.dart_types.proofs.Steps.{rooted, through, onto, back}
 use Rattle.dart_types.proofs.subtyping.is_subtype.Goals as goal

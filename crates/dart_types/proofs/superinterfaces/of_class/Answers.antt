@@ -1,5 +1,4 @@
-use Rattle.std.proofs.Common.{◌≡◌, ℕ, [], arith}
-use Rattle.dart_types.specs.declared.ids.ClassId.{ClassId}
+use Rattle.std.proofs.Common.{ℕ, []}
 use Rattle.dart_types.specs.declared.superinterfaces.Superinterface.{Superinterface}
 use Rattle.dart_types.proofs.Searches.{from_before_to, of_id}
 use Rattle.dart_types.proofs.superinterfaces.of_class.Goals as goal

@@ -1,4 +1,4 @@
-use Rattle.std.proofs.Common.{◌≡◌, List, length, Option, ap, sym, ◌∙◌, subst}
+use Rattle.std.proofs.Common.{List, length, Option, ap, sym, ◌∙◌, subst}
 use Rattle.dart_types.specs.Ty.{Ty, types_of}
 use Rattle.dart_types.specs.WellFormed.{HasArguments}
 use Rattle.dart_types.specs.declared.ids.VarId.{VarId}

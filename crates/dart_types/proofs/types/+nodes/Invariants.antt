@@ -1,4 +1,4 @@
-use Rattle.std.proofs.Common.{◌≡◌, take, drop, ◌+◌}
+use Rattle.std.proofs.Common.{◌≡◌, drop, ◌+◌}
 use Rattle.dart_types.specs.Ty.{types_of}
 use Rattle.dart_types.specs.Named.{named_of}
 use Rattle.dart_types.specs.Sizes.{sizes_of, sizes_of_named, held}

@@ -1,4 +1,4 @@
-use Rattle.std.proofs.Common.{◌≡◌, ◌<◌, ◌≤◌, List, length, get_or, ap, sym, ◌∙◌, arith}
+use Rattle.std.proofs.Common.{◌<◌, ◌≤◌, List, length, get_or, ap, sym, ◌∙◌, arith}
 use Rattle.dart_types.specs.declared.types.NamedType.{NamedType}
 use Rattle.dart_types.specs.Ty.{Ty}
 use Rattle.dart_types.specs.Same.{same_type}

@@ -1,4 +1,4 @@
-use Rattle.std.proofs.Common.{◌≡◌, List, ap, sym, ◌∙◌, subst, true}
+use Rattle.std.proofs.Common.{◌≡◌, ap, sym, ◌∙◌, subst, true}
 use Rattle.std.specs.Prelude.{AllPairs, find}
 use Rattle.std.specs.Option.{option_map}
 use Rattle.dart_types.specs.declared.entries.ClassEntry.{ClassEntry}

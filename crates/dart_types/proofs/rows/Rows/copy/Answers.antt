@@ -1,10 +1,8 @@
-use Rattle.std.proofs.Common.{◌≡◌, List, map, ap, ◌∙◌, sym}
-use Rattle.dart_types.specs.Tables.{Table}
+use Rattle.std.proofs.Common.{◌≡◌, List, map, ap, ◌∙◌}
 use Rattle.dart_types.specs.Entries.{table_of}
 use Rattle.dart_types.specs.declared.class_rows.ClassRow.{ClassRow}
 use Rattle.dart_types.specs.declared.class_rows.VarRow.{VarRow}
 use Rattle.dart_types.specs.declared.entries.ClassEntry.{ClassEntry}
-use Rattle.dart_types.specs.declared.superinterfaces.Superinterface.{Superinterface}
 use Rattle.dart_types.proofs.Filled.{copied, same_formed}
 use Rattle.dart_types.proofs.rows.Rows.copy.Goals as goal
 

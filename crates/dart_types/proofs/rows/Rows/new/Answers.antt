@@ -1,5 +1,4 @@
-use Rattle.std.proofs.Common.{◌≡◌, ◌≤◌, List, ap, ◌∙◌, sym, subst}
-use Rattle.dart_types.specs.Ty.{Ty}
+use Rattle.std.proofs.Common.{◌≡◌, List, ap, ◌∙◌, sym, subst}
 use Rattle.dart_types.specs.Tables.{Table}
 use Rattle.dart_types.specs.Entries.{table_of, HaveSuperinterfaces}
 use Rattle.dart_types.specs.Superinterfaces.{IsSuperinterface}

@@ -1,5 +1,5 @@
-use Rattle.std.proofs.Common.{◌≡◌, List, Some, ap, sym, ◌∙◌, subst, true}
-use Rattle.std.specs.Prelude.{AllPairs, All, find}
+use Rattle.std.proofs.Common.{◌≡◌, List, ap, sym, ◌∙◌, subst, true}
+use Rattle.std.specs.Prelude.{AllPairs, find}
 use Rattle.std.specs.Option.{option_map}
 use Rattle.std.proofs.lemmas.List.Elements.{All-contains}
 use Rattle.dart_types.specs.declared.entries.ClassEntry.{ClassEntry}
@@ -7,7 +7,7 @@ use Rattle.dart_types.specs.declared.class_rows.ClassRow.{ClassRow}
 use Rattle.dart_types.specs.declared.ids.ClassId.{ClassId}
 use Rattle.dart_types.specs.declared.superinterfaces.Superinterface.{Superinterface}
 use Rattle.dart_types.specs.Same.{same_class}
-use Rattle.dart_types.specs.Tables.{Table, class_of}
+use Rattle.dart_types.specs.Tables.{class_of}
 use Rattle.dart_types.specs.FormedTable.{FormedTable}
 use Rattle.dart_types.specs.WellFormed.{class_before}
 use Rattle.dart_types.specs.Entries.{table_of}

@@ -1,5 +1,5 @@
-use Rattle.std.proofs.Common.{◌≡◌, List, IsTrue, ap, sym, ◌∙◌, subst, arith}
-use Rattle.std.specs.Prelude.{◌↔◌, All}
+use Rattle.std.proofs.Common.{◌≡◌, IsTrue, ap, sym, ◌∙◌, subst}
+use Rattle.std.specs.Prelude.{◌↔◌}
 use Rattle.dart_types.specs.Ty.{Ty, interface, types_of}
 use Rattle.dart_types.specs.Node.{type_of}
 use Rattle.dart_types.specs.WellFormed.{IsSupertype}

@@ -1,7 +1,7 @@
 use Rattle.std.proofs.Common.{◌≡◌, ◌<◌, ℕ, List, length, get_or, sym, ap, ◌∙◌, subst, arith}
 use Rattle.std.specs.Prelude.{All}
 use Rattle.std.proofs.lemmas.List.Elements.{All-map}
-use Rattle.dart_types.specs.Named.{IsNameBefore, names_of}
+use Rattle.dart_types.specs.Named.{IsNameBefore}
 use Rattle.dart_types.specs.declared.types.NamedType.{NamedType}
 use Rattle.dart_types.proofs.RowTests.{all_next, all_done, name_at}
 use Rattle.dart_types.proofs.Steps.{yes, no, granted, refused}
