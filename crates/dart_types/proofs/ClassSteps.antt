@@ -256,6 +256,7 @@ module _ (table : Table) (wf : IsWellFormed table) where
             let simple = superinterface_simple table wf q.1 row r in
             let less = normal_least σ row.params (interface d q.0) simple (interface d ts) in
             subst (λ (us : Types). measure table (interface d (put_all σ us)) (interface d ts) < measure table (interface c ss) (interface d ts)) (sym q.2) (omega (arith, up, less))
+
         pub none_below : ((s : Superinterface) → Contains list s → s.class ≡ d → Subs table (put_all σ (types_of s.args)) ts → ⊥) → IsTrue false ↔ Sub table (interface c ss) (interface d ts)
         none_below h = no (λ a. at (down a))
           where

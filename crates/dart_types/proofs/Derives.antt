@@ -45,7 +45,7 @@ le_from_test m n h = grind (arith, nat_tests)
 le_test : (m n : ℕ) → m ≤ n → nat_le m n ≡ true
 le_test m n h = grind (arith, nat_tests)
 
-nat_test : (m n : ℕ) → m ≡ n → nat_eq m n ≡ true
+pub nat_test : (m n : ℕ) → m ≡ n → nat_eq m n ≡ true
 nat_test m n h = grind (arith, nat_tests)
 
 any_there : {X : Type 0} (p : X → Bool) (xs : List X) → list_any p xs ≡ true → (x : X) × Contains xs x × (p x ≡ true)

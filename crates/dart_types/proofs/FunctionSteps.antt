@@ -17,7 +17,6 @@ use Rattle.dart_types.specs.declared.ids.VarId.{VarId}
 use Rattle.dart_types.specs.declared.ids.TheConstants.{OBJECT, FUNCTION}
 use Rattle.dart_types.proofs.Inversions.{bare_not_top}
 use Rattle.dart_types.proofs.NamedParams.{required-refl}
-
 use Rattle.dart_types.proofs.Steps.{yes, no, through}
 
 -- names stay, and what is required of them, whatever is put into the types
@@ -51,7 +50,6 @@ module _ (table : Table) where
   signature (right_object k p) = cc
   signature (function_class k) = cc
   signature (function_types le ps ns rs a) = (le, ps, ns, rs, a)
-
 
   pub more_required : {r o r' o' : Types} {n n' : Named} {e e' : Ty} → count r' < count r → IsTrue false ↔ Sub table (function r o n e) (function r' o' n' e')
   more_required lt = no (λ a. absurd (omega (arith, (signature a).0)))
@@ -97,11 +95,10 @@ module _ (table : Table) where
 
   -- `Object` and `Function` on the right, where nothing is given for parameters
   pub class_above : {r o : Types} {n : Named} {e : Ty} {u : Ty} {b : Bool} (c : ClassId) (frames : Frames) (ts : List Ty) → u ≡ interface c (close_all frames (types_of ts)) → (same_class c OBJECT ≡ true) ⊎ (same_class c FUNCTION ≡ true) → b ≡ (length ts == 0) → IsTrue b ↔ Sub table (function r o n e) u
-  class_above {r} {o} {n} {e} {u} {b} c frames ts is k same =
-      (
-        λ h. subst (λ (x : Ty). Sub table (function r o n e) x) (sym is) (there (none frames ts (sym same ∙ h)) k),
-        λ a. same ∙ back (interface_parts (subst (λ (x : Ty). Sub table (function r o n e) x) is a)),
-      )
+  class_above {r} {o} {n} {e} {u} {b} c frames ts is k same = (
+    λ h. subst (λ (x : Ty). Sub table (function r o n e) x) (sym is) (there (none frames ts (sym same ∙ h)) k),
+    λ a. same ∙ back (interface_parts (subst (λ (x : Ty). Sub table (function r o n e) x) is a)),
+  )
     where
       there : {us : Types} → us ≡ no_more → (same_class c OBJECT ≡ true) ⊎ (same_class c FUNCTION ≡ true) → Sub table (function r o n e) (interface c us)
       there w (inl l) = subst (λ (vs : Types). Sub table (function r o n e) (interface c vs)) (sym w) (right_object l refl)

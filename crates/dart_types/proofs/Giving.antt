@@ -138,8 +138,7 @@ module _ (table : Table) (wf : IsWellFormed table) (row : ClassRow) (r : class_o
       let t = h.1.0 in
       let g = h.1.1 in
       let w = g.2.0 in
-      let e : t ≡ normal w = g.2.2 in
-      (
+      let e : t ≡ normal w = g.2.2 in (
         w,
         subst (λ (c : ClassId). IsSuperinterface table c w) (sym h.0) (giving table wf row r g.1 g.2.1),
         subst (λ (x : Ty). NODE_LIMIT < size_of x) e h.1.2,

@@ -32,3 +32,5 @@ pub mod FunctionSteps
 pub mod SeenFalls
 pub mod NameSteps
 pub mod Derives
+pub mod Filled
+pub mod RowTests

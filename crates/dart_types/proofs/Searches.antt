@@ -61,12 +61,12 @@ before_trans a b c d e f h k =
     ]
 
 -- no id is before itself
-before_other : (a b c d : ℕ) → id_before a b c d ≡ true → id_same a b c d ≡ true → ⊥
+pub before_other : (a b c d : ℕ) → id_before a b c d ≡ true → id_same a b c d ≡ true → ⊥
 before_other a b c d h k =
     let s = same_both a b c d k in
     elim (before_cases a b c d h) [ inl p ↦ absurd (omega (arith, s.0)) | inr p ↦ absurd (omega (arith, s.1, p.1)) ]
 
-not_true : (b : Bool) → (b ≡ true → ⊥) → b ≡ false
+pub not_true : (b : Bool) → (b ≡ true → ⊥) → b ≡ false
 not_true true h = absurd (h refl)
 not_true false h = refl
 

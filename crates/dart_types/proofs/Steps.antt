@@ -234,8 +234,8 @@ module _ (table : Table) (wf : IsWellFormed table) where
         λ a. i.0 (left_variable_bound b e (subst (λ (k : Ty). Sub table k Goal) (sym is) a)),
         λ a. subst (λ (k : Ty). Sub table k Goal) is (past_variable other e (i.1 a)),
         let f : measure table b Goal < measure table (variable y) Goal = bound_falls table wf y b Goal e in
-        let g : measure table (variable z) Goal < measure table (variable y) Goal = subst (λ (k : Ty). measure table k Goal < measure table (variable y) Goal) is f in
-        omega (arith, g, i.2),
+            let g : measure table (variable z) Goal < measure table (variable y) Goal = subst (λ (k : Ty). measure table k Goal < measure table (variable y) Goal) is f in
+            omega (arith, g, i.2),
       )
 
       pub next_nullable : {x y z : VarId} {b : Ty} → Decides x y → (t ≡ variable y → ⊥) → bound_of table y ≡ Some b → b ≡ nullable (variable z) → (q ≡ true) ⊎ (t ≡ null) → Decides x z
@@ -243,9 +243,9 @@ module _ (table : Table) (wf : IsWellFormed table) where
         λ a. i.0 (left_variable_bound b e (subst (λ (l : Ty). Sub table l Goal) (sym is) (left_nullable a (target_null table q t k)))),
         λ a. (nullable_parts table (subst (λ (l : Ty). Sub table l Goal) is (past_variable other e (i.1 a)))).0,
         let f : measure table b Goal < measure table (variable y) Goal = bound_falls table wf y b Goal e in
-        let g : measure table (nullable (variable z)) Goal < measure table (variable y) Goal = subst (λ (l : Ty). measure table l Goal < measure table (variable y) Goal) is f in
-        let h : measure table (variable z) Goal < measure table (nullable (variable z)) Goal = left_bare_falls table wf (variable z) Goal in
-        omega (arith, g, h, i.2),
+            let g : measure table (nullable (variable z)) Goal < measure table (variable y) Goal = subst (λ (l : Ty). measure table l Goal < measure table (variable y) Goal) is f in
+            let h : measure table (variable z) Goal < measure table (nullable (variable z)) Goal = left_bare_falls table wf (variable z) Goal in
+            omega (arith, g, h, i.2),
       )
 
       pub bound_nullable : {x y z : VarId} {b : Ty} → Decides x y → (t ≡ variable y → ⊥) → bound_of table y ≡ Some b → b ≡ nullable (variable z) → ((q ≡ true) ⊎ (t ≡ null) → ⊥) → IsTrue false ↔ Sub table (variable x) Goal
@@ -306,8 +306,8 @@ module _ (table : Table) (wf : IsWellFormed table) where
       λ a. i.0 (left_variable_bound b e (subst (λ (k : Ty). Sub table k Wanted) (sym is) a)),
       λ a. subst (λ (k : Ty). Sub table k Wanted) is (past_promoted other e (i.1 a)),
       let f : measure table b Wanted < measure table (variable z) Wanted = bound_falls table wf z b Wanted e in
-      let g : measure table (variable v) Wanted < measure table (variable z) Wanted = subst (λ (k : Ty). measure table k Wanted < measure table (variable z) Wanted) is f in
-      omega (arith, g, i.2),
+          let g : measure table (variable v) Wanted < measure table (variable z) Wanted = subst (λ (k : Ty). measure table k Wanted < measure table (variable z) Wanted) is f in
+          omega (arith, g, i.2),
     )
 
     pub next_promoted_nullable : {x z v : VarId} {b : Ty} → Leads x z → (Sub table (variable z) (promoted y w) → ⊥) → bound_of table z ≡ Some b → b ≡ nullable (variable v) → Leads x v
@@ -315,9 +315,9 @@ module _ (table : Table) (wf : IsWellFormed table) where
       λ a. i.0 (left_variable_bound b e (subst (λ (l : Ty). Sub table l Wanted) (sym is) (left_nullable a left_null))),
       λ a. (nullable_parts table (subst (λ (l : Ty). Sub table l Wanted) is (past_promoted other e (i.1 a)))).0,
       let f : measure table b Wanted < measure table (variable z) Wanted = bound_falls table wf z b Wanted e in
-      let g : measure table (nullable (variable v)) Wanted < measure table (variable z) Wanted = subst (λ (l : Ty). measure table l Wanted < measure table (variable z) Wanted) is f in
-      let h : measure table (variable v) Wanted < measure table (nullable (variable v)) Wanted = left_bare_falls table wf (variable v) Wanted in
-      omega (arith, g, h, i.2),
+          let g : measure table (nullable (variable v)) Wanted < measure table (variable z) Wanted = subst (λ (l : Ty). measure table l Wanted < measure table (variable z) Wanted) is f in
+          let h : measure table (variable v) Wanted < measure table (nullable (variable v)) Wanted = left_bare_falls table wf (variable v) Wanted in
+          omega (arith, g, h, i.2),
     )
 
     pub bound_promoted : {x z : VarId} {b f : Ty} {r : Bool} → Leads x z → (Sub table (variable z) (promoted y w) → ⊥) → bound_of table z ≡ Some b → f ≡ b → IsTrue r ↔ Sub table f Wanted → IsTrue r ↔ Sub table (variable x) Wanted

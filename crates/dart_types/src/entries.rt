@@ -111,6 +111,19 @@ pub(crate) fn find_bound(rows: &[VarRow], var: VarId) -> Option<&DartType>
     }
 }
 
+/// The row of a class, if it has one.
+pub(crate) fn find_row(rows: &[ClassRow], class: ClassId) -> Option<&ClassRow>
+    requires { AllPairs (λ a b. class_before a.id b.id ≡ true) rows.now }
+    ensures { option_copied result ≡ find (λ row. same_class row.id class) rows.now }
+{
+    let at = place_of_row(rows, class);
+    if at >= rows.len() {
+        return None;
+    }
+    let row = &rows[at];
+    if row.id == class { Some(row) } else { None }
+}
+
 // How many entries have smaller ids.
 fn place_of_class(entries: &[ClassEntry], class: ClassId) -> usize
     requires { AllPairs (λ a b. class_before a.row.id b.row.id ≡ true) entries.now }
@@ -127,4 +140,13 @@ fn place_of_var(rows: &[VarRow], var: VarId) -> usize
     ensures parts { IsPartitionPoint (λ r. var_before r.var var ≡ true) (λ r. var_before r.var var ≡ false) rows.now result }
 {
     rows.partition_point(|row| row.var < var)
+}
+
+// How many rows have smaller ids.
+fn place_of_row(rows: &[ClassRow], class: ClassId) -> usize
+    requires { AllPairs (λ a b. class_before a.id b.id ≡ true) rows.now }
+    ensures bound { result ≤ length rows.now }
+    ensures parts { IsPartitionPoint (λ r. class_before r.id class ≡ true) (λ r. class_before r.id class ≡ false) rows.now result }
+{
+    rows.partition_point(|row| row.id < class)
 }

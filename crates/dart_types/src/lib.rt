@@ -23,6 +23,7 @@ mod pairs;
 mod params;
 mod refusal;
 mod replacements;
+mod row_checks;
 mod rows;
 mod scopes;
 mod sizes;
@@ -31,6 +32,7 @@ mod substitution;
 mod substitution_tests;
 mod subtyping;
 mod superinterfaces;
+mod type_checks;
 mod types;
 
 pub use class_rows::{ClassRow, VarList, VarRow};

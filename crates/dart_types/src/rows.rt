@@ -1,6 +1,6 @@
 //! The rows of classes and type variables.
 
-ghost use Rattle.std.specs.Prelude.{◌≡◌, IfOk, IfErr, OnOk};
+ghost use Rattle.std.specs.Prelude.{◌≡◌, ◌↔◌, IfOk, IfErr, IsTrue, OnOk};
 ghost use Rattle.std.specs.Option.{option_copied};
 ghost use Rattle.dart_types.specs.Tables.{class_of, bound_of};
 ghost use Rattle.dart_types.specs.Entries.{table_of};
@@ -12,6 +12,7 @@ ghost use Rattle.dart_types.specs.FormedProp.{IsWellFormed-prop};
 use crate::class_rows::{ClassRow, VarRow};
 use crate::entries::{ClassEntry, copy_entries, copy_vars, entries_of, find_bound, find_entry};
 use crate::filling::fill_all;
+use crate::row_checks::are_well_formed;
 use crate::ids::{ClassId, VarId};
 use crate::refusal::RowsRefusal;
 use crate::superinterfaces::Superinterface;
@@ -46,6 +47,14 @@ impl Model for Rows {
 }
 
 impl Rows {
+    /// Whether rows of these classes and type variables are well formed, so that `new` takes them.
+    /// It takes no memory.
+    pub fn are_well_formed(classes: &[ClassRow], vars: &[VarRow]) -> bool
+        ensures { IsTrue result ↔ IsWellFormed (record { classes = classes.now; vars = vars.now }) }
+    {
+        are_well_formed(classes, vars)
+    }
+
     /// The rows of these classes and type variables, with the superinterfaces of each class. Both
     /// lists are in the order of their ids. `TooLarge` comes exactly where some class has a
     /// superinterface, in its own parameters, in which more than `NODE_LIMIT` types stand.

@@ -21,16 +21,16 @@ returns c =
     let args = c.args.args.now in
     let items = c.args.entry.now.superinterfaces.items in
     let same : (t : Ty) → replaced rs t ≡ normal (put (by_params params (types_of args)) t) = λ t.
-        ap (λ (qs : List Replacement). replaced qs t) c.deref-2.ensures.value
-        ∙ c.in_ok-replacements.ensures t
-        ∙ ap (λ (ps : List VarId). normal (put (by_params ps (types_of c.as_slice-2.result.now)) t)) c.as_slice.ensures
-        ∙ ap (λ (ts : List Ty). normal (put (by_params params (types_of ts)) t)) c.as_slice-2.ensures
+    ap (λ (qs : List Replacement). replaced qs t) c.deref-2.ensures.value
+    ∙ c.in_ok-replacements.ensures t
+    ∙ ap (λ (ps : List VarId). normal (put (by_params ps (types_of c.as_slice-2.result.now)) t)) c.as_slice.ensures
+    ∙ ap (λ (ts : List Ty). normal (put (by_params params (types_of ts)) t)) c.as_slice-2.ensures
     in
     let to : (t : Ty) → IsPut params (types_of args) items t → IsReplaced rs list t = λ t p.
-        (p.0, subst (λ (ss : List Superinterface). Contains ss p.0) (sym c.deref.ensures.value) p.1, p.2 ∙ sym (same (interface_of p.0)))
+    (p.0, subst (λ (ss : List Superinterface). Contains ss p.0) (sym c.deref.ensures.value) p.1, p.2 ∙ sym (same (interface_of p.0)))
     in
     let from : (t : Ty) → IsReplaced rs list t → IsPut params (types_of args) items t = λ t p.
-        (p.0, subst (λ (ss : List Superinterface). Contains ss p.0) c.deref.ensures.value p.1, p.2 ∙ same (interface_of p.0))
+    (p.0, subst (λ (ss : List Superinterface). Contains ss p.0) c.deref.ensures.value p.1, p.2 ∙ same (interface_of p.0))
     in
     record {
       ok = on_ok c.gather.result c.gather.ensures.ok (λ a. adds_same (IsReplaced rs list) (IsPut params (types_of args) items) c.args.list.now.items c.gather.new.list.items a to from);

@@ -53,10 +53,10 @@ returns-in-Some c =
     let Put = IsPut entry.row.params ts list in
     let Given = IsGivenBy table (interface c.args.class ts) in
     let split : (t : Ty) → Given t → Own t ⊎ Put t = λ t g.
-        elim (gives_split table c.args.class ts entry.row above list known t g) as (λ _. Own t ⊎ Put t) [ inl e ↦ inl (e ∙ sym c.in_ok-own.ensures.ok) | inr p ↦ inr p ]
+    elim (gives_split table c.args.class ts entry.row above list known t g) as (λ _. Own t ⊎ Put t) [ inl e ↦ inl (e ∙ sym c.in_ok-own.ensures.ok) | inr p ↦ inr p ]
     in
     let join : (t : Ty) → Own t ⊎ Put t → Given t = λ t g.
-        elim g as (λ _. Given t) [ inl e ↦ itself_given table c.args.class ts t (e ∙ c.in_ok-own.ensures.ok) | inr p ↦ gives_join table c.args.class ts entry.row above list known t (inr p) ]
+    elim g as (λ _. Given t) [ inl e ↦ itself_given table c.args.class ts t (e ∙ c.in_ok-own.ensures.ok) | inr p ↦ gives_join table c.args.class ts entry.row above list known t (inr p) ]
     in
     record {
       ok = on_ok c.gather_above.result c.gather_above.ensures.ok (λ a. adds_both Own Put Given c.args.list.now.items c.add.new.list.items c.gather_above.new.list.items c.in_ok-add.ensures a split join);

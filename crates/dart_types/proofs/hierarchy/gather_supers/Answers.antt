@@ -21,8 +21,7 @@ loop-v-preserved c =
     let vs = c.as_slice-v-items.result.now in
     let i = c.loop-v.v-index in
     let v = c.v-item.result in
-    let one : Adds (want v) c.loop-v.list.items c.gather_super.new.list.items = c.in_ok-gather_super.ensures.ok in
-    (
+    let one : Adds (want v) c.loop-v.list.items c.gather_super.new.list.items = c.in_ok-gather_super.ensures.ok in (
       adds_both (First want vs i) (want v) (First want vs (i + 1)) c.args.list.now.items c.loop-v.list.items c.gather_super.new.list.items c.loop-v.invariant.0 one (first_next want vs i v c.loop-v-test.true c.v-item.is) (next_first want vs i v c.loop-v-test.true c.v-item.is),
       one.in_order c.loop-v.invariant.1,
     )

@@ -84,8 +84,8 @@ are_named_below-returns-in-None t c =
     let own_order = subst (λ (ns : List NamedType). AreInOrder (names_of ns)) same_own c.as_slice-own.ensures.in_order in
     let lt = subst (λ (ns : List NamedType). c.loop-i.i < length ns) same c.loop-i-test.true in
     let none =
-        subst (λ (ns : List NamedType). IsNotFrom (names_of own) c.loop-i.from (get_or ns c.loop-i.i d).name) same
-        (subst (λ (ns : List NamedType). IsNotFrom (names_of ns) c.loop-i.from (get_or c.as_slice-named.result.now c.loop-i.i d).name) same_own c.in-None.ensures) in
+    subst (λ (ns : List NamedType). IsNotFrom (names_of own) c.loop-i.from (get_or ns c.loop-i.i d).name) same
+    (subst (λ (ns : List NamedType). IsNotFrom (names_of ns) c.loop-i.from (get_or c.as_slice-named.result.now c.loop-i.i d).name) same_own c.in-None.ensures) in
     name_missing c.args.rows.now.table (in_scope f.scope.now) (in_scope g.scope.now) named own order own_order c.loop-i.from c.loop-i.i d lt c.loop-i.invariant.1 none
 
 pub are_named_below-is_below-requires : goal.are_named_below-is_below-requires
@@ -102,15 +102,15 @@ are_named_below-is_below-requires t c =
     let own_order = subst (λ (ns : List NamedType). AreInOrder (names_of ns)) same_own c.as_slice-own.ensures.in_order in
     let lt : c.loop-i.i < length named = subst (λ (ns : List NamedType). c.loop-i.i < length ns) same c.loop-i-test.true in
     let stands : StandsFrom (names_of own) c.loop-i.from (get_or named c.loop-i.i d).name c.in-Some.at =
-        subst (λ (ns : List NamedType). StandsFrom (names_of own) c.loop-i.from (get_or ns c.loop-i.i d).name c.in-Some.at) same
-        (subst (λ (ns : List NamedType). StandsFrom (names_of ns) c.loop-i.from (get_or c.as_slice-named.result.now c.loop-i.i d).name c.in-Some.at) same_own c.in-Some.ensures) in
+    subst (λ (ns : List NamedType). StandsFrom (names_of own) c.loop-i.from (get_or ns c.loop-i.i d).name c.in-Some.at) same
+    (subst (λ (ns : List NamedType). StandsFrom (names_of ns) c.loop-i.from (get_or c.as_slice-named.result.now c.loop-i.i d).name c.in-Some.at) same_own c.in-Some.ensures) in
     let param : form_of c.form.result ≡ put (in_scope g.scope.now) (get_or named c.loop-i.i d).ty =
-        c.form.ensures
-        ∙ ap (λ (ns : List NamedType). put (in_scope g.scope.now) (get_or ns c.loop-i.i c.index-named-i-in-loop-i.result).ty) same
-        ∙ ap (λ (n : NamedType). put (in_scope g.scope.now) n.ty) (get_or_default named c.loop-i.i c.index-named-i-in-loop-i.result d lt) in
+    c.form.ensures
+    ∙ ap (λ (ns : List NamedType). put (in_scope g.scope.now) (get_or ns c.loop-i.i c.index-named-i-in-loop-i.result).ty) same
+    ∙ ap (λ (n : NamedType). put (in_scope g.scope.now) n.ty) (get_or_default named c.loop-i.i c.index-named-i-in-loop-i.result d lt) in
     let own_param : form_of c.form-in-loop-i.result ≡ put (in_scope f.scope.now) (get_or own c.in-Some.at o).ty =
-        c.form-in-loop-i.ensures
-        ∙ ap (λ (ns : List NamedType). put (in_scope f.scope.now) (get_or ns c.in-Some.at o).ty) same_own in
+    c.form-in-loop-i.ensures
+    ∙ ap (λ (ns : List NamedType). put (in_scope f.scope.now) (get_or ns c.in-Some.at o).ty) same_own in
     let table = c.args.rows.now.table in
     let within = name_within table (in_scope f.scope.now) (in_scope g.scope.now) named own order own_order c.loop-i.from c.loop-i.i d lt c.in-Some.at o stands in
     let fall = name_falls table c.args.rows.now.formed (in_scope f.scope.now) (in_scope g.scope.now) f.function.now g.function.now c.in-Some.at c.loop-i.i o d within lt own_param param in
@@ -130,15 +130,15 @@ are_named_below-returns-then-not-is_below t c =
     let own_order = subst (λ (ns : List NamedType). AreInOrder (names_of ns)) same_own c.as_slice-own.ensures.in_order in
     let lt : c.loop-i.i < length named = subst (λ (ns : List NamedType). c.loop-i.i < length ns) same c.loop-i-test.true in
     let stands : StandsFrom (names_of own) c.loop-i.from (get_or named c.loop-i.i d).name c.in-Some.at =
-        subst (λ (ns : List NamedType). StandsFrom (names_of own) c.loop-i.from (get_or ns c.loop-i.i d).name c.in-Some.at) same
-        (subst (λ (ns : List NamedType). StandsFrom (names_of ns) c.loop-i.from (get_or c.as_slice-named.result.now c.loop-i.i d).name c.in-Some.at) same_own c.in-Some.ensures) in
+    subst (λ (ns : List NamedType). StandsFrom (names_of own) c.loop-i.from (get_or ns c.loop-i.i d).name c.in-Some.at) same
+    (subst (λ (ns : List NamedType). StandsFrom (names_of ns) c.loop-i.from (get_or c.as_slice-named.result.now c.loop-i.i d).name c.in-Some.at) same_own c.in-Some.ensures) in
     let param : form_of c.form.result ≡ put (in_scope g.scope.now) (get_or named c.loop-i.i d).ty =
-        c.form.ensures
-        ∙ ap (λ (ns : List NamedType). put (in_scope g.scope.now) (get_or ns c.loop-i.i c.index-named-i-in-loop-i.result).ty) same
-        ∙ ap (λ (n : NamedType). put (in_scope g.scope.now) n.ty) (get_or_default named c.loop-i.i c.index-named-i-in-loop-i.result d lt) in
+    c.form.ensures
+    ∙ ap (λ (ns : List NamedType). put (in_scope g.scope.now) (get_or ns c.loop-i.i c.index-named-i-in-loop-i.result).ty) same
+    ∙ ap (λ (n : NamedType). put (in_scope g.scope.now) n.ty) (get_or_default named c.loop-i.i c.index-named-i-in-loop-i.result d lt) in
     let own_param : form_of c.form-in-loop-i.result ≡ put (in_scope f.scope.now) (get_or own c.in-Some.at o).ty =
-        c.form-in-loop-i.ensures
-        ∙ ap (λ (ns : List NamedType). put (in_scope f.scope.now) (get_or ns c.in-Some.at o).ty) same_own in
+    c.form-in-loop-i.ensures
+    ∙ ap (λ (ns : List NamedType). put (in_scope f.scope.now) (get_or ns c.in-Some.at o).ty) same_own in
     let table = c.args.rows.now.table in
     name_refused table (in_scope f.scope.now) (in_scope g.scope.now) named own order own_order c.loop-i.from c.loop-i.i d lt c.in-Some.at o stands
     (λ a. refused c.is_below.ensures c.if-not-is_below.true (onto table param own_param a))
@@ -157,19 +157,18 @@ are_named_below-loop-i-preserved t c =
     let own_order = subst (λ (ns : List NamedType). AreInOrder (names_of ns)) same_own c.as_slice-own.ensures.in_order in
     let lt : c.loop-i.i < length named = subst (λ (ns : List NamedType). c.loop-i.i < length ns) same c.loop-i-test.true in
     let stands : StandsFrom (names_of own) c.loop-i.from (get_or named c.loop-i.i d).name c.in-Some.at =
-        subst (λ (ns : List NamedType). StandsFrom (names_of own) c.loop-i.from (get_or ns c.loop-i.i d).name c.in-Some.at) same
-        (subst (λ (ns : List NamedType). StandsFrom (names_of ns) c.loop-i.from (get_or c.as_slice-named.result.now c.loop-i.i d).name c.in-Some.at) same_own c.in-Some.ensures) in
+    subst (λ (ns : List NamedType). StandsFrom (names_of own) c.loop-i.from (get_or ns c.loop-i.i d).name c.in-Some.at) same
+    (subst (λ (ns : List NamedType). StandsFrom (names_of ns) c.loop-i.from (get_or c.as_slice-named.result.now c.loop-i.i d).name c.in-Some.at) same_own c.in-Some.ensures) in
     let param : form_of c.form.result ≡ put (in_scope g.scope.now) (get_or named c.loop-i.i d).ty =
-        c.form.ensures
-        ∙ ap (λ (ns : List NamedType). put (in_scope g.scope.now) (get_or ns c.loop-i.i c.index-named-i-in-loop-i.result).ty) same
-        ∙ ap (λ (n : NamedType). put (in_scope g.scope.now) n.ty) (get_or_default named c.loop-i.i c.index-named-i-in-loop-i.result d lt) in
+    c.form.ensures
+    ∙ ap (λ (ns : List NamedType). put (in_scope g.scope.now) (get_or ns c.loop-i.i c.index-named-i-in-loop-i.result).ty) same
+    ∙ ap (λ (n : NamedType). put (in_scope g.scope.now) n.ty) (get_or_default named c.loop-i.i c.index-named-i-in-loop-i.result d lt) in
     let own_param : form_of c.form-in-loop-i.result ≡ put (in_scope f.scope.now) (get_or own c.in-Some.at o).ty =
-        c.form-in-loop-i.ensures
-        ∙ ap (λ (ns : List NamedType). put (in_scope f.scope.now) (get_or ns c.in-Some.at o).ty) same_own in
+    c.form-in-loop-i.ensures
+    ∙ ap (λ (ns : List NamedType). put (in_scope f.scope.now) (get_or ns c.in-Some.at o).ty) same_own in
     let table = c.args.rows.now.table in
     let a = back table param own_param (granted c.is_below.ensures c.if-not-is_below.false) in
-    let within = name_within table (in_scope f.scope.now) (in_scope g.scope.now) named own order own_order c.loop-i.from c.loop-i.i d lt c.in-Some.at o stands in
-    (
+    let within = name_within table (in_scope f.scope.now) (in_scope g.scope.now) named own order own_order c.loop-i.from c.loop-i.i d lt c.in-Some.at o stands in (
       λ rest. name_granted table (in_scope f.scope.now) (in_scope g.scope.now) named own order own_order c.loop-i.from c.loop-i.i d lt c.in-Some.at o stands a c.loop-i.invariant.0 rest,
       names_passed table (in_scope f.scope.now) (in_scope g.scope.now) named own order own_order c.loop-i.from c.loop-i.i d lt c.in-Some.at o stands,
       omega (arith, within),
@@ -225,10 +224,10 @@ are_params_below-is_below-requires t c =
     let there = some_there (put σ) own i (seen_type c.in-Some.own) (sym (ap (option_map seen_type) c.in-Some.is) ∙ c.param.ensures) in
     let own_param : form_of c.form-in-loop-i.result ≡ put σ (get_or own i invalid) = c.form-in-loop-i.ensures ∙ there.1 in
     let param : form_of c.form.result ≡ put τ (get_or others i invalid) =
-        c.form.ensures
-        ∙ ap (put τ) c.index-required-i.is
-        ∙ ap (λ (ts : List Ty). put τ (get_or ts i c.index-required-i.result)) c.as_slice-required.ensures
-        ∙ required_place τ g.function.now.required g.function.now.optional i c.index-required-i.result lt in
+    c.form.ensures
+    ∙ ap (put τ) c.index-required-i.is
+    ∙ ap (λ (ts : List Ty). put τ (get_or ts i c.index-required-i.result)) c.as_slice-required.ensures
+    ∙ required_place τ g.function.now.required g.function.now.optional i c.index-required-i.result lt in
     let fall = param_falls table c.args.rows.now.formed σ τ f.function.now g.function.now i i there.0 within own_param param in
     (omega (arith, fall, c.decreases), tt)
 
@@ -247,10 +246,10 @@ are_params_below-returns-then-not-is_below t c =
     let there = some_there (put σ) own i (seen_type c.in-Some.own) (sym (ap (option_map seen_type) c.in-Some.is) ∙ c.param.ensures) in
     let own_param : form_of c.form-in-loop-i.result ≡ put σ (get_or own i invalid) = c.form-in-loop-i.ensures ∙ there.1 in
     let param : form_of c.form.result ≡ put τ (get_or others i invalid) =
-        c.form.ensures
-        ∙ ap (put τ) c.index-required-i.is
-        ∙ ap (λ (ts : List Ty). put τ (get_or ts i c.index-required-i.result)) c.as_slice-required.ensures
-        ∙ required_place τ g.function.now.required g.function.now.optional i c.index-required-i.result lt in
+    c.form.ensures
+    ∙ ap (put τ) c.index-required-i.is
+    ∙ ap (λ (ts : List Ty). put τ (get_or ts i c.index-required-i.result)) c.as_slice-required.ensures
+    ∙ required_place τ g.function.now.required g.function.now.optional i c.index-required-i.result lt in
     no (λ p.
     let at = params_at table τ σ others own i invalid invalid (parted table τ σ g.function.now.required g.function.now.optional f.function.now.required f.function.now.optional p) within in
     refused c.is_below.ensures c.if-not-is_below.true (onto table param own_param at.1))
@@ -270,10 +269,10 @@ are_params_below-loop-i-preserved t c = λ rest.
     let there = some_there (put σ) own i (seen_type c.in-Some.own) (sym (ap (option_map seen_type) c.in-Some.is) ∙ c.param.ensures) in
     let own_param : form_of c.form-in-loop-i.result ≡ put σ (get_or own i invalid) = c.form-in-loop-i.ensures ∙ there.1 in
     let param : form_of c.form.result ≡ put τ (get_or others i invalid) =
-        c.form.ensures
-        ∙ ap (put τ) c.index-required-i.is
-        ∙ ap (λ (ts : List Ty). put τ (get_or ts i c.index-required-i.result)) c.as_slice-required.ensures
-        ∙ required_place τ g.function.now.required g.function.now.optional i c.index-required-i.result lt in
+    c.form.ensures
+    ∙ ap (put τ) c.index-required-i.is
+    ∙ ap (λ (ts : List Ty). put τ (get_or ts i c.index-required-i.result)) c.as_slice-required.ensures
+    ∙ required_place τ g.function.now.required g.function.now.optional i c.index-required-i.result lt in
     let a = back table param own_param (granted c.is_below.ensures c.if-not-is_below.false) in
     c.loop-i.invariant (params_step table τ σ others own i invalid invalid within there.0 a rest)
 
@@ -313,11 +312,11 @@ are_params_below-is_below-requires-in-loop-i-2 t c =
     let there = some_there (put σ) own (n + i) (seen_type c.in-Some-param_after.own) (sym (ap (option_map seen_type) c.in-Some-param_after.is) ∙ c.param_after.ensures) in
     let own_param : form_of c.form-in-loop-i-2-2.result ≡ put σ (get_or own (n + i) invalid) = c.form-in-loop-i-2-2.ensures ∙ there.1 in
     let param : form_of c.form-in-loop-i-2.result ≡ put τ (get_or others (n + i) invalid) =
-        c.form-in-loop-i-2.ensures
-        ∙ ap (put τ) c.index-optional-i.is
-        ∙ ap (λ (ts : List Ty). put τ (get_or ts i c.index-optional-i.result)) c.as_slice-optional.ensures
-        ∙ optional_place τ g.function.now.required g.function.now.optional i c.index-optional-i.result lt
-        ∙ ap (λ (k : ℕ). put τ (get_or others (k + i) invalid)) (sym count) in
+    c.form-in-loop-i-2.ensures
+    ∙ ap (put τ) c.index-optional-i.is
+    ∙ ap (λ (ts : List Ty). put τ (get_or ts i c.index-optional-i.result)) c.as_slice-optional.ensures
+    ∙ optional_place τ g.function.now.required g.function.now.optional i c.index-optional-i.result lt
+    ∙ ap (λ (k : ℕ). put τ (get_or others (k + i) invalid)) (sym count) in
     let fall = param_falls table c.args.rows.now.formed σ τ f.function.now g.function.now (n + i) (n + i) there.0 within own_param param in
     (omega (arith, fall, c.decreases), tt)
 
@@ -338,11 +337,11 @@ are_params_below-returns-then-not-is_below-2 t c =
     let there = some_there (put σ) own (n + i) (seen_type c.in-Some-param_after.own) (sym (ap (option_map seen_type) c.in-Some-param_after.is) ∙ c.param_after.ensures) in
     let own_param : form_of c.form-in-loop-i-2-2.result ≡ put σ (get_or own (n + i) invalid) = c.form-in-loop-i-2-2.ensures ∙ there.1 in
     let param : form_of c.form-in-loop-i-2.result ≡ put τ (get_or others (n + i) invalid) =
-        c.form-in-loop-i-2.ensures
-        ∙ ap (put τ) c.index-optional-i.is
-        ∙ ap (λ (ts : List Ty). put τ (get_or ts i c.index-optional-i.result)) c.as_slice-optional.ensures
-        ∙ optional_place τ g.function.now.required g.function.now.optional i c.index-optional-i.result lt
-        ∙ ap (λ (k : ℕ). put τ (get_or others (k + i) invalid)) (sym count) in
+    c.form-in-loop-i-2.ensures
+    ∙ ap (put τ) c.index-optional-i.is
+    ∙ ap (λ (ts : List Ty). put τ (get_or ts i c.index-optional-i.result)) c.as_slice-optional.ensures
+    ∙ optional_place τ g.function.now.required g.function.now.optional i c.index-optional-i.result lt
+    ∙ ap (λ (k : ℕ). put τ (get_or others (k + i) invalid)) (sym count) in
     no (λ p.
     let at = params_at table τ σ others own (n + i) invalid invalid (parted table τ σ g.function.now.required g.function.now.optional f.function.now.required f.function.now.optional p) within in
     refused c.is_below-in-loop-i-2.ensures c.if-not-is_below-2.true (onto table param own_param at.1))
@@ -364,11 +363,11 @@ are_params_below-loop-i-2-preserved t c = λ rest.
     let there = some_there (put σ) own (n + i) (seen_type c.in-Some-param_after.own) (sym (ap (option_map seen_type) c.in-Some-param_after.is) ∙ c.param_after.ensures) in
     let own_param : form_of c.form-in-loop-i-2-2.result ≡ put σ (get_or own (n + i) invalid) = c.form-in-loop-i-2-2.ensures ∙ there.1 in
     let param : form_of c.form-in-loop-i-2.result ≡ put τ (get_or others (n + i) invalid) =
-        c.form-in-loop-i-2.ensures
-        ∙ ap (put τ) c.index-optional-i.is
-        ∙ ap (λ (ts : List Ty). put τ (get_or ts i c.index-optional-i.result)) c.as_slice-optional.ensures
-        ∙ optional_place τ g.function.now.required g.function.now.optional i c.index-optional-i.result lt
-        ∙ ap (λ (k : ℕ). put τ (get_or others (k + i) invalid)) (sym count) in
+    c.form-in-loop-i-2.ensures
+    ∙ ap (put τ) c.index-optional-i.is
+    ∙ ap (λ (ts : List Ty). put τ (get_or ts i c.index-optional-i.result)) c.as_slice-optional.ensures
+    ∙ optional_place τ g.function.now.required g.function.now.optional i c.index-optional-i.result lt
+    ∙ ap (λ (k : ℕ). put τ (get_or others (k + i) invalid)) (sym count) in
     let a = back table param own_param (granted c.is_below-in-loop-i-2.ensures c.if-not-is_below-2.false) in
     let next : n + (i + 1) ≡ n + i + 1 = omega arith in
     c.loop-i-2.invariant
@@ -548,10 +547,10 @@ is_below_promoted-returns t c =
 pub is_function_below-returns-then-eq-2 : goal.is_function_below-returns-then-eq-2
 is_function_below-returns-then-eq-2 t c =
     let which : (same_class c.in-Interface.class OBJECT ≡ true) ⊎ (same_class c.in-Interface.class FUNCTION ≡ true) =
-        elim c.if-eq.branch as (λ _. (same_class c.in-Interface.class OBJECT ≡ true) ⊎ (same_class c.in-Interface.class FUNCTION ≡ true)) [
-          | is_function_below-then-eq w ↦ inl (sym c.eq.ensures ∙ w.if-eq.true)
-          | is_function_below-else-eq w ↦ inr (sym w.eq-else-eq.ensures ∙ sym w.value-is ∙ c.if-eq-2.true)
-        ] in
+    elim c.if-eq.branch as (λ _. (same_class c.in-Interface.class OBJECT ≡ true) ⊎ (same_class c.in-Interface.class FUNCTION ≡ true)) [
+      | is_function_below-then-eq w ↦ inl (sym c.eq.ensures ∙ w.if-eq.true)
+      | is_function_below-else-eq w ↦ inr (sym w.eq-else-eq.ensures ∙ sym w.value-is ∙ c.if-eq-2.true)
+    ] in
     class_above c.args.rows.now.table c.in-Interface.class c.in-Interface.args.scope.now c.in-Interface.args.types.now (ap form_of c.in-Interface.is) which c.is_empty.ensures
 
 -- an interface on both sides
@@ -585,10 +584,10 @@ is_signature_below-returns-then-not-requires_no_more t c =
     let σ = in_scope f.scope.now in
     let τ = in_scope g.scope.now in
     let needed : c.requires_no_more.result ≡ required_in (put_named σ (named_of f.function.now.named)) (put_named τ (named_of g.function.now.named)) =
-        c.requires_no_more.ensures
-        ∙ ap (λ (ns : List NamedType). required_in (named_of ns) (named_of c.as_slice-3.result.now)) c.as_slice-2.ensures.same
-        ∙ ap (λ (ns : List NamedType). required_in (named_of f.function.now.named) (named_of ns)) c.as_slice-3.ensures.same
-        ∙ sym (required_in-put σ τ (named_of f.function.now.named) (named_of g.function.now.named)) in
+    c.requires_no_more.ensures
+    ∙ ap (λ (ns : List NamedType). required_in (named_of ns) (named_of c.as_slice-3.result.now)) c.as_slice-2.ensures.same
+    ∙ ap (λ (ns : List NamedType). required_in (named_of f.function.now.named) (named_of ns)) c.as_slice-3.ensures.same
+    ∙ sym (required_in-put σ τ (named_of f.function.now.named) (named_of g.function.now.named)) in
     name_required c.args.rows.now.table (sym needed ∙ c.if-not-requires_no_more.true)
 
 pub is_signature_below-returns-then-not-are_params_below : goal.is_signature_below-returns-then-not-are_params_below
@@ -613,10 +612,10 @@ is_signature_below-returns t c =
     let σ = in_scope f.scope.now in
     let τ = in_scope g.scope.now in
     let needed : c.requires_no_more.result ≡ required_in (put_named σ (named_of f.function.now.named)) (put_named τ (named_of g.function.now.named)) =
-        c.requires_no_more.ensures
-        ∙ ap (λ (ns : List NamedType). required_in (named_of ns) (named_of c.as_slice-3.result.now)) c.as_slice-2.ensures.same
-        ∙ ap (λ (ns : List NamedType). required_in (named_of f.function.now.named) (named_of ns)) c.as_slice-3.ensures.same
-        ∙ sym (required_in-put σ τ (named_of f.function.now.named) (named_of g.function.now.named)) in
+    c.requires_no_more.ensures
+    ∙ ap (λ (ns : List NamedType). required_in (named_of ns) (named_of c.as_slice-3.result.now)) c.as_slice-2.ensures.same
+    ∙ ap (λ (ns : List NamedType). required_in (named_of f.function.now.named) (named_of ns)) c.as_slice-3.ensures.same
+    ∙ sym (required_in-put σ τ (named_of f.function.now.named) (named_of g.function.now.named)) in
     let a = count-types_of σ f.function.now.required in
     let b = count-types_of τ g.function.now.required in
     let own : length c.as_slice-required.result.now ≡ length f.function.now.required = ap (λ (ts : List Ty). length ts) c.as_slice-required.ensures in
@@ -653,14 +652,14 @@ is_superinterface_below-are_arguments_below-requires t c =
     let k : count ss ≡ length row.params = count-types_of (in_scope outer) args ∙ sym c.if-as_slice-args.false ∙ ap (λ (ps : List VarId). length ps) c.as_slice.ensures in
     let list = c.superinterfaces-superinterfaces.result.now in
     let framed : (us : Types) → close_all c.frame-scope.result us ≡ put_all (by_params row.params ss) us =
-        (λ us. ap (λ (fs : Frames). close_all fs us) c.frame-scope.ensures ∙ frame_all c.as_slice-2.result.now args outer us ∙ ap (λ (ps : List VarId). put_all (by_params ps ss) us) c.as_slice-2.ensures) in
+    (λ us. ap (λ (fs : Frames). close_all fs us) c.frame-scope.ensures ∙ frame_all c.as_slice-2.result.now args outer us ∙ ap (λ (ps : List VarId). put_all (by_params ps ss) us) c.as_slice-2.ensures) in
     let item = c.superinterface-item.result in
     let among : Contains (filter (λ (s : Superinterface). same_class s.class c.args.other) list) item =
-        subst (λ (l : List Superinterface). Contains l item) c.of_class-superinterface-items.ensures (c.loop-superinterface.superinterface-index, c.loop-superinterface-test.true, sym c.superinterface-item.is) in
+    subst (λ (l : List Superinterface). Contains l item) c.of_class-superinterface-items.ensures (c.loop-superinterface.superinterface-index, c.loop-superinterface-test.true, sym c.superinterface-item.is) in
     let passed = contains_passed (λ (s : Superinterface). same_class s.class c.args.other) list item among in
     let is = equal_from_same_class item.class c.args.other passed.1 in
     let same : close_all c.frame-scope.result (types_of c.as_slice-in-loop-superinterface.result.now) ≡ put_all (by_params row.params ss) (types_of item.args) =
-        framed (types_of c.as_slice-in-loop-superinterface.result.now) ∙ ap (λ (us : List Ty). put_all (by_params row.params ss) (types_of us)) c.as_slice-in-loop-superinterface.ensures in
+    framed (types_of c.as_slice-in-loop-superinterface.result.now) ∙ ap (λ (us : List Ty). put_all (by_params row.params ss) (types_of us)) c.as_slice-in-loop-superinterface.ensures in
     let fall = entry_falls table wf c.args.class c.args.other ss ts c.requires.other_class c.requires.no_object row (sym c.in-Some.ensures) k list c.superinterfaces-superinterfaces.ensures item passed.0 is in
     let seen = subst (λ (us : Types). measure table (interface c.args.other us) (interface c.args.other ts) < measure table (interface c.args.class ss) (interface c.args.other ts)) (sym same) fall in
     (omega (arith, seen, c.decreases), tt)
@@ -677,14 +676,14 @@ is_superinterface_below-returns-then-are_arguments_below t c =
     let k : count ss ≡ length row.params = count-types_of (in_scope outer) args ∙ sym c.if-as_slice-args.false ∙ ap (λ (ps : List VarId). length ps) c.as_slice.ensures in
     let list = c.superinterfaces-superinterfaces.result.now in
     let framed : (us : Types) → close_all c.frame-scope.result us ≡ put_all (by_params row.params ss) us =
-        (λ us. ap (λ (fs : Frames). close_all fs us) c.frame-scope.ensures ∙ frame_all c.as_slice-2.result.now args outer us ∙ ap (λ (ps : List VarId). put_all (by_params ps ss) us) c.as_slice-2.ensures) in
+    (λ us. ap (λ (fs : Frames). close_all fs us) c.frame-scope.ensures ∙ frame_all c.as_slice-2.result.now args outer us ∙ ap (λ (ps : List VarId). put_all (by_params ps ss) us) c.as_slice-2.ensures) in
     let item = c.superinterface-item.result in
     let among : Contains (filter (λ (s : Superinterface). same_class s.class c.args.other) list) item =
-        subst (λ (l : List Superinterface). Contains l item) c.of_class-superinterface-items.ensures (c.loop-superinterface.superinterface-index, c.loop-superinterface-test.true, sym c.superinterface-item.is) in
+    subst (λ (l : List Superinterface). Contains l item) c.of_class-superinterface-items.ensures (c.loop-superinterface.superinterface-index, c.loop-superinterface-test.true, sym c.superinterface-item.is) in
     let passed = contains_passed (λ (s : Superinterface). same_class s.class c.args.other) list item among in
     let is = equal_from_same_class item.class c.args.other passed.1 in
     let same : close_all c.frame-scope.result (types_of c.as_slice-in-loop-superinterface.result.now) ≡ put_all (by_params row.params ss) (types_of item.args) =
-        framed (types_of c.as_slice-in-loop-superinterface.result.now) ∙ ap (λ (us : List Ty). put_all (by_params row.params ss) (types_of us)) c.as_slice-in-loop-superinterface.ensures in
+    framed (types_of c.as_slice-in-loop-superinterface.result.now) ∙ ap (λ (us : List Ty). put_all (by_params row.params ss) (types_of us)) c.as_slice-in-loop-superinterface.ensures in
     entry_below table wf c.args.class c.args.other ss ts c.requires.other_class c.requires.no_object row (sym c.in-Some.ensures) k list c.superinterfaces-superinterfaces.ensures item passed.0 is
     (subst (λ (us : Types). Subs table us ts) same (granted c.are_arguments_below.ensures c.if-are_arguments_below.true))
 
@@ -700,7 +699,7 @@ is_superinterface_below-returns t c =
     let k : count ss ≡ length row.params = count-types_of (in_scope outer) args ∙ sym c.if-as_slice-args.false ∙ ap (λ (ps : List VarId). length ps) c.as_slice.ensures in
     let list = c.superinterfaces-superinterfaces.result.now in
     let framed : (us : Types) → close_all c.frame-scope.result us ≡ put_all (by_params row.params ss) us =
-        (λ us. ap (λ (fs : Frames). close_all fs us) c.frame-scope.ensures ∙ frame_all c.as_slice-2.result.now args outer us ∙ ap (λ (ps : List VarId). put_all (by_params ps ss) us) c.as_slice-2.ensures) in
+    (λ us. ap (λ (fs : Frames). close_all fs us) c.frame-scope.ensures ∙ frame_all c.as_slice-2.result.now args outer us ∙ ap (λ (ps : List VarId). put_all (by_params ps ss) us) c.as_slice-2.ensures) in
     none_below table wf c.args.class c.args.other ss ts c.requires.other_class c.requires.no_object row (sym c.in-Some.ensures) k list c.superinterfaces-superinterfaces.ensures
     (λ s i is a.
     let passed = passed_contains (λ (s' : Superinterface). same_class s'.class c.args.other) list s i (subst (λ (d : ClassId). same_class d c.args.other ≡ true) (sym is) (same_class-refl c.args.other)) in
@@ -775,4 +774,3 @@ is_var_below_nullable_promoted-is_below_nullable_promoted-requires t c =
 pub is_var_below_nullable_promoted-returns-in-Other : goal.is_var_below_nullable_promoted-returns-in-Other
 is_var_below_nullable_promoted-returns-in-Other t c =
     bound_promoted c.args.rows.now.table c.args.rows.now.formed c.args.var (form_of c.args.t.now) c.loop-var.invariant (λ a. refused c.is_below_promoted.ensures c.if-is_below_promoted.false a) (sym c.in-Some.ensures) (c.form.ensures ∙ rooted c.root-root.result c.root-root.ensures c.in-Some.bound.now) c.is_below_nullable_promoted.ensures
-

@@ -1,0 +1,200 @@
+//! Whether rows are well formed.
+
+ghost use Rattle.std.specs.Prelude.{◌≡◌, ◌≢◌, ◌↔◌, ◌∷◌, [], All, AllPairs, IsTrue, true};
+ghost use Rattle.dart_types.specs.Heads.{object};
+ghost use Rattle.dart_types.specs.Tables.{depth_of, head_depth, depth_above};
+ghost use Rattle.dart_types.specs.WellFormed.{class_before, var_before, IsFormedClass, IsFormedVar, IsWellFormed};
+ghost use Rattle.dart_types.specs.declared.ids.TheConstants.{OBJECT, FUNCTION};
+
+use crate::class_rows::{ClassRow, VarRow};
+use crate::entries::find_row;
+use crate::ids::{ClassId, FUNCTION, OBJECT, VarId};
+use crate::types::{DartType, TypeNode};
+
+/// Whether rows of classes and of type variables are well formed. It takes no memory.
+pub(crate) fn are_well_formed(classes: &[ClassRow], vars: &[VarRow]) -> bool
+    ensures { IsTrue result ↔ IsWellFormed (record { classes = classes.now; vars = vars.now }) }
+{
+    if !are_classes_in_order(classes) {
+        return false;
+    }
+    if !are_vars_in_order(vars) {
+        return false;
+    }
+    if !are_formed_classes(classes, vars) {
+        return false;
+    }
+    are_formed_vars(classes, vars)
+}
+
+// Whether the ids of the classes rise.
+fn are_classes_in_order(classes: &[ClassRow]) -> bool
+    ensures { IsTrue result ↔ AllPairs (λ a b. class_before a.id b.id ≡ true) classes.now }
+{
+    for i in 1..classes.len() {
+        if !is_class_before(classes[i - 1].id, classes[i].id) {
+            return false;
+        }
+    }
+    true
+}
+
+// Whether the ids of the type variables rise.
+fn are_vars_in_order(vars: &[VarRow]) -> bool
+    ensures { IsTrue result ↔ AllPairs (λ a b. var_before a.var b.var ≡ true) vars.now }
+{
+    for i in 1..vars.len() {
+        if !is_var_before(vars[i - 1].var, vars[i].var) {
+            return false;
+        }
+    }
+    true
+}
+
+// Whether the first class stands before the second.
+fn is_class_before(c: ClassId, d: ClassId) -> bool
+    ensures { result ≡ class_before c d }
+{
+    c < d
+}
+
+// Whether the first variable stands before the second.
+fn is_var_before(x: VarId, y: VarId) -> bool
+    ensures { result ≡ var_before x y }
+{
+    x < y
+}
+
+// Whether the row of each class is well formed among the others.
+fn are_formed_classes(classes: &[ClassRow], vars: &[VarRow]) -> bool
+    requires classes_in_order { AllPairs (λ a b. class_before a.id b.id ≡ true) classes.now }
+    requires vars_in_order { AllPairs (λ a b. var_before a.var b.var ≡ true) vars.now }
+    ensures { IsTrue result ↔ All (IsFormedClass (record { classes = classes.now; vars = vars.now })) classes.now }
+{
+    for row in classes {
+        if !is_formed_class(row, classes, vars) {
+            return false;
+        }
+    }
+    true
+}
+
+// Whether the row of each type variable is well formed among the others.
+fn are_formed_vars(classes: &[ClassRow], vars: &[VarRow]) -> bool
+    requires classes_in_order { AllPairs (λ a b. class_before a.id b.id ≡ true) classes.now }
+    requires vars_in_order { AllPairs (λ a b. var_before a.var b.var ≡ true) vars.now }
+    ensures { IsTrue result ↔ All (IsFormedVar (record { classes = classes.now; vars = vars.now })) vars.now }
+{
+    for row in vars {
+        if !is_formed_var(row, classes, vars) {
+            return false;
+        }
+    }
+    true
+}
+
+// Whether the row of a type variable is well formed among the others.
+fn is_formed_var(row: &VarRow, classes: &[ClassRow], vars: &[VarRow]) -> bool
+    requires classes_in_order { AllPairs (λ a b. class_before a.id b.id ≡ true) classes.now }
+    requires vars_in_order { AllPairs (λ a b. var_before a.var b.var ≡ true) vars.now }
+    ensures { IsTrue result ↔ IsFormedVar (record { classes = classes.now; vars = vars.now }) row.now }
+{
+    if !row.bound.is_earlier(row.var) {
+        return false;
+    }
+    row.bound.is_over(classes, vars)
+}
+
+// Whether the row of a class is well formed among the others.
+fn is_formed_class(row: &ClassRow, classes: &[ClassRow], vars: &[VarRow]) -> bool
+    requires classes_in_order { AllPairs (λ a b. class_before a.id b.id ≡ true) classes.now }
+    requires vars_in_order { AllPairs (λ a b. var_before a.var b.var ≡ true) vars.now }
+    ensures { IsTrue result ↔ IsFormedClass (record { classes = classes.now; vars = vars.now }) row.now }
+{
+    if !is_rooted(row) {
+        return false;
+    }
+    if !row.supers.are_supertypes(row.params.as_slice()) {
+        return false;
+    }
+    if !row.supers.are_over(classes, vars) {
+        return false;
+    }
+    u128::from(row.depth) == depth_over(classes, row.supers.as_slice())
+}
+
+// Whether the class is `Object` and has no supertype, or is `Function` and has `Object` alone, or is
+// another class and has one at least.
+fn is_rooted(row: &ClassRow) -> bool
+    ensures { IsTrue result ↔ ((row.now.id ≡ OBJECT → row.now.supers ≡ []) × (row.now.id ≡ FUNCTION → row.now.supers ≡ object ∷ []) × (row.now.id ≢ OBJECT → row.now.supers ≢ [])) }
+{
+    let supers = row.supers.as_slice();
+    if row.id == OBJECT {
+        return supers.is_empty();
+    }
+    if row.id == FUNCTION {
+        return is_object_alone(supers);
+    }
+    !supers.is_empty()
+}
+
+// Whether the one type is `Object`.
+fn is_object_alone(types: &[DartType]) -> bool
+    ensures { IsTrue result ↔ (types.now ≡ object ∷ []) }
+{
+    if types.len() != 1 {
+        return false;
+    }
+    is_object(&types[0])
+}
+
+// Whether the type is `Object`.
+fn is_object(t: &DartType) -> bool
+    ensures { IsTrue result ↔ (t.now ≡ object) }
+{
+    match &t.node {
+        TypeNode::Interface { class, args } => *class == OBJECT && args.as_slice().is_empty(),
+        _ => false,
+    }
+}
+
+// The longest way up over one of these direct supertypes.
+fn depth_over(classes: &[ClassRow], supers: &[DartType]) -> u128
+    requires { AllPairs (λ a b. class_before a.id b.id ≡ true) classes.now }
+    ensures { result ≡ depth_above (record { classes = classes.now; vars = [] }) supers.now }
+{
+    let mut depth: u128 = 0;
+    for v in supers {
+        depth = depth.max(u128::from(depth_from(classes, v)) + 1);
+    }
+    depth
+}
+
+// The longest way up from a type, as the row of its class says.
+fn depth_from(classes: &[ClassRow], t: &DartType) -> u64
+    requires { AllPairs (λ a b. class_before a.id b.id ≡ true) classes.now }
+    ensures { result ≡ head_depth (record { classes = classes.now; vars = [] }) t.now }
+{
+    match &t.node {
+        TypeNode::Interface { class, .. } => depth_of_class(classes, *class),
+        TypeNode::Invalid
+        | TypeNode::Never
+        | TypeNode::Void
+        | TypeNode::Null
+        | TypeNode::Function(_)
+        | TypeNode::Var(_)
+        | TypeNode::Promoted { .. }
+        | TypeNode::Nullable(_) => 0,
+    }
+}
+
+// The longest way up from a class, as its row says; 0 without a row.
+fn depth_of_class(classes: &[ClassRow], class: ClassId) -> u64
+    requires { AllPairs (λ a b. class_before a.id b.id ≡ true) classes.now }
+    ensures { result ≡ depth_of (record { classes = classes.now; vars = [] }) class }
+{
+    match find_row(classes, class) {
+        None => 0,
+        Some(row) => row.depth,
+    }
+}
