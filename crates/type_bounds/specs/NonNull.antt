@@ -1,5 +1,5 @@
 -- A type without null.
-use Rattle.std.specs.Prelude.{ℕ, Bool, Option, None, Some, if◌then◌else◌}
+use Rattle.std.specs.Prelude.{ℕ, Option, None, Some, if◌then◌else◌}
 use Rattle.std.proofs.Common.{zero, suc}
 use Rattle.dart_types.specs.Ty.{Ty, invalid, never, void, null, interface, function, variable, promoted, nullable}
 use Rattle.dart_types.specs.Heads.{object}

@@ -6,3 +6,10 @@
 //! definition says, or says how many types would stand in a result that is too large. The crate
 //! stands on the types of `dart_types`.
 #![tactic(auto)]
+
+mod counts;
+mod factors;
+mod non_nulls;
+
+pub use factors::factor;
+pub use non_nulls::{non_null, non_null_laws};

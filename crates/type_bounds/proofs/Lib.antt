@@ -1,0 +1,3 @@
+pub mod Counted
+pub mod Leaves
+pub mod NonNulls
