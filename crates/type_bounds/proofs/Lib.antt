@@ -1,3 +1,6 @@
 pub mod Counted
 pub mod Leaves
 pub mod NonNulls
+pub mod NamedBounds
+pub mod Supers
+pub mod BoundLaws

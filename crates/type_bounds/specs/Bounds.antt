@@ -124,10 +124,10 @@ mutual
     no_upper : Uppers table no_more no_more no_more
     one_upper : {s t u : Ty} {ss ts us : Types} → Upper table s t u → Uppers table ss ts us → Uppers table (more s ss) (more t ts) (more u us)
 
-  -- the named parameters of the first list, as many as the second, with upper bounds; one is required where both require it
+  -- the named parameters of two lists that have the same names in the same order, with upper bounds; one is required where both require it
   pub data UpperNamed (table : Table) : (ns ms us : Named) → Type 0 where
-    no_upper_name : {ms : Named} → UpperNamed table no_named ms no_named
-    upper_name : {n : List ℕ} {r : Bool} {s t u : Ty} {ns ms us : Named} → type_named ms n ≡ Some t → Upper table s t u → UpperNamed table ns ms us → UpperNamed table (more_named n r s ns) ms (more_named n (r && is_required ms n) u us)
+    no_upper_name : UpperNamed table no_named no_named no_named
+    upper_name : {n : List ℕ} {r q : Bool} {s t u : Ty} {ns ms us : Named} → Upper table s t u → UpperNamed table ns ms us → UpperNamed table (more_named n r s ns) (more_named n q t ms) (more_named n (r && q) u us)
 
   -- u is the lower bound of s and t
   pub data Lower (table : Table) : (s t u : Ty) → Type 0 where

@@ -17,10 +17,12 @@ abbrev pub required_are_in : Named → Named → Bool
 required_are_in no_named ns = true
 required_are_in (more_named n r t rest) ns = (if r then has_name ns n else true) && required_are_in rest ns
 
--- each name of the first list is in the second
-abbrev pub names_are_in : Named → Named → Bool
-names_are_in no_named ns = true
-names_are_in (more_named n r t rest) ns = has_name ns n && names_are_in rest ns
+-- both lists have the same names, in the same order
+abbrev pub same_names : Named → Named → Bool
+same_names no_named no_named = true
+same_names no_named (more_named m q u ms) = false
+same_names (more_named n r t ns) no_named = false
+same_names (more_named n r t ns) (more_named m q u ms) = bytes_eq n m && same_names ns ms
 
 -- there is a positional parameter
 abbrev pub some_type : Types → Bool
@@ -37,6 +39,6 @@ abbrev pub have_upper : (r o : Types) (n : Named) (r' o' : Types) (n' : Named) �
 have_upper r o n r' o' n' =
     nat_eq (count r) (count r') && (required_are_in n n' && required_are_in n' n) && not ((some_type o && some_named n') || (some_type o' && some_named n))
 
--- Two function types have a lower bound that is one: they have as many required and as many optional positional parameters, and the same names.
+-- Two function types have a lower bound that is one: they have as many required and as many optional positional parameters, and the same names, which stand in one order in all function types.
 abbrev pub have_lower : (r o : Types) (n : Named) (r' o' : Types) (n' : Named) → Bool
-have_lower r o n r' o' n' = nat_eq (count r) (count r') && (nat_eq (count o) (count o') && (names_are_in n n' && names_are_in n' n))
+have_lower r o n r' o' n' = nat_eq (count r) (count r') && (nat_eq (count o) (count o') && same_names n n')

@@ -9,7 +9,9 @@
 
 mod counts;
 mod factors;
+mod laws;
 mod non_nulls;
 
 pub use factors::factor;
+pub use laws::bounds_are_bounds;
 pub use non_nulls::{non_null, non_null_laws};
