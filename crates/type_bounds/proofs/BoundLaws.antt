@@ -1,20 +1,19 @@
 -- An upper bound is a supertype of both types, and a lower one a subtype.
-use Rattle.std.proofs.Common.{◌≡◌, ℕ, ◌+◌, ◌≤◌, Bool, true, false, Option, Some, None, List, refl, sym, ◌∙◌, ap, subst, arith}
+use Rattle.std.proofs.Common.{◌≡◌, ℕ, ◌+◌, Bool, true, List, refl, sym, ◌∙◌, ap, subst, arith}
 use Rattle.std.specs.Prelude.{◌&&◌, ◌||◌, nat_eq, bytes_eq, not}
 use Rattle.std.specs.Cmp.Lexicographic.{bytes_decides}
-use Rattle.dart_types.specs.Ty.{Ty, Types, Named, invalid, never, void, null, interface, function, variable, promoted, nullable, no_more, more, no_named, more_named, count, join}
-use Rattle.dart_types.specs.Heads.{object}
+use Rattle.dart_types.specs.Ty.{Ty, Types, Named, invalid, never, void, null, interface, function, variable, promoted, nullable, no_more, more, more_named, count, join}
 use Rattle.dart_types.specs.Normal.{nullable_of}
-use Rattle.dart_types.specs.Tables.{Table, bound_of}
+use Rattle.dart_types.specs.Tables.{Table}
 use Rattle.dart_types.specs.WellFormed.{IsWellFormed}
-use Rattle.dart_types.specs.Sub.{Sub, Subs, SubParams, SubNamed, HasNamed, first, later, is_required, required_in, reflexivity, right_top, left_bottom, left_null, right_object, left_nullable, right_nullable, left_promoted_variable, left_promoted_type, right_promoted, left_variable_bound, interface_arguments, function_class, function_types, none_left, one_left, no_param, one_param, no_name, one_name}
+use Rattle.dart_types.specs.Sub.{Sub, Subs, SubParams, SubNamed, HasNamed, first, later, is_required, reflexivity, right_top, left_bottom, left_null, right_object, left_nullable, right_nullable, left_promoted_variable, left_promoted_type, left_variable_bound, interface_arguments, function_class, function_types, none_left, one_left, no_param, one_param, no_name, one_name}
 use Rattle.dart_types.specs.declared.ids.ClassId.{ClassId}
 use Rattle.dart_types.specs.declared.ids.VarId.{VarId}
-use Rattle.dart_types.proofs.SameIds.{both_true, nat_from_test}
+use Rattle.dart_types.proofs.SameIds.{both_true, nat_from_test, equal_from_same_class, equal_from_same_var}
 use Rattle.dart_types.proofs.NamedParams.{required_from}
 use Rattle.dart_types.proofs.Transitive.{trans}
-use Rattle.type_bounds.specs.Signatures.{has_name, type_named, required_are_in, same_names, some_type, some_named, have_upper, have_lower}
-use Rattle.type_bounds.specs.Bounds.{AreApart, bare_of, Upper, right_above, left_above, upper_apart, UpperApart, null_left, null_right, marked_either, promoted_twice, variable_left, promoted_left, variable_right, promoted_right, upper_functions, upper_of_others, function_and_class, class_and_function, one_class, two_classes, Uppers, no_upper, one_upper, UpperNamed, no_upper_name, upper_name, Lower, left_below, right_below, lower_apart, LowerApart, marked_both, marked_once, lower_functions, lower_of_others, nothing_below, LowerParams, left_ends, right_ends, one_lower, LowerNamed, no_lower_name, lower_name, other_name}
+use Rattle.type_bounds.specs.Signatures.{has_name, required_are_in, some_type, some_named, have_upper}
+use Rattle.type_bounds.specs.Bounds.{bare_of, Upper, right_above, left_above, upper_apart, UpperApart, null_left, null_right, marked_either, promoted_twice, variable_left, promoted_left, variable_right, promoted_right, upper_functions, upper_of_others, function_and_class, class_and_function, one_class, two_classes, Uppers, no_upper, one_upper, UpperNamed, no_upper_name, upper_name, Lower, left_below, right_below, lower_apart, LowerApart, marked_both, marked_once, lower_functions, lower_of_others, nothing_below, LowerParams, left_ends, right_ends, one_lower, LowerNamed, no_lower_name, lower_name, other_name}
 use Rattle.type_bounds.proofs.NamedBounds.{or_true, or_left, or_right, type_is_named, not_named, required_is_named, required_in_other, required_here, when_true}
 use Rattle.type_bounds.proofs.Supers.{is_above}
 
@@ -119,15 +118,15 @@ module _ (table : Table) where
   -- what is required with upper bounds is required by both
   upper_requires : {ns ms us : Named} → UpperNamed table ns ms us → (m : List ℕ) → is_required us m ≡ true → (is_required ns m ≡ true) × (is_required ms m ≡ true)
   upper_requires no_upper_name m k = cc
-  upper_requires (upper_name {n = n} {r = r} {q = q} {ns = ns} {ms = ms} {us = us} a rest) m k =
+  upper_requires (upper_name {n = n} {m = n'} {r = r} {q = q} {ns = ns} {ms = ms} {us = us} h a rest) m k =
       or_true (bytes_eq n m && (r && q)) (is_required us m) k
       (λ here.
       let parts = both_true (bytes_eq n m) (r && q) here in
       let flags = both_true r q parts.1 in
-      (required_here n m r (is_required ns m) parts.0 flags.0, required_here n m q (is_required ms m) parts.0 flags.1))
+      (required_here n m r (is_required ns m) parts.0 flags.0, required_here n' m q (is_required ms m) (subst (λ (l : List ℕ). bytes_eq l m ≡ true) ((bytes_decides n n').0 h) parts.0) flags.1))
       (λ behind.
       let both = upper_requires rest m behind in
-      (or_right (bytes_eq n m && r) (is_required ns m) both.0, or_right (bytes_eq n m && q) (is_required ms m) both.1))
+      (or_right (bytes_eq n m && r) (is_required ns m) both.0, or_right (bytes_eq n' m && q) (is_required ms m) both.1))
 
   -- what two signatures with an upper bound agree on
   upper_counts : (r o : Types) (n : Named) (r' o' : Types) (n' : Named) → have_upper r o n r' o' n' ≡ true → (count r ≡ count r') × ((required_are_in n n' ≡ true) × (required_are_in n' n ≡ true))
@@ -162,7 +161,8 @@ module _ (table : Table) where
       apart_above (null_left {t = t}) = (null_above t, marked_above t)
       apart_above (null_right {s = s}) = (marked_above s, null_above s)
       apart_above (marked_either {s = s} {t = t} {u = u} p q h a) = let k = upper_above a in (marked_over s u k.0, marked_over t u k.1)
-      apart_above promoted_twice = (left_promoted_variable reflexivity, left_promoted_variable reflexivity)
+      apart_above (promoted_twice {x = x} {y = y} {v = v} h) =
+          (left_promoted_variable reflexivity, left_promoted_variable (subst (λ (k : VarId). Sub table (variable k) (variable x)) (equal_from_same_var x y h) reflexivity))
       apart_above (variable_left {b = b} h e a) = let k = upper_above a in (left_variable_bound b e k.0, k.1)
       apart_above (promoted_left h n a) = let k = upper_above a in (left_promoted_type k.0, k.1)
       apart_above (variable_right {b = b} h e a) = let k = upper_above a in (k.0, left_variable_bound b e k.1)
@@ -173,15 +173,16 @@ module _ (table : Table) where
           let rp = lower_params rs in
           let op = lower_params os in
           let np = lower_named ns in
-          let size = count_lower rs counts.0 in
-          (
+          let size = count_lower rs counts.0 in (
             function_types (omega (arith, size)) (joined size rp.0 op.0) np.0 (required_from n n'' (lower_requires_left ns counts.1.0)) k.0,
             function_types (omega (arith, size, counts.0)) (joined (size ∙ counts.0) rp.1 op.1) np.1 (required_from n' n'' (λ m q. lower_requires_right ns m q (required_in_other n' n m counts.1.1 q))) k.1,
           )
       apart_above (upper_of_others h) = (function_class refl, function_class refl)
       apart_above function_and_class = (right_object refl refl, right_object refl refl)
       apart_above class_and_function = (right_object refl refl, right_object refl refl)
-      apart_above (one_class a) = let k = uppers_above a in (interface_arguments k.0, interface_arguments k.1)
+      apart_above (one_class {c = c} {d = d} {ts = ts} {us = us} h a) =
+          let k = uppers_above a in
+          (interface_arguments k.0, subst (λ (e : ClassId). Sub table (interface e ts) (interface c us)) (equal_from_same_class c d h) (interface_arguments k.1))
       apart_above (two_classes {c = c} {d = d} {ss = ss} {ts = ts} {u = u} h a) = (is_above table wf c ss u a.common.0, is_above table wf d ts u a.common.1)
 
       uppers_above : {ss ts us : Types} → Uppers table ss ts us → Subs table ss us × Subs table ts us
@@ -190,10 +191,11 @@ module _ (table : Table) where
 
       upper_named : {ns ms us : Named} → UpperNamed table ns ms us → SubNamed table ns us × SubNamed table ms us
       upper_named no_upper_name = (no_name, no_name)
-      upper_named (upper_name {u = u} a rest) =
+      upper_named (upper_name {n = n} {m = m} {r = r} {q = q} {u = u} {us = us} h a rest) =
           let k = upper_above a in
           let l = upper_named rest in
-          (one_name u first k.0 (named_later l.0), one_name u first k.1 (named_later l.1))
+          let is : n ≡ m = (bytes_decides n m).0 h in
+          (one_name u first k.0 (named_later l.0), one_name u (subst (λ (k : List ℕ). HasNamed (more_named n (r && q) u us) k u) is first) k.1 (named_later l.1))
 
       pub lower_below : {s t u : Ty} → Lower table s t u → Sub table u s × Sub table u t
       lower_below (left_below a) = (reflexivity, a)
@@ -207,8 +209,7 @@ module _ (table : Table) where
           let k = lower_below e in
           let rp = uppers_above rs in
           let op = uppers_above os in
-          let np = upper_named ns in
-          (
+          let np = upper_named ns in (
             function_types (omega (arith, count_subs rp.0)) (joined (count_subs rp.0) (params_from rp.0) (params_from op.0)) np.0 (required_from n'' n (λ m q. (upper_requires ns m q).0)) k.0,
             function_types (omega (arith, count_subs rp.1)) (joined (count_subs rp.1) (params_from rp.1) (params_from op.1)) np.1 (required_from n'' n' (λ m q. (upper_requires ns m q).1)) k.1,
           )

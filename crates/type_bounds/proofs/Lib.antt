@@ -4,3 +4,4 @@ pub mod NonNulls
 pub mod NamedBounds
 pub mod Supers
 pub mod BoundLaws
+pub mod OneBound

@@ -1,5 +1,5 @@
 -- A superinterface of a class with arguments is a supertype.
-use Rattle.std.proofs.Common.{◌≡◌, sym, subst}
+use Rattle.std.proofs.Common.{sym, subst}
 use Rattle.dart_types.specs.Ty.{Ty, Types, interface}
 use Rattle.dart_types.specs.Substitution.{put, by_params}
 use Rattle.dart_types.specs.Tables.{Table}

@@ -1,5 +1,5 @@
 -- Upper and lower bounds: one constructor is one row of the tables, of which the first that fits is taken.
-use Rattle.std.specs.Prelude.{◌≡◌, ℕ, Bool, true, false, ◌&&◌, ◌||◌, List, Some, None}
+use Rattle.std.specs.Prelude.{◌≡◌, ℕ, Bool, true, false, ◌&&◌, ◌||◌, List, Some, None, bytes_eq}
 use Rattle.dart_types.specs.Ty.{Ty, Types, Named, invalid, never, void, null, interface, function, variable, promoted, nullable, no_more, more, no_named, more_named}
 use Rattle.dart_types.specs.Heads.{object}
 use Rattle.dart_types.specs.Normal.{nullable_of}
@@ -100,7 +100,7 @@ mutual
     -- a `?` on either side: the bound of the bare types with `?`
     marked_either : {s t u : Ty} → is_null s ≡ false → is_null t ≡ false → (is_nullable s || is_nullable t) ≡ true → Upper table (bare_of s) (bare_of t) u → UpperApart table s t (nullable_of u)
     -- a variable that is promoted to two types: the variable
-    promoted_twice : {x : VarId} {u v : Ty} → UpperApart table (promoted x u) (promoted x v) (variable x)
+    promoted_twice : {x y : VarId} {u v : Ty} → same_var x y ≡ true → UpperApart table (promoted x u) (promoted y v) (variable x)
     -- a variable gives way to its bound, a promoted one to the type that it is promoted to, on the left side first
     variable_left : {x : VarId} {b t u : Ty} → is_bare t ≡ true → bound_of table x ≡ Some b → Upper table b t u → UpperApart table (variable x) t u
     promoted_left : {x : VarId} {v t u : Ty} → is_bare t ≡ true → is_promoted_from x t ≡ false → Upper table v t u → UpperApart table (promoted x v) t u
@@ -115,7 +115,7 @@ mutual
     function_and_class : {r o : Types} {n : Named} {e : Ty} {c : ClassId} {ts : Types} → UpperApart table (function r o n e) (interface c ts) object
     class_and_function : {r o : Types} {n : Named} {e : Ty} {c : ClassId} {ts : Types} → UpperApart table (interface c ts) (function r o n e) object
     -- one class: the upper bounds of the arguments
-    one_class : {c : ClassId} {ss ts us : Types} → Uppers table ss ts us → UpperApart table (interface c ss) (interface c ts) (interface c us)
+    one_class : {c d : ClassId} {ss ts us : Types} → same_class c d ≡ true → Uppers table ss ts us → UpperApart table (interface c ss) (interface d ts) (interface c us)
     -- two classes: the deepest superinterface of both
     two_classes : {c d : ClassId} {ss ts : Types} {u : Ty} → same_class c d ≡ false → IsDeepest table c ss d ts u → UpperApart table (interface c ss) (interface d ts) u
 
@@ -127,7 +127,7 @@ mutual
   -- the named parameters of two lists that have the same names in the same order, with upper bounds; one is required where both require it
   pub data UpperNamed (table : Table) : (ns ms us : Named) → Type 0 where
     no_upper_name : UpperNamed table no_named no_named no_named
-    upper_name : {n : List ℕ} {r q : Bool} {s t u : Ty} {ns ms us : Named} → Upper table s t u → UpperNamed table ns ms us → UpperNamed table (more_named n r s ns) (more_named n q t ms) (more_named n (r && q) u us)
+    upper_name : {n m : List ℕ} {r q : Bool} {s t u : Ty} {ns ms us : Named} → bytes_eq n m ≡ true → Upper table s t u → UpperNamed table ns ms us → UpperNamed table (more_named n r s ns) (more_named m q t ms) (more_named n (r && q) u us)
 
   -- u is the lower bound of s and t
   pub data Lower (table : Table) : (s t u : Ty) → Type 0 where

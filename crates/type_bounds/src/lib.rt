@@ -13,5 +13,5 @@ mod laws;
 mod non_nulls;
 
 pub use factors::factor;
-pub use laws::bounds_are_bounds;
+pub use laws::{bounds_are_bounds, bounds_are_unique};
 pub use non_nulls::{non_null, non_null_laws};
