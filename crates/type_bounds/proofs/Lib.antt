@@ -5,3 +5,4 @@ pub mod NamedBounds
 pub mod Supers
 pub mod BoundLaws
 pub mod OneBound
+pub mod Examples
