@@ -1,0 +1,230 @@
+-- An upper bound is a supertype of both types, and a lower one a subtype.
+use Rattle.std.proofs.Common.{◌≡◌, ℕ, ◌+◌, Bool, true, List, refl, sym, ◌∙◌, ap, subst, arith}
+use Rattle.std.specs.Prelude.{◌&&◌, ◌||◌, nat_eq, bytes_eq, not}
+use Rattle.std.specs.Cmp.Lexicographic.{bytes_decides}
+use Rattle.dart_types.specs.Ty.{Ty, Types, Named, invalid, never, void, null, interface, function, variable, promoted, nullable, no_more, more, more_named, count, join}
+use Rattle.dart_types.specs.Normal.{nullable_of}
+use Rattle.dart_types.specs.Tables.{Table}
+use Rattle.dart_types.specs.WellFormed.{IsWellFormed}
+use Rattle.dart_types.specs.Sub.{Sub, Subs, SubParams, SubNamed, HasNamed, first, later, is_required, reflexivity, right_top, left_bottom, left_null, right_object, left_nullable, right_nullable, left_promoted_variable, left_promoted_type, left_variable_bound, interface_arguments, function_class, function_types, none_left, one_left, no_param, one_param, no_name, one_name}
+use Rattle.dart_types.specs.declared.ids.ClassId.{ClassId}
+use Rattle.dart_types.specs.declared.ids.VarId.{VarId}
+use Rattle.dart_types.proofs.SameIds.{both_true, nat_from_test, equal_from_same_class, equal_from_same_var}
+use Rattle.dart_types.proofs.NamedParams.{required_from}
+use Rattle.dart_types.proofs.Transitive.{trans}
+use Rattle.type_bounds.specs.Signatures.{has_name, required_are_in, some_type, some_named, have_upper}
+use Rattle.type_bounds.specs.Bounds.{bare_of, Upper, right_above, left_above, upper_apart, UpperApart, null_left, null_right, marked_either, promoted_twice, variable_left, promoted_left, variable_right, promoted_right, upper_functions, upper_of_others, function_and_class, class_and_function, one_class, two_classes, Uppers, no_upper, one_upper, UpperNamed, no_upper_name, upper_name, Lower, left_below, right_below, lower_apart, LowerApart, marked_both, marked_once, lower_functions, lower_of_others, nothing_below, LowerParams, left_ends, right_ends, one_lower, LowerNamed, no_lower_name, lower_name, other_name}
+use Rattle.type_bounds.proofs.NamedBounds.{or_true, or_left, or_right, type_is_named, not_named, required_is_named, required_in_other, required_here, when_true}
+use Rattle.type_bounds.proofs.Supers.{is_above}
+
+module _ (table : Table) where
+  -- a type and null are subtypes of the type with `?`
+  pub marked_above : (t : Ty) → Sub table t (nullable_of t)
+  marked_above invalid = right_nullable reflexivity
+  marked_above never = left_bottom
+  marked_above void = reflexivity
+  marked_above null = reflexivity
+  marked_above (interface c ts) = right_nullable reflexivity
+  marked_above (function r o n e) = right_nullable reflexivity
+  marked_above (variable x) = right_nullable reflexivity
+  marked_above (promoted x t) = right_nullable reflexivity
+  marked_above (nullable t) = reflexivity
+
+  pub null_above : (t : Ty) → Sub table null (nullable_of t)
+  null_above invalid = left_null
+  null_above never = reflexivity
+  null_above void = right_top refl
+  null_above null = reflexivity
+  null_above (interface c ts) = left_null
+  null_above (function r o n e) = left_null
+  null_above (variable x) = left_null
+  null_above (promoted x t) = left_null
+  null_above (nullable t) = left_null
+
+  -- a lower bound with `?`
+  marked_below : (u s : Ty) → Sub table u s → Sub table (nullable_of u) (nullable s)
+  marked_below invalid s a = left_nullable (right_nullable a) left_null
+  marked_below never s a = left_null
+  marked_below void s a = right_nullable a
+  marked_below null s a = left_null
+  marked_below (interface c ts) s a = left_nullable (right_nullable a) left_null
+  marked_below (function r o n e) s a = left_nullable (right_nullable a) left_null
+  marked_below (variable x) s a = left_nullable (right_nullable a) left_null
+  marked_below (promoted x t) s a = left_nullable (right_nullable a) left_null
+  marked_below (nullable t) s a = right_nullable a
+
+  -- what is below a bare type is below the type
+  bare_below : (s : Ty) {u : Ty} → Sub table u (bare_of s) → Sub table u s
+  bare_below invalid a = a
+  bare_below never a = a
+  bare_below void a = a
+  bare_below null a = a
+  bare_below (interface c ts) a = a
+  bare_below (function r o n e) a = a
+  bare_below (variable x) a = a
+  bare_below (promoted x t) a = a
+  bare_below (nullable t) a = right_nullable a
+
+  named_later : {n : List ℕ} {r : Bool} {t : Ty} {ts ss : Named} → SubNamed table ts ss → SubNamed table ts (more_named n r t ss)
+  named_later no_name = no_name
+  named_later (one_name s h a rest) = one_name s (later h) a (named_later rest)
+
+  joined : {us ss vs ts : Types} → count us ≡ count ss → SubParams table us ss → SubParams table vs ts → SubParams table (join us vs) (join ss ts)
+  joined {us = no_more} {ss = no_more} e no_param b = b
+  joined {us = no_more} {ss = more s ss} e no_param b = absurd (omega (arith, e))
+  joined e (one_param a rest) b = one_param a (joined (omega (arith, e)) rest b)
+
+  params_from : {ss us : Types} → Subs table ss us → SubParams table ss us
+  params_from none_left = no_param
+  params_from (one_left a rest) = one_param a (params_from rest)
+
+  count_subs : {ss us : Types} → Subs table ss us → count ss ≡ count us
+  count_subs none_left = refl
+  count_subs (one_left a rest) = ap (λ k. k + 1) (count_subs rest)
+
+  count_lower : {ss ts us : Types} → LowerParams table ss ts us → count ss ≡ count ts → count us ≡ count ss
+  count_lower left_ends e = refl
+  count_lower right_ends e = absurd (omega (arith, e))
+  count_lower (one_lower a rest) e = ap (λ k. k + 1) (count_lower rest (omega (arith, e)))
+
+  -- what the first list requires is required with lower bounds
+  lower_requires_left : {ns ms us : Named} → LowerNamed table ns ms us → required_are_in ns ms ≡ true → (m : List ℕ) → is_required ns m ≡ true → is_required us m ≡ true
+  lower_requires_left no_lower_name h m k = cc
+  lower_requires_left (lower_name {n = n} {r = r} {ns = ns} {ms = ms} {us = us} e a rest) h m k =
+      or_true (bytes_eq n m && r) (is_required ns m) k
+      (λ here. let parts = both_true (bytes_eq n m) r here in required_here n m (r || is_required ms n) (is_required us m) parts.0 (or_left r (is_required ms n) parts.1))
+      (λ behind. or_right (bytes_eq n m && (r || is_required ms n)) (is_required us m) (lower_requires_left rest (both_true _ (required_are_in ns ms) h).1 m behind))
+  lower_requires_left (other_name {n = n} {r = r} {ns = ns} {ms = ms} {us = us} e rest) h m k =
+      or_true (bytes_eq n m && r) (is_required ns m) k
+      (λ here. absurd (not_named ms n e (when_true r (both_true (bytes_eq n m) r here).1 (both_true _ (required_are_in ns ms) h).0)))
+      (λ behind. lower_requires_left rest (both_true _ (required_are_in ns ms) h).1 m behind)
+
+  -- and so is what the second requires, where the first has the name
+  lower_requires_right : {ns ms us : Named} → LowerNamed table ns ms us → (m : List ℕ) → is_required ms m ≡ true → has_name ns m ≡ true → is_required us m ≡ true
+  lower_requires_right no_lower_name m k h = cc
+  lower_requires_right (lower_name {n = n} {r = r} {ns = ns} {ms = ms} {us = us} e a rest) m k h =
+      or_true (bytes_eq n m) (has_name ns m) h
+      (λ here.
+      let is : n ≡ m = (bytes_decides n m).0 here in
+      required_here n m (r || is_required ms n) (is_required us m) here (or_right r (is_required ms n) (subst (λ (l : List ℕ). is_required ms l ≡ true) (sym is) k)))
+      (λ behind. or_right (bytes_eq n m && (r || is_required ms n)) (is_required us m) (lower_requires_right rest m k behind))
+  lower_requires_right (other_name {n = n} {ns = ns} {ms = ms} {us = us} e rest) m k h =
+      or_true (bytes_eq n m) (has_name ns m) h
+      (λ here.
+      let is : n ≡ m = (bytes_decides n m).0 here in
+      absurd (not_named ms n e (subst (λ (l : List ℕ). has_name ms l ≡ true) (sym is) (required_is_named ms m k))))
+      (λ behind. lower_requires_right rest m k behind)
+
+  -- what is required with upper bounds is required by both
+  upper_requires : {ns ms us : Named} → UpperNamed table ns ms us → (m : List ℕ) → is_required us m ≡ true → (is_required ns m ≡ true) × (is_required ms m ≡ true)
+  upper_requires no_upper_name m k = cc
+  upper_requires (upper_name {n = n} {m = n'} {r = r} {q = q} {ns = ns} {ms = ms} {us = us} h a rest) m k =
+      or_true (bytes_eq n m && (r && q)) (is_required us m) k
+      (λ here.
+      let parts = both_true (bytes_eq n m) (r && q) here in
+      let flags = both_true r q parts.1 in
+      (required_here n m r (is_required ns m) parts.0 flags.0, required_here n' m q (is_required ms m) (subst (λ (l : List ℕ). bytes_eq l m ≡ true) ((bytes_decides n n').0 h) parts.0) flags.1))
+      (λ behind.
+      let both = upper_requires rest m behind in
+      (or_right (bytes_eq n m && r) (is_required ns m) both.0, or_right (bytes_eq n' m && q) (is_required ms m) both.1))
+
+  -- what two signatures with an upper bound agree on
+  upper_counts : (r o : Types) (n : Named) (r' o' : Types) (n' : Named) → have_upper r o n r' o' n' ≡ true → (count r ≡ count r') × ((required_are_in n n' ≡ true) × (required_are_in n' n ≡ true))
+  upper_counts r o n r' o' n' h =
+      let a = both_true (nat_eq (count r) (count r') && (required_are_in n n' && required_are_in n' n)) (not ((some_type o && some_named n') || (some_type o' && some_named n))) h in
+      let b = both_true (nat_eq (count r) (count r')) (required_are_in n n' && required_are_in n' n) a.0 in
+      (nat_from_test (count r) (count r') b.0, both_true (required_are_in n n') (required_are_in n' n) b.1)
+
+  module _ (wf : IsWellFormed table) where
+    go : {s t u : Ty} → Sub table s t → Sub table t u → Sub table s u
+    go {s} {t} {u} a b = trans table wf t s u a b
+
+    -- a type is below the upper bound of its bare type with `?`
+    marked_over : (s u : Ty) → Sub table (bare_of s) u → Sub table s (nullable_of u)
+    marked_over invalid u a = go a (marked_above u)
+    marked_over never u a = go a (marked_above u)
+    marked_over void u a = go a (marked_above u)
+    marked_over null u a = go a (marked_above u)
+    marked_over (interface c ts) u a = go a (marked_above u)
+    marked_over (function r o n e) u a = go a (marked_above u)
+    marked_over (variable x) u a = go a (marked_above u)
+    marked_over (promoted x t) u a = go a (marked_above u)
+    marked_over (nullable t) u a = left_nullable (go a (marked_above u)) (null_above u)
+
+    mutual
+      pub upper_above : {s t u : Ty} → Upper table s t u → Sub table s u × Sub table t u
+      upper_above (right_above a) = (a, reflexivity)
+      upper_above (left_above n a) = (reflexivity, a)
+      upper_above (upper_apart apart a) = apart_above a
+
+      apart_above : {s t u : Ty} → UpperApart table s t u → Sub table s u × Sub table t u
+      apart_above (null_left {t = t}) = (null_above t, marked_above t)
+      apart_above (null_right {s = s}) = (marked_above s, null_above s)
+      apart_above (marked_either {s = s} {t = t} {u = u} p q h a) = let k = upper_above a in (marked_over s u k.0, marked_over t u k.1)
+      apart_above (promoted_twice {x = x} {y = y} {v = v} h) =
+          (left_promoted_variable reflexivity, left_promoted_variable (subst (λ (k : VarId). Sub table (variable k) (variable x)) (equal_from_same_var x y h) reflexivity))
+      apart_above (variable_left {b = b} h e a) = let k = upper_above a in (left_variable_bound b e k.0, k.1)
+      apart_above (promoted_left h n a) = let k = upper_above a in (left_promoted_type k.0, k.1)
+      apart_above (variable_right {b = b} h e a) = let k = upper_above a in (k.0, left_variable_bound b e k.1)
+      apart_above (promoted_right h a) = let k = upper_above a in (k.0, left_promoted_type k.1)
+      apart_above (upper_functions {r = r} {o = o} {r' = r'} {o' = o'} {n = n} {n' = n'} {n'' = n''} h rs os ns e) =
+          let k = upper_above e in
+          let counts = upper_counts r o n r' o' n' h in
+          let rp = lower_params rs in
+          let op = lower_params os in
+          let np = lower_named ns in
+          let size = count_lower rs counts.0 in (
+            function_types (omega (arith, size)) (joined size rp.0 op.0) np.0 (required_from n n'' (lower_requires_left ns counts.1.0)) k.0,
+            function_types (omega (arith, size, counts.0)) (joined (size ∙ counts.0) rp.1 op.1) np.1 (required_from n' n'' (λ m q. lower_requires_right ns m q (required_in_other n' n m counts.1.1 q))) k.1,
+          )
+      apart_above (upper_of_others h) = (function_class refl, function_class refl)
+      apart_above function_and_class = (right_object refl refl, right_object refl refl)
+      apart_above class_and_function = (right_object refl refl, right_object refl refl)
+      apart_above (one_class {c = c} {d = d} {ts = ts} {us = us} h a) =
+          let k = uppers_above a in
+          (interface_arguments k.0, subst (λ (e : ClassId). Sub table (interface e ts) (interface c us)) (equal_from_same_class c d h) (interface_arguments k.1))
+      apart_above (two_classes {c = c} {d = d} {ss = ss} {ts = ts} {u = u} h a) = (is_above table wf c ss u a.common.0, is_above table wf d ts u a.common.1)
+
+      uppers_above : {ss ts us : Types} → Uppers table ss ts us → Subs table ss us × Subs table ts us
+      uppers_above no_upper = (none_left, none_left)
+      uppers_above (one_upper a rest) = let k = upper_above a in let l = uppers_above rest in (one_left k.0 l.0, one_left k.1 l.1)
+
+      upper_named : {ns ms us : Named} → UpperNamed table ns ms us → SubNamed table ns us × SubNamed table ms us
+      upper_named no_upper_name = (no_name, no_name)
+      upper_named (upper_name {n = n} {m = m} {r = r} {q = q} {u = u} {us = us} h a rest) =
+          let k = upper_above a in
+          let l = upper_named rest in
+          let is : n ≡ m = (bytes_decides n m).0 h in
+          (one_name u first k.0 (named_later l.0), one_name u (subst (λ (k : List ℕ). HasNamed (more_named n (r && q) u us) k u) is first) k.1 (named_later l.1))
+
+      pub lower_below : {s t u : Ty} → Lower table s t u → Sub table u s × Sub table u t
+      lower_below (left_below a) = (reflexivity, a)
+      lower_below (right_below n a) = (a, reflexivity)
+      lower_below (lower_apart apart a) = apart_below a
+
+      apart_below : {s t u : Ty} → LowerApart table s t u → Sub table u s × Sub table u t
+      apart_below (marked_both {s = s} {t = t} {u = u} a) = let k = lower_below a in (marked_below u s k.0, marked_below u t k.1)
+      apart_below (marked_once {s = s} {t = t} p q a) = let k = lower_below a in (bare_below s k.0, bare_below t k.1)
+      apart_below (lower_functions {r = r} {o = o} {r' = r'} {o' = o'} {n = n} {n' = n'} {n'' = n''} h rs os ns e) =
+          let k = lower_below e in
+          let rp = uppers_above rs in
+          let op = uppers_above os in
+          let np = upper_named ns in (
+            function_types (omega (arith, count_subs rp.0)) (joined (count_subs rp.0) (params_from rp.0) (params_from op.0)) np.0 (required_from n'' n (λ m q. (upper_requires ns m q).0)) k.0,
+            function_types (omega (arith, count_subs rp.1)) (joined (count_subs rp.1) (params_from rp.1) (params_from op.1)) np.1 (required_from n'' n' (λ m q. (upper_requires ns m q).1)) k.1,
+          )
+      apart_below (lower_of_others h) = (left_bottom, left_bottom)
+      apart_below (nothing_below p q) = (left_bottom, left_bottom)
+
+      lower_params : {ss ts us : Types} → LowerParams table ss ts us → SubParams table us ss × SubParams table us ts
+      lower_params left_ends = (no_param, no_param)
+      lower_params right_ends = (no_param, no_param)
+      lower_params (one_lower a rest) = let k = lower_below a in let l = lower_params rest in (one_param k.0 l.0, one_param k.1 l.1)
+
+      lower_named : {ns ms us : Named} → LowerNamed table ns ms us → SubNamed table us ns × SubNamed table us ms
+      lower_named no_lower_name = (no_name, no_name)
+      lower_named (lower_name {n = n} {s = s} {t = t} {ms = ms} e a rest) =
+          let k = lower_below a in
+          let l = lower_named rest in
+          (one_name s first k.0 (named_later l.0), one_name t (type_is_named ms n t e) k.1 l.1)
+      lower_named (other_name e rest) = let l = lower_named rest in (named_later l.0, l.1)

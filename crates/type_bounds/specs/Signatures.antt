@@ -1,0 +1,44 @@
+-- Which function types have a bound that is a function type.
+use Rattle.std.specs.Prelude.{ℕ, Bool, true, false, ◌&&◌, ◌||◌, not, nat_eq, List, bytes_eq, Option, Some, None, if◌then◌else◌}
+use Rattle.dart_types.specs.Ty.{Ty, Types, Named, no_more, more, no_named, more_named, count}
+
+-- the list has a named parameter of this name
+abbrev pub has_name : Named → List ℕ → Bool
+has_name no_named m = false
+has_name (more_named n r t rest) m = bytes_eq n m || has_name rest m
+
+-- the type of the list's first parameter of this name, if it has one
+abbrev pub type_named : Named → List ℕ → Option Ty
+type_named no_named m = None
+type_named (more_named n r t rest) m = if bytes_eq n m then Some t else type_named rest m
+
+-- each name that the first list requires is in the second
+abbrev pub required_are_in : Named → Named → Bool
+required_are_in no_named ns = true
+required_are_in (more_named n r t rest) ns = (if r then has_name ns n else true) && required_are_in rest ns
+
+-- both lists have the same names, in the same order
+abbrev pub same_names : Named → Named → Bool
+same_names no_named no_named = true
+same_names no_named (more_named m q u ms) = false
+same_names (more_named n r t ns) no_named = false
+same_names (more_named n r t ns) (more_named m q u ms) = bytes_eq n m && same_names ns ms
+
+-- there is a positional parameter
+abbrev pub some_type : Types → Bool
+some_type no_more = false
+some_type (more t ts) = true
+
+-- there is a named parameter
+abbrev pub some_named : Named → Bool
+some_named no_named = false
+some_named (more_named n r t rest) = true
+
+-- Two function types have an upper bound that is one: they require as many positional parameters, each name that one requires is in the other, and it isn't so that one has optional positional parameters and the other named ones.
+abbrev pub have_upper : (r o : Types) (n : Named) (r' o' : Types) (n' : Named) → Bool
+have_upper r o n r' o' n' =
+    nat_eq (count r) (count r') && (required_are_in n n' && required_are_in n' n) && not ((some_type o && some_named n') || (some_type o' && some_named n))
+
+-- Two function types have a lower bound that is one: they have as many required and as many optional positional parameters, and the same names, which stand in one order in all function types.
+abbrev pub have_lower : (r o : Types) (n : Named) (r' o' : Types) (n' : Named) → Bool
+have_lower r o n r' o' n' = nat_eq (count r) (count r') && (nat_eq (count o) (count o') && same_names n n')
