@@ -10,11 +10,11 @@ use Rattle.dart_types.specs.declared.ids.VarId.{VarId}
 use Rattle.type_bounds.specs.Common.{IsDeepest}
 use Rattle.type_bounds.specs.Bounds.{is_nullable, is_bare, is_settled, Upper, right_above, left_above, upper_apart, UpperApart, null_left, null_right, marked_either, promoted_twice, variable_left, promoted_left, variable_right, promoted_right, upper_functions, upper_of_others, function_and_class, class_and_function, one_class, two_classes, Uppers, no_upper, one_upper, UpperNamed, no_upper_name, upper_name, Lower, left_below, right_below, lower_apart, LowerApart, marked_both, marked_once, lower_functions, lower_of_others, nothing_below, LowerParams, left_ends, right_ends, one_lower, LowerNamed, no_lower_name, lower_name, other_name}
 
-clash : {A : Type 0} (b : Bool) → b ≡ true → b ≡ false → A
+pub clash : {A : Type 0} (b : Bool) → b ≡ true → b ≡ false → A
 clash true p q = cc
 clash false p q = cc
 
-bare_unmarked : {A : Type 0} (t : Ty) → is_bare t ≡ true → is_nullable t ≡ true → A
+pub bare_unmarked : {A : Type 0} (t : Ty) → is_bare t ≡ true → is_nullable t ≡ true → A
 bare_unmarked invalid p q = cc
 bare_unmarked never p q = cc
 bare_unmarked void p q = cc
@@ -25,7 +25,7 @@ bare_unmarked (variable x) p q = cc
 bare_unmarked (promoted x t) p q = cc
 bare_unmarked (nullable t) p q = cc
 
-settled_unmarked : {A : Type 0} (s : Ty) → is_settled s ≡ true → (is_nullable s || false) ≡ true → A
+pub settled_unmarked : {A : Type 0} (s : Ty) → is_settled s ≡ true → (is_nullable s || false) ≡ true → A
 settled_unmarked invalid p q = cc
 settled_unmarked never p q = cc
 settled_unmarked void p q = cc

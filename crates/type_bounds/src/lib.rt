@@ -11,6 +11,10 @@ mod counts;
 mod factors;
 mod laws;
 mod non_nulls;
+#[cfg(test)]
+mod null_tests;
+#[cfg(test)]
+mod sample_types;
 
 pub use factors::factor;
 pub use laws::{bounds_are_bounds, bounds_are_unique};
