@@ -55,7 +55,7 @@ class Family:
 FAMILIES = (
     Family("diamonds", "diamonds of classes, one above another: the lowest class and the highest", "diamonds", (10, 20, 40, 80)),
     Family("rows", "classes beside each other: one in the middle, and the one above it", "classes", (1_000, 2_000, 4_000, 8_000)),
-    Family("nesting", "a class of a class of a class ..", "classes", (250, 500, 1_000)),
+    Family("nesting", "a class of a class of a class .., as deep as a type may be at last", "classes", (250, 500, 1_000, 4_000)),
     Family("bounds", "a type variable whose bound is a variable whose bound ..", "variables", (1_000, 2_000, 4_000)),
     Family("parameters", "function types of many parameters", "parameters", (250, 500, 1_000)),
 )
