@@ -42,7 +42,7 @@ module _ (table : Table) where
   null_above (nullable t) = left_null
 
   -- a lower bound with `?`
-  marked_below : (u s : Ty) → Sub table u s → Sub table (nullable_of u) (nullable s)
+  pub marked_below : (u s : Ty) → Sub table u s → Sub table (nullable_of u) (nullable s)
   marked_below invalid s a = left_nullable (right_nullable a) left_null
   marked_below never s a = left_null
   marked_below void s a = right_nullable a

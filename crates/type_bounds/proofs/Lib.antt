@@ -5,4 +5,5 @@ pub mod NamedBounds
 pub mod Supers
 pub mod BoundLaws
 pub mod OneBound
+pub mod LeftBelow
 pub mod Examples

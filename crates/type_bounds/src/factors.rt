@@ -2,6 +2,7 @@
 
 ghost use Rattle.std.specs.Prelude.{◌≡◌, IfOk};
 ghost use Rattle.dart_types.specs.Ty.{null};
+ghost use Rattle.dart_types.specs.Sub.{Sub};
 ghost use Rattle.dart_types.specs.SubTest.{sub};
 ghost use Rattle.dart_types.specs.Formed.{Forms};
 ghost use Rattle.type_bounds.specs.Factor.{factor_of};
@@ -20,7 +21,8 @@ pub fn factor(
     s: &DartType,
     t: &DartType,
 ) -> Result<DartType, TypeRefusal>
-    ensures { Forms result (factor_of rows.now.table s.now t.now) }
+    ensures forms { Forms result (factor_of rows.now.table s.now t.now) }
+    ensures below { IfOk result (λ formed. Sub rows.now.table formed s.now) }
 {
     let nodes = factor_count(rows, s, t).nodes;
     if nodes > NODE_LIMIT {
