@@ -141,13 +141,19 @@ def errors_in_lines(count: int) -> str:
 
 
 @dataclass(frozen=True)
-class Family:
-    """Texts of one form, and the codes of the errors that each has: these, and others for each that it counts."""
+class Sizes:
+    """What a table is of: its name, a line about it, what it counts, and the sizes that are measured."""
 
     name: str
     about: str
     counts: str
     sizes: Tuple[int, ...]
+
+
+@dataclass(frozen=True)
+class Family(Sizes):
+    """Texts of one form, and the codes of the errors that each has: these, and others for each that it counts."""
+
     text: Callable[[int], str]
     codes: Tuple[str, ...] = ()
     for_each: Tuple[str, ...] = ()
@@ -301,23 +307,34 @@ def measure(binary: str, family: Family, start_up: float, runs: int, limit: floa
     return right
 
 
+def shared_words(about: str) -> argparse.ArgumentParser:
+    """The words that each script over the program takes, which says about itself what stands in its head."""
+    words = argparse.ArgumentParser(description=about.split("\n")[0], epilog="The head of the script says how to read the tables.")
+    words.add_argument("--binary", default=BINARY, metavar="PATH", help="the program; else the one that `make bench` builds")
+    words.add_argument("--runs", type=int, default=3, metavar="N", help="runs a figure, of which the fastest counts")
+    return words
+
+
+def with_program(words: argparse.ArgumentParser, given: argparse.Namespace) -> argparse.Namespace:
+    """The words that are given, where there is a program and a run."""
+    if given.runs < 1:
+        words.error("no runs")
+    if not os.path.isfile(given.binary):
+        words.error(f"no program at {given.binary}: `make bench` builds it")
+    return given
+
+
 def arguments() -> argparse.Namespace:
     """The words of the command line."""
-    words = argparse.ArgumentParser(description=__doc__.split("\n")[0], epilog="The head of this file says how to read the tables.")
+    words = shared_words(__doc__)
     words.add_argument("families", nargs="*", metavar="FAMILY", help="which texts; all, if none are named")
-    words.add_argument("--binary", default=BINARY, metavar="PATH", help="the program; else the one that `make bench` builds")
-    words.add_argument("--runs", type=int, default=3, metavar="N", help="sessions a figure, of which the fastest counts")
     words.add_argument("--limit", type=float, default=300.0, metavar="SECONDS", help="after which a session is cut off")
     words.add_argument("--list", action="store_true", help="the families, and nothing else")
     given = words.parse_intermixed_args()
     unknown = [name for name in given.families if name not in [family.name for family in FAMILIES]]
     if unknown:
         words.error(f"no such family: {' '.join(unknown)}")
-    if given.runs < 1:
-        words.error("no runs")
-    if not given.list and not os.path.isfile(given.binary):
-        words.error(f"no program at {given.binary}: `make bench` builds it")
-    return given
+    return given if given.list else with_program(words, given)
 
 
 def main() -> int:

@@ -12,12 +12,11 @@ Under each table stands the slope of the seconds over what the family counts, as
 Nothing fails on time. The status is 1 where a request is refused, and else 0.
 """
 
-import argparse
 import sys
 from dataclasses import dataclass
 from typing import Callable, List, Tuple
 
-from check import BINARY, PATH, added, best, line, slope
+from check import PATH, added, best, line, shared_words, slope, with_program
 
 LIMIT = 300.0
 
@@ -87,10 +86,8 @@ def measure(binary: str, family: Family, runs: int) -> bool:
 
 
 def main() -> int:
-    words = argparse.ArgumentParser(description=__doc__.split("\n")[0])
-    words.add_argument("--binary", default=BINARY, metavar="PATH", help="the program; else the one that `make bench` builds")
-    words.add_argument("--runs", type=int, default=3, metavar="N", help="sessions a figure, of which the fastest counts")
-    given = words.parse_args()
+    words = shared_words(__doc__)
+    given = with_program(words, words.parse_args())
     right = [measure(given.binary, family, given.runs) for family in FAMILIES]
     return 0 if all(right) else 1
 

@@ -13,7 +13,6 @@ There are two kinds of tables, with a line for each size and the slope under it,
 Each figure is the fastest of some runs. Nothing fails on time. The status is 1 where a run doesn't end as it should.
 """
 
-import argparse
 import os
 import subprocess
 import sys
@@ -21,7 +20,7 @@ import tempfile
 import time
 from typing import Callable, List, NamedTuple, Tuple
 
-from check import BINARY, body, locals_in_a_block, loop_of_writes, mixed, slope
+from check import body, locals_in_a_block, loop_of_writes, mixed, shared_words, slope, with_program
 
 
 class Ended(NamedTuple):
@@ -115,12 +114,8 @@ def stepping(binary: str, runs: int) -> bool:
 
 
 def main() -> int:
-    words = argparse.ArgumentParser(description=__doc__.split("\n")[0])
-    words.add_argument("--binary", default=BINARY, metavar="PATH", help="the program; else the one that `make bench` builds")
-    words.add_argument("--runs", type=int, default=3, metavar="N", help="runs a figure, of which the fastest counts")
-    given = words.parse_args()
-    if not os.path.isfile(given.binary):
-        words.error(f"no program at {given.binary}: `make bench` builds it")
+    words = shared_words(__doc__)
+    given = with_program(words, words.parse_args())
     right = [making(given.binary, given.runs), stepping(given.binary, given.runs)]
     return 0 if all(right) else 1
 

@@ -28,10 +28,9 @@ import subprocess
 import sys
 import tempfile
 import time
-from dataclasses import dataclass
 from typing import List, Optional, Tuple
 
-from check import slope
+from check import Sizes, slope
 
 HERE = os.path.dirname(os.path.abspath(__file__))
 CRATES = os.path.join(HERE, os.pardir, "crates")
@@ -42,22 +41,12 @@ BELOW = ("plain_text", "dart_types")
 LONG_ENOUGH = 0.2
 
 
-@dataclass(frozen=True)
-class Family:
-    """Rows and types of one form."""
-
-    name: str
-    about: str
-    counts: str
-    sizes: Tuple[int, ...]
-
-
 FAMILIES = (
-    Family("diamonds", "diamonds of classes, one above another: the lowest class and the highest", "diamonds", (10, 20, 40, 80)),
-    Family("rows", "classes beside each other: one in the middle, and the one above it", "classes", (1_000, 2_000, 4_000, 8_000)),
-    Family("nesting", "a class of a class of a class .., as deep as a type may be at last", "classes", (250, 500, 1_000, 4_000)),
-    Family("bounds", "a type variable whose bound is a variable whose bound ..", "variables", (1_000, 2_000, 4_000)),
-    Family("parameters", "function types of many parameters", "parameters", (250, 500, 1_000)),
+    Sizes("diamonds", "diamonds of classes, one above another: the lowest class and the highest", "diamonds", (10, 20, 40, 80)),
+    Sizes("rows", "classes beside each other: one in the middle, and the one above it", "classes", (1_000, 2_000, 4_000, 8_000)),
+    Sizes("nesting", "a class of a class of a class .., as deep as a type may be at last", "classes", (250, 500, 1_000, 4_000)),
+    Sizes("bounds", "a type variable whose bound is a variable whose bound ..", "variables", (1_000, 2_000, 4_000)),
+    Sizes("parameters", "function types of many parameters", "parameters", (250, 500, 1_000)),
 )
 
 
@@ -70,7 +59,7 @@ def built(folder: str) -> Optional[str]:
     os.makedirs(source, exist_ok=True)
     shutil.copyfile(os.path.join(HERE, "subtypes", "main.txt"), os.path.join(source, "main.rt"))
     with open(os.path.join(folder, "crates.txt"), "w", encoding="utf-8") as lines:
-        lines.write(f"plain_text:\ndart_types: plain_text\n{PROGRAM}: plain_text dart_types\n")
+        lines.write(f"plain_text:\ndart_types: plain_text thiserror\n{PROGRAM}: plain_text dart_types\n")
     words = ["rt", "run", "--", "nesting", "1", "yes", "1"]
     run = subprocess.run(words, cwd=os.path.join(crates, PROGRAM), capture_output=True, text=True)
     program = os.path.join(crates, PROGRAM, "out", PROGRAM)
@@ -91,7 +80,7 @@ def seconds(program: str, words: List[str], runs: int) -> Tuple[float, str]:
     return fastest, written
 
 
-def answer(program: str, family: Family, size: int, kind: str, alone: float, runs: int) -> Tuple[float, bool]:
+def answer(program: str, family: Sizes, size: int, kind: str, alone: float, runs: int) -> Tuple[float, bool]:
     """The seconds of one answer, and whether it is the one that is expected."""
     times = 1
     while True:
@@ -103,7 +92,7 @@ def answer(program: str, family: Family, size: int, kind: str, alone: float, run
         times *= 4
 
 
-def measure(program: str, family: Family, empty: float, runs: int) -> bool:
+def measure(program: str, family: Sizes, empty: float, runs: int) -> bool:
     """Prints the table of a family; false where an answer was wrong."""
     print(f"\n{family.name}: {family.about}")
     print(f"{family.counts:>12} {'rows':>10} {'yes':>10} {'no':>10}")

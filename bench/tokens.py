@@ -13,12 +13,11 @@ text, and tokens a second. Under the table stands the slope of the seconds over 
 Nothing fails on time. The status is 1 where an answer isn't the one syntax error, and else 0.
 """
 
-import argparse
 import json
 import sys
 from typing import List, Tuple
 
-from check import ASKED, BINARY, added, best, slope
+from check import ASKED, added, best, shared_words, slope, with_program
 
 LIMIT = 300.0
 
@@ -62,10 +61,8 @@ def is_refused(output: bytes) -> bool:
 
 
 def main() -> int:
-    words = argparse.ArgumentParser(description=__doc__.split("\n")[0])
-    words.add_argument("--binary", default=BINARY, metavar="PATH", help="the program; else the one that `make bench` builds")
-    words.add_argument("--runs", type=int, default=3, metavar="N", help="sessions a figure, of which the fastest counts")
-    given = words.parse_args()
+    words = shared_words(__doc__)
+    given = with_program(words, words.parse_args())
     print(f"tokens: a text of all forms of tokens, asked for {TIMES} times")
     print(f"{'bytes':>10} {'tokens':>9} {'seconds':>9} {'tokens/s':>12}")
     points: List[Tuple[int, float]] = []

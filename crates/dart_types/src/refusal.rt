@@ -2,16 +2,19 @@
 
 use crate::ids::ClassId;
 use std::alloc::AllocError;
+use thiserror::Error;
 
 /// How many types may stand in a type that a rule forms, itself among them.
 pub const NODE_LIMIT: u64 = 4096;
 
 /// Why a rule forms no type.
-#[derive(Clone, Copy, Debug, PartialEq, Eq)]
+#[derive(Clone, Copy, Debug, PartialEq, Eq, Drop, Error)]
 pub enum TypeRefusal {
     /// More than `NODE_LIMIT` types stand in it: so many, or 2^64 - 1 where there are more.
+    #[error("{nodes} types would stand in the type")]
     TooLarge { nodes: u64 },
     /// Memory ran out.
+    #[error("out of memory")]
     Memory,
 }
 
@@ -27,12 +30,14 @@ impl From<AllocError> for TypeRefusal {
 }
 
 /// Why rows aren't formed.
-#[derive(Clone, Copy, Debug, PartialEq, Eq)]
+#[derive(Clone, Copy, Debug, PartialEq, Eq, Drop, Error)]
 pub enum RowsRefusal {
     /// A superinterface of the class has more than `NODE_LIMIT` types in it: so many, or 2^64 - 1
     /// where there are more.
+    #[error("{nodes} types would stand in a superinterface of a class")]
     TooLarge { class: ClassId, nodes: u64 },
     /// Memory ran out.
+    #[error("out of memory")]
     Memory,
 }
 
