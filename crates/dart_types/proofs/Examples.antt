@@ -133,6 +133,8 @@ core_classes =
     All-cons (IsFormedClass core) object_row (function_row ∷ int_row ∷ iterable_row ∷ list_row ∷ []) (record {
       object_alone = λ e. refl;
       function_alone = λ e. let k = ap (λ (c : ClassId). c.index) e in absurd (omega (arith, k));
+      object_bare = λ e. refl;
+      function_bare = λ e. refl;
       rooted = λ n. absurd (n refl);
       supertypes = All-nil (IsSupertype []);
       over = All-nil (IsOver core);
@@ -141,6 +143,8 @@ core_classes =
     (All-cons (IsFormedClass core) function_row (int_row ∷ iterable_row ∷ list_row ∷ []) (record {
       object_alone = λ e. let k = ap (λ (c : ClassId). c.index) e in absurd (omega (arith, k));
       function_alone = λ e. refl;
+      object_bare = λ e. refl;
+      function_bare = λ e. refl;
       rooted = λ n e. cc;
       supertypes = All-cons (IsSupertype []) object [] tt (All-nil (IsSupertype []));
       over = All-cons (IsOver core) object [] (refl, tt) (All-nil (IsOver core));
@@ -149,6 +153,8 @@ core_classes =
     (All-cons (IsFormedClass core) int_row (iterable_row ∷ list_row ∷ []) (record {
       object_alone = λ e. let k = ap (λ (c : ClassId). c.index) e in absurd (omega (arith, k));
       function_alone = λ e. refl;
+      object_bare = λ e. refl;
+      function_bare = λ e. refl;
       rooted = λ n e. cc;
       supertypes = All-cons (IsSupertype []) object [] tt (All-nil (IsSupertype []));
       over = All-cons (IsOver core) object [] (refl, tt) (All-nil (IsOver core));
@@ -157,6 +163,8 @@ core_classes =
     (All-cons (IsFormedClass core) iterable_row (list_row ∷ []) (record {
       object_alone = λ e. let k = ap (λ (c : ClassId). c.index) e in absurd (omega (arith, k));
       function_alone = λ e. refl;
+      object_bare = λ e. let k = ap (λ (c : ClassId). c.index) e in absurd (omega (arith, k));
+      function_bare = λ e. let k = ap (λ (c : ClassId). c.index) e in absurd (omega (arith, k));
       rooted = λ n e. cc;
       supertypes = All-cons (IsSupertype (var_at 1 ∷ [])) object [] tt (All-nil (IsSupertype (var_at 1 ∷ [])));
       over = All-cons (IsOver core) object [] (refl, tt) (All-nil (IsOver core));
@@ -165,6 +173,8 @@ core_classes =
     (All-cons (IsFormedClass core) list_row [] (record {
       object_alone = λ e. let k = ap (λ (c : ClassId). c.index) e in absurd (omega (arith, k));
       function_alone = λ e. let k = ap (λ (c : ClassId). c.index) e in absurd (omega (arith, k));
+      object_bare = λ e. let k = ap (λ (c : ClassId). c.index) e in absurd (omega (arith, k));
+      function_bare = λ e. let k = ap (λ (c : ClassId). c.index) e in absurd (omega (arith, k));
       rooted = λ n e. cc;
       supertypes = All-cons (IsSupertype (var_at 2 ∷ [])) (iterable (variable (var_at 2))) [] (refl, tt) (All-nil (IsSupertype (var_at 2 ∷ [])));
       over = All-cons (IsOver core) (iterable (variable (var_at 2))) [] (refl, (refl, tt)) (All-nil (IsOver core));

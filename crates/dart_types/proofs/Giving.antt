@@ -1,15 +1,15 @@
 -- What one direct supertype gives a class, from the superinterfaces that are known.
-use Rattle.std.proofs.Common.{◌≡◌, ◌<◌, ◌≤◌, List, [], ◌∷◌, length, Option, Some, None, refl, sym, ◌∙◌, ap, subst, arith, inl, inr}
+use Rattle.std.proofs.Common.{◌≡◌, ◌<◌, ◌≤◌, List, [], Some, None, refl, sym, ◌∙◌, ap, subst, arith, inl, inr}
 use Rattle.std.specs.Prelude.{◌⊎◌, Contains, find}
 use Rattle.std.specs.Option.{option_map}
 use Rattle.std.proofs.lemmas.List.Elements.{All-contains, All-nil}
-use Rattle.dart_types.specs.Ty.{Ty, Types, interface, types_of, count}
+use Rattle.dart_types.specs.Ty.{Ty, Types, interface, types_of}
 use Rattle.dart_types.specs.Same.{same_class}
 use Rattle.dart_types.specs.Sizes.{size_of, held}
 use Rattle.dart_types.specs.Substitution.{put, by_params}
 use Rattle.dart_types.specs.Normal.{normal}
 use Rattle.dart_types.specs.Tables.{Table, class_of, depth_of}
-use Rattle.dart_types.specs.WellFormed.{HasArguments, IsSupertype, IsWellFormed}
+use Rattle.dart_types.specs.WellFormed.{IsSupertype, IsWellFormed}
 use Rattle.dart_types.specs.Entries.{table_of}
 use Rattle.dart_types.specs.Superinterfaces.{IsSuperinterface, AreSuperinterfaces, interface_of}
 use Rattle.dart_types.specs.RowsCause.{IsCauseIn}
@@ -29,7 +29,7 @@ use Rattle.dart_types.specs.declared.refusal.TheConstants.{NODE_LIMIT}
 use Rattle.dart_types.specs.declared.refusal.RowsRefusal.{RowsRefusal}
 use Rattle.dart_types.specs.declared.refusal.RowsRefusal.TheVariants.{TooLarge, Memory}
 use Rattle.dart_types.proofs.EntryLemmas.{find-map}
-use Rattle.dart_types.proofs.Formed.{found_in, formed_super, super_depth}
+use Rattle.dart_types.proofs.Formed.{found_in, super_depth}
 use Rattle.dart_types.proofs.SameIds.{equal_from_same_class}
 use Rattle.dart_types.proofs.NormalPut.{normal-put-normal}
 use Rattle.dart_types.proofs.Replacing.{replaced_nothing}
@@ -46,10 +46,6 @@ must_be_interface params (Function f) i other = i
 must_be_interface params (Var x) i other = i
 must_be_interface params (Promoted x t) i other = i
 must_be_interface params (Nullable t) i other = i
-
-count-types_of : (ts : List Ty) → count (types_of ts) ≡ length ts
-count-types_of [] = refl
-count-types_of (t ∷ ts) = omega (arith, count-types_of ts)
 
 module _ (table : Table) (class : ClassId) (ts : Types) where
   -- a class without a row gives itself alone
@@ -110,14 +106,6 @@ module _ (entries : List ClassEntry) (vars : List VarRow) where
         let lt : entry.row.depth < row.depth = omega (arith, falls, here, up) in
         subst (λ (c : ClassId). AreSuperinterfaces table c entry.superinterfaces.items) is
         (All-contains (λ (e : ClassEntry). e.row.depth < row.depth → AreSuperinterfaces table e.row.id e.superinterfaces.items) entries entry known there.0 lt)
-
-    -- and it has as many arguments as that class has parameters
-    pub as_many : length entry.row.params ≡ length ts
-    as_many =
-        let table = table_of entries vars in
-        let o = (formed_super table wf row.id row (interface class (types_of ts)) r i).1 in
-        let counts : count (types_of ts) ≡ length entry.row.params = subst (λ (k : Option ClassRow). HasArguments k (types_of ts)) (row_of_found class entry found) o.0 in
-        sym counts ∙ count-types_of ts
 
 module _ (table : Table) (wf : IsWellFormed table) (row : ClassRow) (r : class_of table row.id ≡ Some row) where
   -- what all direct supertypes give are the superinterfaces

@@ -31,6 +31,8 @@ pub mod ClassSteps
 pub mod FunctionSteps
 pub mod SeenFalls
 pub mod NameSteps
+pub mod NamesFound
 pub mod Derives
 pub mod Filled
 pub mod RowTests
+pub mod SeenEquality

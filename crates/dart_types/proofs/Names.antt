@@ -16,20 +16,20 @@ use Rattle.dart_types.specs.declared.ids.VarId.{VarId}
 use Rattle.dart_types.proofs.EntryLemmas.{AllPairs-map}
 
 -- the names of two parameters in order
-abbrev IsBefore : NamedType → NamedType → Type 0
+abbrev pub IsBefore : NamedType → NamedType → Type 0
 IsBefore a b = IsNameBefore a.name b.name
 
 -- a name that comes before another differs from it
-name_apart : (m n : List ℕ) → IsNameBefore m n → m ≡ n → ⊥
+pub name_apart : (m n : List ℕ) → IsNameBefore m n → m ≡ n → ⊥
 name_apart m n h e =
     let k : IsNameBefore n n = subst (λ (l : List ℕ). IsNameBefore l n) e h in
     let t = tied_itself nat_list_cmp_total n in
     cc
 
-name_trans : (l m n : List ℕ) → IsNameBefore l m → IsNameBefore m n → IsNameBefore l n
+pub name_trans : (l m n : List ℕ) → IsNameBefore l m → IsNameBefore m n → IsNameBefore l n
 name_trans l m n h k = nat_list_cmp_total.trans l m n h k
 
-other_bytes : (m n : List ℕ) → (m ≡ n → ⊥) → bytes_eq m n ≡ false
+pub other_bytes : (m n : List ℕ) → (m ≡ n → ⊥) → bytes_eq m n ≡ false
 other_bytes m n h = at (bytes_eq m n) refl
   where
     at : (b : Bool) → bytes_eq m n ≡ b → bytes_eq m n ≡ false
@@ -37,7 +37,7 @@ other_bytes m n h = at (bytes_eq m n) refl
     at false e = e
 
 -- a name that no parameter has isn't required
-not_required : (ns : List NamedType) (m : List ℕ) → ((k : ℕ) (d : NamedType) → k < length ns → (get_or ns k d).name ≡ m → ⊥) → is_required (named_of ns) m ≡ false
+pub not_required : (ns : List NamedType) (m : List ℕ) → ((k : ℕ) (d : NamedType) → k < length ns → (get_or ns k d).name ≡ m → ⊥) → is_required (named_of ns) m ≡ false
 not_required [] m h = refl
 not_required (n ∷ ns) m h =
     let e : bytes_eq n.name m ≡ false = other_bytes n.name m (h 0 n (omega arith)) in

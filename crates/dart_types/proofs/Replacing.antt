@@ -1,5 +1,5 @@
 -- Types with replacements put in, and their sizes.
-use Rattle.std.proofs.Common.{◌≡◌, ◌+◌, ◌<◌, ℕ, zero, suc, Bool, true, false, List, [], ◌∷◌, ◌++◌, map, take, length, get_or, Option, Some, None, refl, sym, ◌∙◌, ap, cond, arith, add-one}
+use Rattle.std.proofs.Common.{◌≡◌, ◌+◌, ◌<◌, ◌≤◌, ℕ, zero, suc, Bool, true, false, List, [], ◌∷◌, ◌++◌, map, take, length, get_or, Option, Some, None, refl, sym, ◌∙◌, ap, cond, arith, add-one}
 use Rattle.std.specs.Prelude.{find, unwrap_or, option_map}
 use Rattle.std.proofs.lemmas.List.{map-append}
 use Rattle.dart_types.specs.Ty.{Ty, Types, Named, invalid, never, void, null, interface, function, variable, promoted, nullable, no_more, more, no_named, more_named, types_of}
@@ -189,16 +189,22 @@ paired [] ts = []
 paired (p ∷ ps) [] = []
 paired (p ∷ ps) (t ∷ ts) = (p, t) ∷ paired ps ts
 
-pub length-paired : (ps : List VarId) (ts : List Ty) → length ps ≡ length ts → length (paired ps ts) ≡ length ps
-length-paired [] ts e = refl
-length-paired (p ∷ ps) [] e = absurd (omega arith)
-length-paired (p ∷ ps) (t ∷ ts) e = omega (arith, length-paired ps ts (omega arith))
+pub at_paired : (ps : List VarId) (ts : List Ty) (i : ℕ) → i < length ps → i < length ts → i < length (paired ps ts)
+at_paired [] ts i h k = absurd (omega arith)
+at_paired (p ∷ ps) [] i h k = absurd (omega arith)
+at_paired (p ∷ ps) (t ∷ ts) zero h k = omega arith
+at_paired (p ∷ ps) (t ∷ ts) (suc i) h k = omega (arith, at_paired ps ts i (omega arith) (omega arith))
 
-pub get_or-paired : (ps : List VarId) (ts : List Ty) (i : ℕ) (p : VarId) (t : Ty) → i < length ps → length ps ≡ length ts → p ≡ get_or ps i p → t ≡ get_or ts i t → (p, t) ≡ get_or (paired ps ts) i (p, t)
-get_or-paired [] ts i p t h e a b = absurd (omega arith)
-get_or-paired (q ∷ ps) [] i p t h e a b = absurd (omega arith)
-get_or-paired (q ∷ ps) (u ∷ ts) zero p t h e a b = λ k. (a k, b k)
-get_or-paired (q ∷ ps) (u ∷ ts) (suc i) p t h e a b = get_or-paired ps ts i p t (omega arith) (omega arith) a b
+pub all_paired : (ps : List VarId) (ts : List Ty) → (length (paired ps ts) ≤ length ps) × (length (paired ps ts) ≤ length ts)
+all_paired [] ts = (omega arith, omega arith)
+all_paired (p ∷ ps) [] = (omega arith, omega arith)
+all_paired (p ∷ ps) (t ∷ ts) = let a = all_paired ps ts in (omega (arith, a.0), omega (arith, a.1))
+
+pub get_or-paired : (ps : List VarId) (ts : List Ty) (i : ℕ) (p : VarId) (t : Ty) → i < length ps → i < length ts → p ≡ get_or ps i p → t ≡ get_or ts i t → (p, t) ≡ get_or (paired ps ts) i (p, t)
+get_or-paired [] ts i p t h k a b = absurd (omega arith)
+get_or-paired (q ∷ ps) [] i p t h k a b = absurd (omega arith)
+get_or-paired (q ∷ ps) (u ∷ ts) zero p t h k a b = λ j. (a j, b j)
+get_or-paired (q ∷ ps) (u ∷ ts) (suc i) p t h k a b = get_or-paired ps ts i p t (omega arith) (omega arith) a b
 
 by_pairs-paired : (ps : List VarId) (ts : List Ty) (x : VarId) → by_pairs (paired ps ts) x ≡ by_params ps (types_of ts) x
 by_pairs-paired [] ts x = refl

@@ -54,6 +54,13 @@ module _ {X : Type 0} (test : X → X → Bool) where
       let left : pointwise test (drop i xs) (drop i ys) ≡ false = pointwise-drop xs ys i x y h k e f ∙ ap (λ a. a && pointwise test (drop (i + 1) xs) (drop (i + 1) ys)) at in
       sym left ∙ so
 
+  -- a pair that doesn't
+  pub same_at : (xs ys : List X) (i : ℕ) (x y : X) (b : Bool) → i < length xs → i < length ys → x ≡ get_or xs i x → y ≡ get_or ys i y → b ≡ test x y → b ≡ true → pointwise test (drop i xs) (drop i ys) ≡ pointwise test xs ys → pointwise test (drop (i + 1) xs) (drop (i + 1) ys) ≡ pointwise test xs ys
+  same_at xs ys i x y b h k e f is holds so =
+      let at : test x y ≡ true = sym is ∙ holds in
+      let left : pointwise test (drop i xs) (drop i ys) ≡ pointwise test (drop (i + 1) xs) (drop (i + 1) ys) = pointwise-drop xs ys i x y h k e f ∙ ap (λ a. a && pointwise test (drop (i + 1) xs) (drop (i + 1) ys)) at in
+      sym left ∙ so
+
   -- no pair that is left differs
   pub same_at_end : (xs ys : List X) (i : ℕ) → length xs ≤ i → length ys ≤ i → pointwise test (drop i xs) (drop i ys) ≡ pointwise test xs ys → true ≡ pointwise test xs ys
   same_at_end xs ys i h k so = sym (pointwise_none_left xs ys i h k) ∙ so

@@ -44,7 +44,7 @@ mutual
   put_itself (promoted x t) = ap (λ (u : Ty). promoted x u) (put_itself t)
   put_itself (nullable t) = ap (λ (u : Ty). nullable u) (put_itself t)
 
-  put_all_itself : (ts : Types) → put_all (λ x. variable x) ts ≡ ts
+  pub put_all_itself : (ts : Types) → put_all (λ x. variable x) ts ≡ ts
   put_all_itself no_more = refl
   put_all_itself (more t ts) = let a = put_itself t in let b = put_all_itself ts in cc
 

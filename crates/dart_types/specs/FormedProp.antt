@@ -3,6 +3,7 @@ use Rattle.std.specs.Prelude.{◌≡◌, ℕ, Bool, true, List, Option, Some, No
 use Rattle.std.specs.Coded.{Coded-set, coded_list, coded_ℕ, coded_bool, ×_prop, Unit-prop, le_prop}
 use Rattle.dart_types.specs.Ty.{Ty, Types, Named, invalid, never, void, null, interface, function, variable, promoted, nullable, no_more, more, no_named, more_named}
 use Rattle.dart_types.specs.TyCode.{type_code}
+use Rattle.dart_types.specs.IdCode.{var_code}
 use Rattle.dart_types.specs.Tables.{Table, class_of}
 use Rattle.dart_types.specs.WellFormed.{is_among, IsSimple, AreSimple, IsSupertype, IsEarlier, AreEarlier, AreEarlierNamed, HasArguments, IsOver, AreOver, AreOverNamed, IsFormedClass, IsFormedVar, IsWellFormed}
 use Rattle.dart_types.specs.declared.ids.VarId.{VarId}
@@ -20,6 +21,9 @@ nat_prop m n = Coded-set coded_ℕ m n
 
 types_prop : (ss ts : List Ty) → IsProp (ss ≡ ts)
 types_prop ss ts = Coded-set (coded_list type_code) ss ts
+
+vars_prop : (xs ys : List VarId) → IsProp (xs ≡ ys)
+vars_prop xs ys = Coded-set (coded_list var_code) xs ys
 
 mutual
   IsSimple-prop : (vars : List VarId) (t : Ty) → IsProp (IsSimple vars t)
@@ -93,7 +97,7 @@ mutual
   AreOverNamed-prop table (more_named n r t ts) = ×_prop (IsOver-prop table t) (AreOverNamed-prop table ts)
 
 IsFormedClass-prop : (table : Table) (row : ClassRow) → IsProp (IsFormedClass table row)
-IsFormedClass-prop table row = hlevel (types_prop, no_prop, IsSupertype-prop row.params, IsOver-prop table, nat_prop)
+IsFormedClass-prop table row = hlevel (types_prop, vars_prop, no_prop, IsSupertype-prop row.params, IsOver-prop table, nat_prop)
 
 IsFormedVar-prop : (table : Table) (row : VarRow) → IsProp (IsFormedVar table row)
 IsFormedVar-prop table row = hlevel (IsEarlier-prop row.var row.bound, IsOver-prop table row.bound)

@@ -13,3 +13,15 @@ takes_mark (function r o n e) = true
 takes_mark (variable x) = true
 takes_mark (promoted x t) = true
 takes_mark (nullable t) = false
+
+-- whether a type ends with `?`
+abbrev pub is_marked : Ty → Bool
+is_marked invalid = false
+is_marked never = false
+is_marked void = false
+is_marked null = false
+is_marked (interface c ts) = false
+is_marked (function r o n e) = false
+is_marked (variable x) = false
+is_marked (promoted x t) = false
+is_marked (nullable t) = true

@@ -8,6 +8,7 @@ use Rattle.dart_types.specs.Tables.{Table, class_of}
 use Rattle.dart_types.specs.WellFormed.{class_before}
 use Rattle.dart_types.specs.declared.ids.ClassId.{ClassId}
 use Rattle.dart_types.specs.declared.class_rows.ClassRow.{ClassRow}
+use Rattle.dart_types.specs.declared.class_arguments.Arguments.{Arguments}
 use Rattle.dart_types.specs.declared.superinterfaces.Superinterface.{Superinterface}
 use Rattle.dart_types.specs.declared.refusal.TheConstants.{NODE_LIMIT}
 
@@ -19,6 +20,10 @@ pub data IsSuperinterface (table : Table) (c : ClassId) : Ty → Type 0 where
 -- the type that an entry of a list of superinterfaces stands for
 abbrev pub interface_of : Superinterface → Ty
 interface_of s = interface s.class (types_of s.args)
+
+-- the type that it stands for where the class that it is of has these arguments, in normal form
+abbrev pub interface_with : Arguments → Superinterface → Ty
+interface_with a s = normal (put (by_params a.params.now (types_of a.args.now)) (interface_of s))
 
 -- the list has the normal forms of a class's superinterfaces and no other types, in the order of their classes; none has more nodes than a type may have
 pub record AreSuperinterfaces (table : Table) (c : ClassId) (list : List Superinterface) : Type 0 where

@@ -106,6 +106,9 @@ pub record IsFormedClass (table : Table) (row : ClassRow) : Type 0 where
   pub object_alone : row.id ≡ OBJECT → row.supers ≡ []
   -- Function has Object alone
   pub function_alone : row.id ≡ FUNCTION → row.supers ≡ object ∷ []
+  -- neither has parameters
+  pub object_bare : row.id ≡ OBJECT → row.params ≡ []
+  pub function_bare : row.id ≡ FUNCTION → row.params ≡ []
   -- each other class has one at least
   pub rooted : row.id ≢ OBJECT → row.supers ≢ []
   pub supertypes : All (IsSupertype row.params) row.supers

@@ -11,7 +11,7 @@ ghost use Rattle.dart_types.specs.declared.refusal.TheConstants.{NODE_LIMIT};
 use crate::ids::ClassId;
 use crate::refusal::{NODE_LIMIT, RowsRefusal};
 use crate::replacements::Replacement;
-use crate::superinterfaces::{Superinterface, end_of_class, of_class};
+use crate::superinterfaces::{Superinterface, end_of_class, superinterfaces_of_class};
 use crate::types::TypeList;
 use std::alloc::{AllocError, Global};
 
@@ -58,7 +58,7 @@ fn stands_in(list: &[Superinterface], found: &Superinterface) -> bool
     requires { AreOrdered list.now }
     ensures { IsTrue result → Contains list.now found.now }
 {
-    for known in of_class(list, found.class) {
+    for known in superinterfaces_of_class(list, found.class) {
         if known.args.is_same(&found.args) {
             return true;
         }

@@ -56,7 +56,6 @@ fn gather_above(
     args: &TypeList,
     list: &mut Vec<Superinterface>,
 ) -> Result<(), RowsRefusal>
-    requires counted { length entry.now.row.params ≡ length args.now }
     requires in_order { AreOrdered list.old.items }
     ensures ok { OnOk result (Adds (IsPut entry.now.row.params (types_of args.now) entry.now.superinterfaces.items) list.old.items list.new.items) }
     ensures err { IfErr result (IsCauseAmong (IsPut entry.now.row.params (types_of args.now) entry.now.superinterfaces.items) of) }

@@ -6,10 +6,13 @@
 //! (`specs/WellFormed.antt`), so no call has a condition on them. `Rows::new` forms the
 //! superinterfaces of each class once (`specs/Superinterfaces.antt`), so that no way up to them is
 //! walked; `Rows::are_well_formed` tests what it asks. `is_subtype` decides the relation, and takes no
-//! memory; `substitute` puts arguments in (`specs/Substitution.antt`). The crate stands on
-//! `plain_text`.
+//! memory; `substitute` puts arguments in (`specs/Substitution.antt`), as a `Superinterface` takes
+//! those of a class. The crate stands on `plain_text`.
 #![tactic(auto)]
 
+#[cfg(test)]
+mod arguments_tests;
+mod class_arguments;
 mod class_rows;
 mod copies;
 mod entries;
@@ -19,6 +22,7 @@ mod gathering;
 mod hierarchy;
 mod ids;
 mod laws;
+mod named_search;
 mod normal;
 mod normal_sizes;
 #[cfg(test)]
@@ -34,6 +38,7 @@ mod rows_tests;
 #[cfg(test)]
 mod sample_rows;
 mod scopes;
+mod seen_equality;
 mod sizes;
 mod substitution;
 #[cfg(test)]
@@ -45,6 +50,7 @@ mod superinterfaces;
 mod type_checks;
 mod types;
 
+pub use class_arguments::Arguments;
 pub use class_rows::{ClassRow, VarList, VarRow};
 pub use ids::{CORE, ClassId, FUNCTION, LibId, OBJECT, VarId};
 pub use laws::{normal_form_laws, substitution_keeps_subtypes, subtype_laws, subtype_test_law};
@@ -53,5 +59,5 @@ pub use rows::Rows;
 pub use sizes::size;
 pub use substitution::substitute;
 pub use subtyping::is_subtype;
-pub use superinterfaces::Superinterface;
+pub use superinterfaces::{Superinterface, superinterfaces_of_class};
 pub use types::{DartType, FunctionType, NamedType, NamedTypes, TypeList, TypeNode};

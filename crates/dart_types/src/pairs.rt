@@ -1,6 +1,6 @@
 //! The replacements of variables, and how one is found.
 
-ghost use Rattle.std.specs.Prelude.{◌≡◌, IfOk, find, length};
+ghost use Rattle.std.specs.Prelude.{◌≡◌, IfOk, find};
 ghost use Rattle.std.specs.Option.{option_copied};
 ghost use Rattle.dart_types.specs.Ty.{Ty, types_of};
 ghost use Rattle.dart_types.specs.Same.{same_var};
@@ -36,17 +36,20 @@ pub(crate) fn replacements_of(
     Ok(formed)
 }
 
-/// The replacements of a class's parameters by its arguments, in their order.
+/// The replacements of a class's parameters by its arguments, in their order. A parameter without an
+/// argument has none.
 pub(crate) fn replacements_for(
     alloc: Global,
     params: &[VarId],
     args: &[DartType],
 ) -> Result<Vec<Replacement>, AllocError>
-    requires { length params.now ≡ length args.now }
     ensures { IfOk result (λ formed. (t : Ty) → replaced formed.items t ≡ normal (put (by_params params.now (types_of args.now)) t)) }
 {
     let mut formed = Vec::new(alloc);
     for i in 0..params.len() {
+        if i >= args.len() {
+            return Ok(formed);
+        }
         formed.push(settled(alloc, params[i], &args[i])?)?;
     }
     Ok(formed)

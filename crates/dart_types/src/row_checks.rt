@@ -114,6 +114,9 @@ fn is_formed_class(row: &ClassRow, classes: &[ClassRow], vars: &[VarRow]) -> boo
     if !is_rooted(row) {
         return false;
     }
+    if !has_its_parameters(row) {
+        return false;
+    }
     if !row.supers.are_supertypes(row.params.as_slice()) {
         return false;
     }
@@ -136,6 +139,16 @@ fn is_rooted(row: &ClassRow) -> bool
         return is_object_alone(supers);
     }
     !supers.is_empty()
+}
+
+// Whether the class is neither `Object` nor `Function`, or has no parameters.
+fn has_its_parameters(row: &ClassRow) -> bool
+    ensures { IsTrue result ↔ ((row.now.id ≡ OBJECT → row.now.params ≡ []) × (row.now.id ≡ FUNCTION → row.now.params ≡ [])) }
+{
+    if row.id == OBJECT || row.id == FUNCTION {
+        return row.params.as_slice().is_empty();
+    }
+    true
 }
 
 // Whether the one type is `Object`.

@@ -52,11 +52,12 @@ fn fits(alloc: Global, class: Class) -> Result<bool, Fail> {
 #[test]
 fn rows_are_well_formed_by_their_rules(rt: HostRuntime) -> Result<(), Fail> {
     let alloc = rt.alloc();
-    let rows: [(Class, bool); 13] = [
+    let rows: [(Class, bool); 14] = [
         ((OBJECT, 0, 0, "", 0), true),
         ((OBJECT, 0, 0, "oC", 2), false),
         ((FUNCTION, 0, 0, "o", 1), true),
         ((FUNCTION, 0, 0, "oC", 2), false),
+        ((FUNCTION, 0, 1, "o", 1), false),
         ((core(4), 0, 0, "", 0), false),
         ((core(4), 0, 0, "oC", 2), true),
         // The depth is the longest way up.
@@ -72,6 +73,19 @@ fn rows_are_well_formed_by_their_rules(rt: HostRuntime) -> Result<(), Fail> {
     ];
     for (class, right) in rows {
         assert_eq!(rt; fits(alloc, class)?, right);
+    }
+    Ok(())
+}
+
+#[test]
+fn object_has_no_parameters(rt: HostRuntime) -> Result<(), Fail> {
+    let alloc = rt.alloc();
+    let mut vars = Vec::new(alloc);
+    vars.push(var_row(alloc, CORE, 0, "V")?)?;
+    for (params, right) in [(0, true), (1, false)] {
+        let mut classes = Vec::new(alloc);
+        classes.push(class_row(alloc, (OBJECT, 0, params, "", 0))?)?;
+        assert_eq!(rt; Rows::are_well_formed(&classes, &vars), right);
     }
     Ok(())
 }

@@ -2,9 +2,9 @@
 
 ghost use Rattle.std.specs.Prelude.{◌≡◌, ◌<◌, ◌≤◌, ◌+◌, [], ◌∷◌, length, slice_get, slice_index_or};
 ghost use Rattle.std.specs.Option.{option_copied, option_map};
-ghost use Rattle.dart_types.specs.Scopes.{argument_in, outer_of, close};
+ghost use Rattle.dart_types.specs.Scopes.{argument_in, outer_of, close, close_all};
 ghost use Rattle.dart_types.specs.Substitution.{argument_of};
-ghost use Rattle.dart_types.specs.Forms.{seen_type, form_of, params_of};
+ghost use Rattle.dart_types.specs.Forms.{seen_type, seen_types, form_of, params_of};
 ghost use Rattle.dart_types.specs.Ty.{types_of, invalid};
 
 use crate::ids::{ClassId, VarId};
@@ -210,6 +210,26 @@ impl<'a> SeenList<'a> {
 }
 
 impl<'a> SeenFunction<'a> {
+    /// The types of the positional parameters that a call has to give.
+    pub(crate) fn required(&self) -> SeenList<'a>
+        ensures { seen_types result ≡ close_all self.now.scope.now (types_of self.now.function.now.required) }
+    {
+        SeenList {
+            types: self.function.required.as_slice(),
+            scope: self.scope,
+        }
+    }
+
+    /// The types of the positional parameters that a call may leave out.
+    pub(crate) fn optional(&self) -> SeenList<'a>
+        ensures { seen_types result ≡ close_all self.now.scope.now (types_of self.now.function.now.optional) }
+    {
+        SeenList {
+            types: self.function.optional.as_slice(),
+            scope: self.scope,
+        }
+    }
+
     /// The type of the result.
     pub(crate) fn result(&self) -> Seen<'a>
         ensures { seen_type result ≡ close self.now.scope.now self.now.function.now.result }

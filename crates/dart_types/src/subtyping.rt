@@ -13,7 +13,7 @@ use crate::ids::{ClassId, FUNCTION, OBJECT, VarId};
 use crate::params::{find_named, requires_no_more};
 use crate::rows::Rows;
 use crate::scopes::{Form, Scope, Seen, SeenFunction, SeenList};
-use crate::superinterfaces::of_class;
+use crate::superinterfaces::superinterfaces_of_class;
 use crate::types::{DartType, TypeNode};
 
 /// Whether s is a subtype of t, by the rules of the language specification, "Subtypes". It takes no
@@ -326,7 +326,7 @@ fn is_superinterface_below(
     }
     let scope = Scope::frame(row.params.as_slice(), args.types, args.scope);
     let superinterfaces = rows.superinterfaces(class);
-    for superinterface in of_class(superinterfaces, other) {
+    for superinterface in superinterfaces_of_class(superinterfaces, other) {
         let seen = SeenList {
             types: superinterface.args.as_slice(),
             scope: &scope,

@@ -32,8 +32,11 @@ impl Superinterface {
     }
 }
 
-/// The superinterfaces, in the order of their classes, that are of one class.
-pub(crate) fn of_class(superinterfaces: &[Superinterface], class: ClassId) -> &[Superinterface]
+/// Of superinterfaces in the order of their classes those of one class, by binary searches.
+pub fn superinterfaces_of_class(
+    superinterfaces: &[Superinterface],
+    class: ClassId,
+) -> &[Superinterface]
     requires { AllPairs (λ a b. class_before b.class a.class ≡ false) superinterfaces.now }
     ensures { result.now ≡ filter (λ s. same_class s.class class) superinterfaces.now }
 {

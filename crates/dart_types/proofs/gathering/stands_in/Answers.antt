@@ -10,7 +10,7 @@ use Rattle.dart_types.proofs.gathering.stands_in.Goals as goal
 pub returns-then-is_same : goal.returns-then-is_same
 returns-then-is_same c = λ _.
     let known = c.known-item.result in
-    let among = in_filtered (λ (s : Superinterface). same_class s.class c.args.found.now.class) c.args.list.now known (subst (λ (ss : List Superinterface). Contains ss known) c.of_class-known-items.ensures (c.loop-known.known-index, c.loop-known-test.true, sym c.known-item.is)) in
+    let among = in_filtered (λ (s : Superinterface). same_class s.class c.args.found.now.class) c.args.list.now known (subst (λ (ss : List Superinterface). Contains ss known) c.superinterfaces_of_class-known-items.ensures (c.loop-known.known-index, c.loop-known-test.true, sym c.known-item.is)) in
     subst (λ (s : Superinterface). Contains c.args.list.now s)
     (same_parts known c.args.found.now (equal_from_same_class known.class c.args.found.now.class among.1) (c.if-is_same.ensures.0 refl))
     among.0

@@ -10,17 +10,13 @@ use Rattle.dart_types.specs.declared.class_rows.ClassRow.{ClassRow}
 use Rattle.dart_types.specs.declared.entries.ClassEntry.{ClassEntry}
 use Rattle.dart_types.proofs.EntryLemmas.{AllPairs-map}
 use Rattle.dart_types.proofs.Gathered.{adds_both, adds_same, cause_among, handed_on, on_ok, if_err}
-use Rattle.dart_types.proofs.Giving.{gives_itself, itself_given, gives_split, gives_join, row_of_found, row_of_none, known_above, as_many}
+use Rattle.dart_types.proofs.Giving.{gives_itself, itself_given, gives_split, gives_join, row_of_found, row_of_none, known_above}
 use Rattle.dart_types.proofs.hierarchy.gather_interface.Goals as goal
 
 -- the entries stand in the order of the rows
 pub find_entry-requires : goal.find_entry-requires
 find_entry-requires c =
     AllPairs-map (λ (e : ClassEntry). e.row) (λ (a b : ClassRow). class_before a.id b.id ≡ true) c.args.entries.now c.requires.formed.classes_in_order
-
-pub gather_above-requires-clause-counted : goal.gather_above-requires-clause-counted
-gather_above-requires-clause-counted c =
-    as_many c.args.entries.now c.args.vars.now c.requires.formed c.args.row.now c.requires.of_class c.args.class c.args.args.now c.requires.direct c.in-Some.entry.now c.in-Some.ensures
 
 pub returns-in_err-own-clause-err : goal.returns-in_err-own-clause-err
 returns-in_err-own-clause-err c =

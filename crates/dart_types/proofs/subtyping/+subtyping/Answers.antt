@@ -655,7 +655,7 @@ is_superinterface_below-are_arguments_below-requires t c =
     (λ us. ap (λ (fs : Frames). close_all fs us) c.frame-scope.ensures ∙ frame_all c.as_slice-2.result.now args outer us ∙ ap (λ (ps : List VarId). put_all (by_params ps ss) us) c.as_slice-2.ensures) in
     let item = c.superinterface-item.result in
     let among : Contains (filter (λ (s : Superinterface). same_class s.class c.args.other) list) item =
-    subst (λ (l : List Superinterface). Contains l item) c.of_class-superinterface-items.ensures (c.loop-superinterface.superinterface-index, c.loop-superinterface-test.true, sym c.superinterface-item.is) in
+    subst (λ (l : List Superinterface). Contains l item) c.superinterfaces_of_class-superinterface-items.ensures (c.loop-superinterface.superinterface-index, c.loop-superinterface-test.true, sym c.superinterface-item.is) in
     let passed = contains_passed (λ (s : Superinterface). same_class s.class c.args.other) list item among in
     let is = equal_from_same_class item.class c.args.other passed.1 in
     let same : close_all c.frame-scope.result (types_of c.as_slice-in-loop-superinterface.result.now) ≡ put_all (by_params row.params ss) (types_of item.args) =
@@ -679,7 +679,7 @@ is_superinterface_below-returns-then-are_arguments_below t c =
     (λ us. ap (λ (fs : Frames). close_all fs us) c.frame-scope.ensures ∙ frame_all c.as_slice-2.result.now args outer us ∙ ap (λ (ps : List VarId). put_all (by_params ps ss) us) c.as_slice-2.ensures) in
     let item = c.superinterface-item.result in
     let among : Contains (filter (λ (s : Superinterface). same_class s.class c.args.other) list) item =
-    subst (λ (l : List Superinterface). Contains l item) c.of_class-superinterface-items.ensures (c.loop-superinterface.superinterface-index, c.loop-superinterface-test.true, sym c.superinterface-item.is) in
+    subst (λ (l : List Superinterface). Contains l item) c.superinterfaces_of_class-superinterface-items.ensures (c.loop-superinterface.superinterface-index, c.loop-superinterface-test.true, sym c.superinterface-item.is) in
     let passed = contains_passed (λ (s : Superinterface). same_class s.class c.args.other) list item among in
     let is = equal_from_same_class item.class c.args.other passed.1 in
     let same : close_all c.frame-scope.result (types_of c.as_slice-in-loop-superinterface.result.now) ≡ put_all (by_params row.params ss) (types_of item.args) =
@@ -703,7 +703,7 @@ is_superinterface_below-returns t c =
     none_below table wf c.args.class c.args.other ss ts c.requires.other_class c.requires.no_object row (sym c.in-Some.ensures) k list c.superinterfaces-superinterfaces.ensures
     (λ s i is a.
     let passed = passed_contains (λ (s' : Superinterface). same_class s'.class c.args.other) list s i (subst (λ (d : ClassId). same_class d c.args.other ≡ true) (sym is) (same_class-refl c.args.other)) in
-    let there = subst (λ (l : List Superinterface). Contains l s) (sym c.of_class-superinterface-items.ensures) passed in
+    let there = subst (λ (l : List Superinterface). Contains l s) (sym c.superinterfaces_of_class-superinterface-items.ensures) passed in
     c.loop-superinterface.invariant there.0 s (omega (arith, there.1, c.loop-superinterface-test.false))
     (subst (λ (s' : Superinterface). Subs table (close_all c.frame-scope.result (types_of s'.args)) ts) (sym there.2)
     (subst (λ (us : Types). Subs table us ts) (sym (framed (types_of s.args))) a)))

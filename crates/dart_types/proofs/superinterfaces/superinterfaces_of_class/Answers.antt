@@ -1,7 +1,7 @@
 use Rattle.std.proofs.Common.{ℕ, []}
 use Rattle.dart_types.specs.declared.superinterfaces.Superinterface.{Superinterface}
 use Rattle.dart_types.proofs.Searches.{from_before_to, of_id}
-use Rattle.dart_types.proofs.superinterfaces.of_class.Goals as goal
+use Rattle.dart_types.proofs.superinterfaces.superinterfaces_of_class.Goals as goal
 
 abbrev lib : Superinterface → ℕ
 lib s = s.class.lib.0
