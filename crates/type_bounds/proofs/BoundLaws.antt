@@ -1,4 +1,4 @@
--- An upper bound is a supertype of both types, and a lower one a subtype.
+-- An upper bound without `Invalid` is a supertype of both types, and a lower one a subtype.
 use Rattle.std.proofs.Common.{◌≡◌, ℕ, ◌+◌, Bool, true, List, refl, sym, ◌∙◌, ap, subst, arith}
 use Rattle.std.specs.Prelude.{◌&&◌, ◌||◌, nat_eq, bytes_eq, not}
 use Rattle.std.specs.Cmp.Lexicographic.{bytes_decides}
@@ -13,9 +13,11 @@ use Rattle.dart_types.proofs.SameIds.{both_true, nat_from_test, equal_from_same_
 use Rattle.dart_types.proofs.NamedParams.{required_from}
 use Rattle.dart_types.proofs.Transitive.{trans}
 use Rattle.type_bounds.specs.Signatures.{has_name, required_are_in, some_type, some_named, have_upper}
-use Rattle.type_bounds.specs.Bounds.{bare_of, Upper, right_above, left_above, upper_apart, UpperApart, null_left, null_right, marked_either, promoted_twice, variable_left, promoted_left, variable_right, promoted_right, upper_functions, upper_of_others, function_and_class, class_and_function, one_class, two_classes, Uppers, no_upper, one_upper, UpperNamed, no_upper_name, upper_name, Lower, left_below, right_below, lower_apart, LowerApart, marked_both, marked_once, lower_functions, lower_of_others, nothing_below, LowerParams, left_ends, right_ends, one_lower, LowerNamed, no_lower_name, lower_name, other_name}
+use Rattle.type_bounds.specs.Bounds.{bare_of, Upper, right_above, left_above, upper_apart, UpperApart, null_left, null_right, marked_either, promoted_twice, variable_left, promoted_left, variable_right, promoted_right, upper_functions, upper_of_others, function_and_class, class_and_function, one_class, two_classes, unbound_left, unbound_right, invalid_left, invalid_right, other_arguments, unknown_class, Uppers, no_upper, one_upper, UpperNamed, no_upper_name, upper_name, Lower, left_below, right_below, lower_apart, LowerApart, marked_both, marked_once, lower_functions, lower_of_others, nothing_below, LowerParams, left_ends, right_ends, one_lower, LowerNamed, no_lower_name, lower_name, other_name}
+use Rattle.type_bounds.specs.Valid.{IsValid, AreValid, AreValidNamed}
 use Rattle.type_bounds.proofs.NamedBounds.{or_true, or_left, or_right, type_is_named, not_named, required_is_named, required_in_other, required_here, when_true}
 use Rattle.type_bounds.proofs.Supers.{is_above}
+use Rattle.type_bounds.proofs.ValidRows.{valid_unmarked}
 
 module _ (table : Table) where
   -- a type and null are subtypes of the type with `?`
@@ -152,79 +154,85 @@ module _ (table : Table) where
     marked_over (nullable t) u a = left_nullable (go a (marked_above u)) (null_above u)
 
     mutual
-      pub upper_above : {s t u : Ty} → Upper table s t u → Sub table s u × Sub table t u
-      upper_above (right_above a) = (a, reflexivity)
-      upper_above (left_above n a) = (reflexivity, a)
-      upper_above (upper_apart apart a) = apart_above a
+      pub upper_above : {s t u : Ty} → Upper table s t u → IsValid u → Sub table s u × Sub table t u
+      upper_above (right_above a) v = (a, reflexivity)
+      upper_above (left_above n a) v = (reflexivity, a)
+      upper_above (upper_apart apart a) v = apart_above a v
 
-      apart_above : {s t u : Ty} → UpperApart table s t u → Sub table s u × Sub table t u
-      apart_above (null_left {t = t}) = (null_above t, marked_above t)
-      apart_above (null_right {s = s}) = (marked_above s, null_above s)
-      apart_above (marked_either {s = s} {t = t} {u = u} p q h a) = let k = upper_above a in (marked_over s u k.0, marked_over t u k.1)
-      apart_above (promoted_twice {x = x} {y = y} {v = v} h) =
+      apart_above : {s t u : Ty} → UpperApart table s t u → IsValid u → Sub table s u × Sub table t u
+      apart_above (null_left {t = t}) v = (null_above t, marked_above t)
+      apart_above (null_right {s = s}) v = (marked_above s, null_above s)
+      apart_above (marked_either {s = s} {t = t} {u = u} p q h a) v = let k = upper_above a (valid_unmarked u v) in (marked_over s u k.0, marked_over t u k.1)
+      apart_above (promoted_twice {x = x} {y = y} h) v =
           (left_promoted_variable reflexivity, left_promoted_variable (subst (λ (k : VarId). Sub table (variable k) (variable x)) (equal_from_same_var x y h) reflexivity))
-      apart_above (variable_left {b = b} h e a) = let k = upper_above a in (left_variable_bound b e k.0, k.1)
-      apart_above (promoted_left h n a) = let k = upper_above a in (left_promoted_type k.0, k.1)
-      apart_above (variable_right {b = b} h e a) = let k = upper_above a in (k.0, left_variable_bound b e k.1)
-      apart_above (promoted_right h a) = let k = upper_above a in (k.0, left_promoted_type k.1)
-      apart_above (upper_functions {r = r} {o = o} {r' = r'} {o' = o'} {n = n} {n' = n'} {n'' = n''} h rs os ns e) =
-          let k = upper_above e in
+      apart_above (variable_left {b = b} h e a) v = let k = upper_above a v in (left_variable_bound b e k.0, k.1)
+      apart_above (promoted_left h n a) v = let k = upper_above a v in (left_promoted_type k.0, k.1)
+      apart_above (variable_right {b = b} h e a) v = let k = upper_above a v in (k.0, left_variable_bound b e k.1)
+      apart_above (promoted_right h a) v = let k = upper_above a v in (k.0, left_promoted_type k.1)
+      apart_above (upper_functions {r = r} {o = o} {r' = r'} {o' = o'} {n = n} {n' = n'} {n'' = n''} h rs os ns e) v =
+          let k = upper_above e v.3 in
           let counts = upper_counts r o n r' o' n' h in
-          let rp = lower_params rs in
-          let op = lower_params os in
-          let np = lower_named ns in
+          let rp = lower_params rs v.0 in
+          let op = lower_params os v.1 in
+          let np = lower_named ns v.2 in
           let size = count_lower rs counts.0 in (
             function_types (omega (arith, size)) (joined size rp.0 op.0) np.0 (required_from n n'' (lower_requires_left ns counts.1.0)) k.0,
             function_types (omega (arith, size, counts.0)) (joined (size ∙ counts.0) rp.1 op.1) np.1 (required_from n' n'' (λ m q. lower_requires_right ns m q (required_in_other n' n m counts.1.1 q))) k.1,
           )
-      apart_above (upper_of_others h) = (function_class refl, function_class refl)
-      apart_above function_and_class = (right_object refl refl, right_object refl refl)
-      apart_above class_and_function = (right_object refl refl, right_object refl refl)
-      apart_above (one_class {c = c} {d = d} {ts = ts} {us = us} h a) =
-          let k = uppers_above a in
+      apart_above (upper_of_others h) v = (function_class refl, function_class refl)
+      apart_above function_and_class v = (right_object refl refl, right_object refl refl)
+      apart_above class_and_function v = (right_object refl refl, right_object refl refl)
+      apart_above (one_class {c = c} {d = d} {ts = ts} {us = us} h a) v =
+          let k = uppers_above a v in
           (interface_arguments k.0, subst (λ (e : ClassId). Sub table (interface e ts) (interface c us)) (equal_from_same_class c d h) (interface_arguments k.1))
-      apart_above (two_classes {c = c} {d = d} {ss = ss} {ts = ts} {u = u} h a) = (is_above table wf c ss u a.common.0, is_above table wf d ts u a.common.1)
+      apart_above (two_classes {c = c} {d = d} {ss = ss} {ts = ts} {u = u} h a) v = (is_above table wf c ss u a.common.0, is_above table wf d ts u a.common.1)
+      apart_above (unbound_left h e) v = absurd v
+      apart_above (unbound_right h e) v = absurd v
+      apart_above (invalid_left h) v = absurd v
+      apart_above (invalid_right h) v = absurd v
+      apart_above (other_arguments h n) v = absurd v
+      apart_above (unknown_class h n) v = absurd v
 
-      uppers_above : {ss ts us : Types} → Uppers table ss ts us → Subs table ss us × Subs table ts us
-      uppers_above no_upper = (none_left, none_left)
-      uppers_above (one_upper a rest) = let k = upper_above a in let l = uppers_above rest in (one_left k.0 l.0, one_left k.1 l.1)
+      uppers_above : {ss ts us : Types} → Uppers table ss ts us → AreValid us → Subs table ss us × Subs table ts us
+      uppers_above no_upper v = (none_left, none_left)
+      uppers_above (one_upper a rest) v = let k = upper_above a v.0 in let l = uppers_above rest v.1 in (one_left k.0 l.0, one_left k.1 l.1)
 
-      upper_named : {ns ms us : Named} → UpperNamed table ns ms us → SubNamed table ns us × SubNamed table ms us
-      upper_named no_upper_name = (no_name, no_name)
-      upper_named (upper_name {n = n} {m = m} {r = r} {q = q} {u = u} {us = us} h a rest) =
-          let k = upper_above a in
-          let l = upper_named rest in
+      upper_named : {ns ms us : Named} → UpperNamed table ns ms us → AreValidNamed us → SubNamed table ns us × SubNamed table ms us
+      upper_named no_upper_name v = (no_name, no_name)
+      upper_named (upper_name {n = n} {m = m} {r = r} {q = q} {u = u} {us = us} h a rest) v =
+          let k = upper_above a v.0 in
+          let l = upper_named rest v.1 in
           let is : n ≡ m = (bytes_decides n m).0 h in
           (one_name u first k.0 (named_later l.0), one_name u (subst (λ (k : List ℕ). HasNamed (more_named n (r && q) u us) k u) is first) k.1 (named_later l.1))
 
-      pub lower_below : {s t u : Ty} → Lower table s t u → Sub table u s × Sub table u t
-      lower_below (left_below a) = (reflexivity, a)
-      lower_below (right_below n a) = (a, reflexivity)
-      lower_below (lower_apart apart a) = apart_below a
+      pub lower_below : {s t u : Ty} → Lower table s t u → IsValid u → Sub table u s × Sub table u t
+      lower_below (left_below a) v = (reflexivity, a)
+      lower_below (right_below n a) v = (a, reflexivity)
+      lower_below (lower_apart apart a) v = apart_below a v
 
-      apart_below : {s t u : Ty} → LowerApart table s t u → Sub table u s × Sub table u t
-      apart_below (marked_both {s = s} {t = t} {u = u} a) = let k = lower_below a in (marked_below u s k.0, marked_below u t k.1)
-      apart_below (marked_once {s = s} {t = t} p q a) = let k = lower_below a in (bare_below s k.0, bare_below t k.1)
-      apart_below (lower_functions {r = r} {o = o} {r' = r'} {o' = o'} {n = n} {n' = n'} {n'' = n''} h rs os ns e) =
-          let k = lower_below e in
-          let rp = uppers_above rs in
-          let op = uppers_above os in
-          let np = upper_named ns in (
+      apart_below : {s t u : Ty} → LowerApart table s t u → IsValid u → Sub table u s × Sub table u t
+      apart_below (marked_both {s = s} {t = t} {u = u} a) v = let k = lower_below a (valid_unmarked u v) in (marked_below u s k.0, marked_below u t k.1)
+      apart_below (marked_once {s = s} {t = t} p q a) v = let k = lower_below a v in (bare_below s k.0, bare_below t k.1)
+      apart_below (lower_functions {r = r} {o = o} {r' = r'} {o' = o'} {n = n} {n' = n'} {n'' = n''} h rs os ns e) v =
+          let k = lower_below e v.3 in
+          let rp = uppers_above rs v.0 in
+          let op = uppers_above os v.1 in
+          let np = upper_named ns v.2 in (
             function_types (omega (arith, count_subs rp.0)) (joined (count_subs rp.0) (params_from rp.0) (params_from op.0)) np.0 (required_from n'' n (λ m q. (upper_requires ns m q).0)) k.0,
             function_types (omega (arith, count_subs rp.1)) (joined (count_subs rp.1) (params_from rp.1) (params_from op.1)) np.1 (required_from n'' n' (λ m q. (upper_requires ns m q).1)) k.1,
           )
-      apart_below (lower_of_others h) = (left_bottom, left_bottom)
-      apart_below (nothing_below p q) = (left_bottom, left_bottom)
+      apart_below (lower_of_others h) v = (left_bottom, left_bottom)
+      apart_below (nothing_below p q) v = (left_bottom, left_bottom)
 
-      lower_params : {ss ts us : Types} → LowerParams table ss ts us → SubParams table us ss × SubParams table us ts
-      lower_params left_ends = (no_param, no_param)
-      lower_params right_ends = (no_param, no_param)
-      lower_params (one_lower a rest) = let k = lower_below a in let l = lower_params rest in (one_param k.0 l.0, one_param k.1 l.1)
+      lower_params : {ss ts us : Types} → LowerParams table ss ts us → AreValid us → SubParams table us ss × SubParams table us ts
+      lower_params left_ends v = (no_param, no_param)
+      lower_params right_ends v = (no_param, no_param)
+      lower_params (one_lower a rest) v = let k = lower_below a v.0 in let l = lower_params rest v.1 in (one_param k.0 l.0, one_param k.1 l.1)
 
-      lower_named : {ns ms us : Named} → LowerNamed table ns ms us → SubNamed table us ns × SubNamed table us ms
-      lower_named no_lower_name = (no_name, no_name)
-      lower_named (lower_name {n = n} {s = s} {t = t} {ms = ms} e a rest) =
-          let k = lower_below a in
-          let l = lower_named rest in
+      lower_named : {ns ms us : Named} → LowerNamed table ns ms us → AreValidNamed us → SubNamed table us ns × SubNamed table us ms
+      lower_named no_lower_name v = (no_name, no_name)
+      lower_named (lower_name {n = n} {s = s} {t = t} {ms = ms} e a rest) v =
+          let k = lower_below a v.0 in
+          let l = lower_named rest v.1 in
           (one_name s first k.0 (named_later l.0), one_name t (type_is_named ms n t e) k.1 l.1)
-      lower_named (other_name e rest) = let l = lower_named rest in (named_later l.0, l.1)
+      lower_named (other_name e rest) v = let l = lower_named rest v in (named_later l.0, l.1)

@@ -1,14 +1,16 @@
 -- Two types have one upper bound and one lower bound at most.
-use Rattle.std.proofs.Common.{◌≡◌, ℕ, zero, suc, ◌<◌, Bool, true, false, Option, Some, None, refl, sym, ap, subst, arith, inl, inr}
+use Rattle.std.proofs.Common.{◌≡◌, ℕ, zero, suc, ◌+◌, ◌<◌, Bool, true, false, Option, Some, None, refl, sym, ap, subst, arith, inl, inr}
 use Rattle.std.specs.Prelude.{◌⊎◌, ◌||◌}
-use Rattle.dart_types.specs.Ty.{Ty, Types, Named, invalid, never, void, null, interface, function, variable, promoted, nullable}
+use Rattle.dart_types.specs.Ty.{Ty, Types, Named, invalid, never, void, null, interface, function, variable, promoted, nullable, count}
 use Rattle.dart_types.specs.Normal.{nullable_of}
 use Rattle.dart_types.specs.Same.{same_class, same_var}
-use Rattle.dart_types.specs.Tables.{Table, bound_of, head_depth}
+use Rattle.dart_types.specs.Tables.{Table, class_of, bound_of, head_depth}
+use Rattle.dart_types.specs.WellFormed.{HasArguments}
 use Rattle.dart_types.specs.declared.ids.ClassId.{ClassId}
 use Rattle.dart_types.specs.declared.ids.VarId.{VarId}
-use Rattle.type_bounds.specs.Common.{IsDeepest}
-use Rattle.type_bounds.specs.Bounds.{is_nullable, is_bare, is_settled, Upper, right_above, left_above, upper_apart, UpperApart, null_left, null_right, marked_either, promoted_twice, variable_left, promoted_left, variable_right, promoted_right, upper_functions, upper_of_others, function_and_class, class_and_function, one_class, two_classes, Uppers, no_upper, one_upper, UpperNamed, no_upper_name, upper_name, Lower, left_below, right_below, lower_apart, LowerApart, marked_both, marked_once, lower_functions, lower_of_others, nothing_below, LowerParams, left_ends, right_ends, one_lower, LowerNamed, no_lower_name, lower_name, other_name}
+use Rattle.dart_types.specs.declared.class_rows.ClassRow.{ClassRow}
+use Rattle.type_bounds.specs.Common.{IsAbove, IsDeepest}
+use Rattle.type_bounds.specs.Bounds.{is_nullable, is_bare, is_settled, Upper, right_above, left_above, upper_apart, UpperApart, null_left, null_right, marked_either, promoted_twice, variable_left, promoted_left, variable_right, promoted_right, upper_functions, upper_of_others, function_and_class, class_and_function, one_class, two_classes, unbound_left, unbound_right, invalid_left, invalid_right, other_arguments, unknown_class, Uppers, no_upper, one_upper, UpperNamed, no_upper_name, upper_name, Lower, left_below, right_below, lower_apart, LowerApart, marked_both, marked_once, lower_functions, lower_of_others, nothing_below, LowerParams, left_ends, right_ends, one_lower, LowerNamed, no_lower_name, lower_name, other_name}
 
 pub clash : {A : Type 0} (b : Bool) → b ≡ true → b ≡ false → A
 clash true p q = cc
@@ -35,6 +37,18 @@ settled_unmarked (function r o n e) p q = cc
 settled_unmarked (variable x) p q = cc
 settled_unmarked (promoted x t) p q = cc
 settled_unmarked (nullable t) p q = cc
+
+-- a settled type is bare
+pub settled_bare : (t : Ty) → is_settled t ≡ true → is_bare t ≡ true
+settled_bare invalid p = refl
+settled_bare never p = refl
+settled_bare void p = refl
+settled_bare null p = cc
+settled_bare (interface c ts) p = refl
+settled_bare (function r o n e) p = refl
+settled_bare (variable x) p = cc
+settled_bare (promoted x t) p = cc
+settled_bare (nullable t) p = cc
 
 same_bound : (table : Table) (x : VarId) (b c : Ty) → bound_of table x ≡ Some b → bound_of table x ≡ Some c → b ≡ c
 same_bound table x b c e f = cc
@@ -67,7 +81,16 @@ one_deepest table c ss d ts u v a b = elim (compared (head_depth table u) (head_
   ]
 ]
 
+-- a class with a superinterface that has arguments put in has as many parameters as arguments
+pub above_has_arguments : {table : Table} {c : ClassId} {ts : Types} {u : Ty} → IsAbove table c ts u → HasArguments (class_of table c) ts
+above_has_arguments {ts = ts} a = subst (λ (o : Option ClassRow). HasArguments o ts) (sym a.row_is) a.counted
+
 module _ (table : Table) where
+  -- lists with upper bounds are as long
+  pub count_uppers : {ss ts us : Types} → Uppers table ss ts us → count ss ≡ count ts
+  count_uppers no_upper = refl
+  count_uppers (one_upper a rest) = ap (λ k. k + 1) (count_uppers rest)
+
   mutual
     pub one_upper_bound : {s t u v : Ty} → Upper table s t u → Upper table s t v → u ≡ v
     one_upper_bound (right_above a) (right_above b) = refl
@@ -86,11 +109,15 @@ module _ (table : Table) where
     one_upper_apart null_left (marked_either p q h b) = cc
     one_upper_apart null_left (variable_right h e b) = cc
     one_upper_apart null_left (promoted_right h b) = cc
+    one_upper_apart null_left (unbound_right h e) = cc
+    one_upper_apart null_left (invalid_right h) = cc
     one_upper_apart null_right null_left = refl
     one_upper_apart null_right null_right = refl
     one_upper_apart null_right (marked_either p q h b) = cc
     one_upper_apart null_right (variable_left h e b) = cc
     one_upper_apart null_right (promoted_left h n b) = cc
+    one_upper_apart null_right (unbound_left h e) = cc
+    one_upper_apart null_right (invalid_left h) = cc
     one_upper_apart (marked_either p q h a) null_left = cc
     one_upper_apart (marked_either p q h a) null_right = cc
     one_upper_apart (marked_either p q h a) (marked_either p' q' h' b) = ap nullable_of (one_upper_bound a b)
@@ -105,6 +132,12 @@ module _ (table : Table) where
     one_upper_apart (marked_either p q h a) class_and_function = cc
     one_upper_apart (marked_either p q h a) (one_class k b) = cc
     one_upper_apart (marked_either p q h a) (two_classes k b) = cc
+    one_upper_apart (marked_either p q h a) (unbound_left {t = t} k e) = bare_unmarked t k h
+    one_upper_apart (marked_either p q h a) (unbound_right {s = s} k e) = settled_unmarked s k h
+    one_upper_apart (marked_either p q h a) (invalid_left {t = t} k) = bare_unmarked t (settled_bare t k) h
+    one_upper_apart (marked_either p q h a) (invalid_right {s = s} k) = settled_unmarked s k h
+    one_upper_apart (marked_either p q h a) (other_arguments k n) = cc
+    one_upper_apart (marked_either p q h a) (unknown_class k n) = cc
     one_upper_apart (promoted_twice k) (marked_either p q h b) = cc
     one_upper_apart (promoted_twice k) (promoted_twice l) = refl
     one_upper_apart (promoted_twice {x = x} {y = y} k) (promoted_left h n b) = clash (same_var x y) k n
@@ -115,24 +148,34 @@ module _ (table : Table) where
         one_upper_bound a (subst (λ (k : Ty). Upper table k t v) (same_bound table x d c e' e) b)
     one_upper_apart (variable_left h e a) (variable_right k e' b) = cc
     one_upper_apart (variable_left h e a) (promoted_right k b) = cc
+    one_upper_apart (variable_left {x = x} {b = b} h e a) (unbound_left k e') = some_none (bound_of table x) b e e'
+    one_upper_apart (variable_left h e a) (unbound_right k e') = cc
+    one_upper_apart (variable_left h e a) (invalid_right k) = cc
     one_upper_apart (promoted_left h n a) null_right = cc
     one_upper_apart (promoted_left {t = t} h n a) (marked_either p q k b) = bare_unmarked t h k
     one_upper_apart (promoted_left h n a) (promoted_twice {x = x} {y = y} k) = clash (same_var x y) k n
     one_upper_apart (promoted_left h n a) (promoted_left h' n' b) = one_upper_bound a b
     one_upper_apart (promoted_left h n a) (variable_right k e b) = cc
     one_upper_apart (promoted_left h n a) (promoted_right k b) = cc
+    one_upper_apart (promoted_left h n a) (unbound_right k e) = cc
+    one_upper_apart (promoted_left h n a) (invalid_right k) = cc
     one_upper_apart (variable_right h e a) null_left = cc
     one_upper_apart (variable_right {s = s} h e a) (marked_either p q k b) = settled_unmarked s h k
     one_upper_apart (variable_right h e a) (variable_left k e' b) = cc
     one_upper_apart (variable_right h e a) (promoted_left k n b) = cc
     one_upper_apart (variable_right {y = y} {b = c} {s = s} h e a) (variable_right {b = d} {u = v} h' e' b) =
         one_upper_bound a (subst (λ (k : Ty). Upper table s k v) (same_bound table y d c e' e) b)
+    one_upper_apart (variable_right h e a) (unbound_left k e') = cc
+    one_upper_apart (variable_right {y = y} {b = b} h e a) (unbound_right k e') = some_none (bound_of table y) b e e'
+    one_upper_apart (variable_right h e a) (invalid_left k) = cc
     one_upper_apart (promoted_right h a) null_left = cc
     one_upper_apart (promoted_right {s = s} h a) (marked_either p q k b) = settled_unmarked s h k
     one_upper_apart (promoted_right h a) (promoted_twice k) = cc
     one_upper_apart (promoted_right h a) (variable_left k e b) = cc
     one_upper_apart (promoted_right h a) (promoted_left k n b) = cc
     one_upper_apart (promoted_right h a) (promoted_right k b) = one_upper_bound a b
+    one_upper_apart (promoted_right h a) (unbound_left k e) = cc
+    one_upper_apart (promoted_right h a) (invalid_left k) = cc
     one_upper_apart (upper_functions k rs os ns a) (marked_either p q h b) = cc
     one_upper_apart (upper_functions k rs os ns a) (upper_functions k' rs' os' ns' b) =
         let r = one_lower_params rs rs' in
@@ -151,9 +194,53 @@ module _ (table : Table) where
     one_upper_apart (one_class l a) (marked_either p q h b) = cc
     one_upper_apart (one_class {c = c} l a) (one_class k b) = ap (interface c) (one_uppers a b)
     one_upper_apart (one_class {c = c} {d = d} l a) (two_classes k b) = clash (same_class c d) l k
+    one_upper_apart (one_class l a) (other_arguments k n) = absurd (n (count_uppers a))
+    one_upper_apart (one_class {c = c} {d = d} l a) (unknown_class k n) = clash (same_class c d) l k
     one_upper_apart (two_classes k a) (marked_either p q h b) = cc
     one_upper_apart (two_classes {c = c} {d = d} k a) (one_class l b) = clash (same_class c d) l k
     one_upper_apart (two_classes {c = c} {d = d} {ss = ss} {ts = ts} {u = u} k a) (two_classes {u = v} k' b) = one_deepest table c ss d ts u v a b
+    one_upper_apart (two_classes {c = c} {d = d} k a) (other_arguments l n) = clash (same_class c d) l k
+    one_upper_apart (two_classes k a) (unknown_class l n) = absurd (n (above_has_arguments a.common.0) (above_has_arguments a.common.1))
+    one_upper_apart (unbound_left h e) null_right = cc
+    one_upper_apart (unbound_left {t = t} h e) (marked_either p q k b) = bare_unmarked t h k
+    one_upper_apart (unbound_left {x = x} h e) (variable_left {b = b} k e' a) = some_none (bound_of table x) b e' e
+    one_upper_apart (unbound_left h e) (variable_right k e' b) = cc
+    one_upper_apart (unbound_left h e) (promoted_right k b) = cc
+    one_upper_apart (unbound_left h e) (unbound_left k e') = refl
+    one_upper_apart (unbound_left h e) (unbound_right k e') = refl
+    one_upper_apart (unbound_left h e) (invalid_right k) = refl
+    one_upper_apart (unbound_right h e) null_left = cc
+    one_upper_apart (unbound_right {s = s} h e) (marked_either p q k b) = settled_unmarked s h k
+    one_upper_apart (unbound_right h e) (variable_left k e' b) = cc
+    one_upper_apart (unbound_right h e) (promoted_left k n b) = cc
+    one_upper_apart (unbound_right {y = y} h e) (variable_right {b = b} k e' a) = some_none (bound_of table y) b e' e
+    one_upper_apart (unbound_right h e) (unbound_left k e') = refl
+    one_upper_apart (unbound_right h e) (unbound_right k e') = refl
+    one_upper_apart (unbound_right h e) (invalid_left k) = refl
+    one_upper_apart (invalid_left h) null_right = cc
+    one_upper_apart (invalid_left {t = t} h) (marked_either p q k b) = bare_unmarked t (settled_bare t h) k
+    one_upper_apart (invalid_left h) (variable_right k e b) = cc
+    one_upper_apart (invalid_left h) (promoted_right k b) = cc
+    one_upper_apart (invalid_left h) (unbound_right k e) = refl
+    one_upper_apart (invalid_left h) (invalid_left k) = refl
+    one_upper_apart (invalid_left h) (invalid_right k) = refl
+    one_upper_apart (invalid_right h) null_left = cc
+    one_upper_apart (invalid_right {s = s} h) (marked_either p q k b) = settled_unmarked s h k
+    one_upper_apart (invalid_right h) (variable_left k e b) = cc
+    one_upper_apart (invalid_right h) (promoted_left k n b) = cc
+    one_upper_apart (invalid_right h) (unbound_left k e) = refl
+    one_upper_apart (invalid_right h) (invalid_left k) = refl
+    one_upper_apart (invalid_right h) (invalid_right k) = refl
+    one_upper_apart (other_arguments k n) (marked_either p q h b) = cc
+    one_upper_apart (other_arguments k n) (one_class l b) = absurd (n (count_uppers b))
+    one_upper_apart (other_arguments {c = c} {d = d} k n) (two_classes l b) = clash (same_class c d) k l
+    one_upper_apart (other_arguments k n) (other_arguments l m) = refl
+    one_upper_apart (other_arguments k n) (unknown_class l m) = refl
+    one_upper_apart (unknown_class k n) (marked_either p q h b) = cc
+    one_upper_apart (unknown_class {c = c} {d = d} k n) (one_class l b) = clash (same_class c d) l k
+    one_upper_apart (unknown_class k n) (two_classes l b) = absurd (n (above_has_arguments b.common.0) (above_has_arguments b.common.1))
+    one_upper_apart (unknown_class k n) (other_arguments l m) = refl
+    one_upper_apart (unknown_class k n) (unknown_class l m) = refl
 
     one_uppers : {ss ts us vs : Types} → Uppers table ss ts us → Uppers table ss ts vs → us ≡ vs
     one_uppers no_upper no_upper = refl

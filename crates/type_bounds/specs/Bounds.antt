@@ -1,12 +1,13 @@
 -- Upper and lower bounds: one constructor is one row of the tables, of which the first that fits is taken.
-use Rattle.std.specs.Prelude.{◌≡◌, ℕ, Bool, true, false, ◌&&◌, ◌||◌, List, Some, None, bytes_eq}
-use Rattle.dart_types.specs.Ty.{Ty, Types, Named, invalid, never, void, null, interface, function, variable, promoted, nullable, no_more, more, no_named, more_named}
+use Rattle.std.specs.Prelude.{◌≡◌, ◌≢◌, ℕ, Bool, true, false, ◌&&◌, ◌||◌, List, Some, None, bytes_eq}
+use Rattle.dart_types.specs.Ty.{Ty, Types, Named, invalid, never, void, null, interface, function, variable, promoted, nullable, no_more, more, no_named, more_named, count}
 use Rattle.dart_types.specs.Heads.{object}
 use Rattle.dart_types.specs.Normal.{nullable_of}
 use Rattle.dart_types.specs.Same.{same_class, same_var}
 use Rattle.dart_types.specs.Sub.{Sub, is_required}
 use Rattle.dart_types.specs.SubTest.{is_null}
-use Rattle.dart_types.specs.Tables.{Table, bound_of}
+use Rattle.dart_types.specs.Tables.{Table, class_of, bound_of}
+use Rattle.dart_types.specs.WellFormed.{HasArguments}
 use Rattle.dart_types.specs.declared.ids.ClassId.{ClassId}
 use Rattle.dart_types.specs.declared.ids.VarId.{VarId}
 use Rattle.dart_types.specs.declared.ids.TheConstants.{FUNCTION}
@@ -118,6 +119,13 @@ mutual
     one_class : {c d : ClassId} {ss ts us : Types} → same_class c d ≡ true → Uppers table ss ts us → UpperApart table (interface c ss) (interface d ts) (interface c us)
     -- two classes: the deepest superinterface of both
     two_classes : {c d : ClassId} {ss ts : Types} {u : Ty} → same_class c d ≡ false → IsDeepest table c ss d ts u → UpperApart table (interface c ss) (interface d ts) u
+    -- what no row is about has the bound `Invalid`: a variable without a bound, `Invalid` itself, a class with two numbers of arguments, and classes of which one has no row with as many parameters
+    unbound_left : {x : VarId} {t : Ty} → is_bare t ≡ true → bound_of table x ≡ None → UpperApart table (variable x) t invalid
+    unbound_right : {y : VarId} {s : Ty} → is_settled s ≡ true → bound_of table y ≡ None → UpperApart table s (variable y) invalid
+    invalid_left : {t : Ty} → is_settled t ≡ true → UpperApart table invalid t invalid
+    invalid_right : {s : Ty} → is_settled s ≡ true → UpperApart table s invalid invalid
+    other_arguments : {c d : ClassId} {ss ts : Types} → same_class c d ≡ true → count ss ≢ count ts → UpperApart table (interface c ss) (interface d ts) invalid
+    unknown_class : {c d : ClassId} {ss ts : Types} → same_class c d ≡ false → (HasArguments (class_of table c) ss → HasArguments (class_of table d) ts → ⊥) → UpperApart table (interface c ss) (interface d ts) invalid
 
   -- the upper bounds of types at the same places of two lists that are as long
   pub data Uppers (table : Table) : (ss ts us : Types) → Type 0 where

@@ -3,6 +3,11 @@ pub mod NonNull
 pub mod NonNullSteps
 pub mod Factor
 pub mod Counts
+pub mod PartsView
+pub mod NamedView
 pub mod Signatures
 pub mod Common
 pub mod Bounds
+pub mod FormsSome
+pub mod Valid
+pub mod Above

@@ -1,19 +1,44 @@
 //! Laws of upper and lower bounds, for every well-formed rows and all types.
 
 ghost use Rattle.std.specs.Prelude.{◌≡◌};
+ghost use Rattle.dart_types.specs.Ty.{interface, no_more};
+ghost use Rattle.dart_types.specs.WellFormed.{IsOver};
 ghost use Rattle.dart_types.specs.Sub.{Sub};
+ghost use Rattle.dart_types.specs.declared.ids.TheConstants.{FUNCTION};
 ghost use Rattle.type_bounds.specs.Bounds.{Upper, Lower};
+ghost use Rattle.type_bounds.specs.Valid.{IsValid, HasValidRows};
 
 use dart_types::{DartType, Rows};
 
-/// The upper bound of two types is a supertype of both, and the lower bound a subtype of both.
+/// The upper bound of two types is a supertype of both, and the lower bound a subtype of both, where
+/// the bound holds no `Invalid`.
 pub fn bounds_are_bounds(_rows: &Rows, _s: &DartType, _t: &DartType, _u: &DartType)
-    ensures upper { Upper _rows.now.table _s.now _t.now _u.now → Sub _rows.now.table _s.now _u.now × Sub _rows.now.table _t.now _u.now }
-    ensures lower { Lower _rows.now.table _s.now _t.now _u.now → Sub _rows.now.table _u.now _s.now × Sub _rows.now.table _u.now _t.now }
+    ensures upper { Upper _rows.now.table _s.now _t.now _u.now → IsValid _u.now → Sub _rows.now.table _s.now _u.now × Sub _rows.now.table _t.now _u.now }
+    ensures lower { Lower _rows.now.table _s.now _t.now _u.now → IsValid _u.now → Sub _rows.now.table _u.now _s.now × Sub _rows.now.table _u.now _t.now }
 {}
 
 /// Two types have one upper bound and one lower bound at most.
 pub fn bounds_are_unique(_rows: &Rows, _s: &DartType, _t: &DartType, _u: &DartType, _v: &DartType)
     ensures upper { Upper _rows.now.table _s.now _t.now _u.now → Upper _rows.now.table _s.now _t.now _v.now → _u.now ≡ _v.now }
     ensures lower { Lower _rows.now.table _s.now _t.now _u.now → Lower _rows.now.table _s.now _t.now _v.now → _u.now ≡ _v.now }
+{}
+
+/// Where rows hold no `Invalid`, the bounds of two types that are over them, and hold none, hold none
+/// either.
+pub fn bounds_are_valid(_rows: &Rows, _s: &DartType, _t: &DartType, _u: &DartType)
+    requires rows { HasValidRows _rows.now.table }
+    requires left { IsOver _rows.now.table _s.now × IsValid _s.now }
+    requires right { IsOver _rows.now.table _t.now × IsValid _t.now }
+    ensures upper { Upper _rows.now.table _s.now _t.now _u.now → IsValid _u.now }
+    ensures lower { Lower _rows.now.table _s.now _t.now _u.now → IsValid _u.now }
+{}
+
+/// Over rows that have `Function`, without parameters, the bounds of two types that are over them are
+/// over them too.
+pub fn bounds_are_over_rows(_rows: &Rows, _s: &DartType, _t: &DartType, _u: &DartType)
+    requires rows { IsOver _rows.now.table (interface FUNCTION no_more) }
+    requires left { IsOver _rows.now.table _s.now }
+    requires right { IsOver _rows.now.table _t.now }
+    ensures upper { Upper _rows.now.table _s.now _t.now _u.now → IsOver _rows.now.table _u.now }
+    ensures lower { Lower _rows.now.table _s.now _t.now _u.now → IsOver _rows.now.table _u.now }
 {}

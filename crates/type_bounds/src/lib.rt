@@ -7,15 +7,31 @@
 //! stands on the types of `dart_types`.
 #![tactic(auto)]
 
+#[cfg(test)]
+mod bound_tests;
 mod counts;
 mod factors;
+mod function_parts;
+#[cfg(test)]
+mod function_tests;
 mod laws;
+mod named_parts;
 mod non_nulls;
 #[cfg(test)]
 mod null_tests;
+mod parts;
+#[cfg(test)]
+mod sample_functions;
 #[cfg(test)]
 mod sample_types;
+mod signatures;
+#[cfg(test)]
+mod superclass_tests;
+mod superclasses;
+mod type_forms;
+mod uppers;
 
 pub use factors::factor;
-pub use laws::{bounds_are_bounds, bounds_are_unique};
+pub use laws::{bounds_are_bounds, bounds_are_over_rows, bounds_are_unique, bounds_are_valid};
 pub use non_nulls::{non_null, non_null_laws};
+pub use uppers::{lower, upper};

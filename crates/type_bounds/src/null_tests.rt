@@ -56,8 +56,8 @@ fn what_is_left_of_types(rt: HostRuntime) -> Result<(), Fail> {
     Ok(())
 }
 
-// Whether so many types stand in the answer, and it is formed or refused as said.
-fn answers(answer: Result<DartType, TypeRefusal>, nodes: u64, fits: bool) -> bool {
+/// Whether so many types stand in the answer, and it is formed or refused as said.
+pub(crate) fn answers(answer: Result<DartType, TypeRefusal>, nodes: u64, fits: bool) -> bool {
     match answer {
         Ok(formed) => fits && size(&formed) == nodes,
         Err(TypeRefusal::TooLarge { nodes: counted }) => !fits && counted == nodes,

@@ -1,0 +1,524 @@
+use Rattle.std.proofs.Common.{◌≡◌, ◌+◌, ◌<◌, true, false, length, drop, get_or, refl, sym, ◌∙◌, ap, subst, arith}
+use Rattle.std.specs.Prelude.{◌&&◌, ◌||◌, bytes_eq}
+use Rattle.std.proofs.lemmas.List.{get_or_default}
+use Rattle.dart_types.specs.Ty.{invalid, never, interface, variable, promoted, no_more, more, no_named, more_named, types_of, join}
+use Rattle.dart_types.specs.Heads.{object}
+use Rattle.dart_types.specs.Named.{named_of}
+use Rattle.dart_types.specs.Node.{type_of, function_type}
+use Rattle.dart_types.specs.Measure.{weight_of}
+use Rattle.dart_types.specs.declared.types.NamedType.{NamedType}
+use Rattle.dart_types.specs.declared.ids.TheConstants.{FUNCTION}
+use Rattle.dart_types.proofs.SameIds.{both_true}
+use Rattle.dart_types.proofs.Steps.{granted, refused}
+use Rattle.dart_types.proofs.NamesFound.{required_found}
+use Rattle.type_bounds.specs.Bounds.{is_nullable, Upper, right_above, left_above, upper_apart, UpperApart, marked_either, upper_functions, Uppers, UpperNamed, Lower, left_below, right_below, lower_apart, LowerApart, marked_once, lower_functions, LowerParams, LowerNamed}
+use Rattle.type_bounds.specs.NamedView.{join_named, AreSomeNamed}
+use Rattle.type_bounds.proofs.NonNulls.{bound_weighs, promoted_weighs}
+use Rattle.type_bounds.proofs.BoundFalls.{arguments_fall, required_fall, optional_fall, named_fall, results_fall, marked_fall, type_weighs, param_weighs, name_weighs}
+use Rattle.type_bounds.proofs.SomeParts.{some_type, some_by, some_marked, marked_type, some_function, moved, moved_types, moved_named}
+use Rattle.type_bounds.proofs.Rests.{completed, completed_named, one_more, one_more_named, uppers_end, lowers_end, lowers_end_right, uppers_step, lowers_step, upper_names_end, lower_names_end, upper_names_step, lower_names_step, other_names_step}
+use Rattle.type_bounds.proofs.NamesBefore.{IsEachBefore, NamedSoFar, before_formed, before_later, before_with}
+use Rattle.type_bounds.proofs.SignatureTests.{type_none, type_some, have_lower_counts, same_named_lists, same_length, names_at}
+use Rattle.type_bounds.proofs.UpperSteps.{from_not, at_null_left, at_null_right, at_variable_left, at_unbound_left, at_promoted_twice, at_promoted_left, at_variable_right, at_unbound_right, at_promoted_right, at_settled, at_settled_right, at_class_and_function, at_other_arguments, at_one_class, at_function_and_class, at_other_functions}
+use Rattle.type_bounds.proofs.LowerSteps.{either_holds, at_both_marks, at_no_function_left, at_no_function_right, at_lower_others}
+use Rattle.type_bounds.proofs.uppers.+bounds.Goals.{lower_named-in-Some+in_ok-part+in_ok-lowers, lower_named-in_default}
+use Rattle.type_bounds.proofs.uppers.+bounds.Goals as goal
+
+-- two types, by subtyping first
+pub upper_part-returns-then-is_subtype : goal.upper_part-returns-then-is_subtype
+upper_part-returns-then-is_subtype t c =
+    some_type (Upper c.args.rows.now.table c.args.s.now c.args.t.now) c.of.result c.args.t.now (right_above (granted c.is_subtype.ensures.rules c.if-is_subtype.true)) c.of.ensures
+
+pub upper_part-returns-then-is_subtype-2 : goal.upper_part-returns-then-is_subtype-2
+upper_part-returns-then-is_subtype-2 t c =
+    some_type (Upper c.args.rows.now.table c.args.s.now c.args.t.now) c.of-then-is_subtype-2.result c.args.s.now
+    (left_above (refused c.is_subtype.ensures.rules c.if-is_subtype.false) (granted c.is_subtype-2.ensures.rules c.if-is_subtype-2.true))
+    c.of-then-is_subtype-2.ensures
+
+pub upper_part-returns : goal.upper_part-returns
+upper_part-returns t c =
+    some_by (Upper c.args.rows.now.table c.args.s.now c.args.t.now) c.upper_apart.result (UpperApart c.args.rows.now.table c.args.s.now c.args.t.now)
+    (λ u a. upper_apart (refused c.is_subtype.ensures.rules c.if-is_subtype.false, refused c.is_subtype-2.ensures.rules c.if-is_subtype-2.false) a)
+    c.upper_apart.ensures
+
+-- `Null`, and types with `?`
+pub upper_apart-returns-then-is_null : goal.upper_apart-returns-then-is_null
+upper_apart-returns-then-is_null t c =
+    marked_type (UpperApart c.args.rows.now.table c.args.s.now c.args.t.now) c.nullable.result c.args.t.now c.in_ok-of.field-0
+    (at_null_left c.args.rows.now.table c.args.s.now c.args.t.now (sym c.is_null.ensures ∙ c.if-is_null.true))
+    c.in_ok-of.ensures
+    c.nullable.ensures
+
+pub upper_apart-returns-then-is_null-2 : goal.upper_apart-returns-then-is_null-2
+upper_apart-returns-then-is_null-2 t c =
+    marked_type (UpperApart c.args.rows.now.table c.args.s.now c.args.t.now) c.nullable-then-is_null-2.result c.args.s.now c.in_ok-of-2.field-0
+    (at_null_right c.args.rows.now.table c.args.s.now c.args.t.now (sym c.is_null-2.ensures ∙ c.if-is_null-2.true))
+    c.in_ok-of-2.ensures
+    c.nullable-then-is_null-2.ensures
+
+pub upper_apart-upper_part-requires : goal.upper_apart-upper_part-requires
+upper_apart-upper_part-requires t c =
+    let marked : (is_nullable c.args.s.now || is_nullable c.args.t.now) ≡ true = let e = c.is_nullable.ensures in let f = c.is_nullable-2.ensures in let g = c.if-is_nullable.true in cc in
+    let fall = marked_fall c.args.rows.now.table c.args.s.now c.args.t.now marked in
+    let e = ap (weight_of c.args.rows.now.table) c.bare.ensures in
+    let f = ap (weight_of c.args.rows.now.table) c.bare-then-is_nullable.ensures in
+    (omega (arith, fall, e, f, c.decreases), tt)
+
+pub upper_apart-returns-then-is_nullable : goal.upper_apart-returns-then-is_nullable
+upper_apart-returns-then-is_nullable t c =
+    let marked : (is_nullable c.args.s.now || is_nullable c.args.t.now) ≡ true = let e = c.is_nullable.ensures in let f = c.is_nullable-2.ensures in let g = c.if-is_nullable.true in cc in
+    some_marked (UpperApart c.args.rows.now.table c.args.s.now c.args.t.now) c.nullable-then-is_nullable.result (Upper c.args.rows.now.table c.bare.result.now c.bare-then-is_nullable.result.now) c.in_ok-upper_part.field-0
+    (λ u a. marked_either (sym c.is_null.ensures ∙ c.if-is_null.false) (sym c.is_null-2.ensures ∙ c.if-is_null-2.false) marked (moved (Upper c.args.rows.now.table) c.bare.ensures c.bare-then-is_nullable.ensures a))
+    c.in_ok-upper_part.ensures
+    c.nullable-then-is_nullable.ensures
+
+-- variables on the left
+pub upper_bare-upper_part-requires : goal.upper_bare-upper_part-requires
+upper_bare-upper_part-requires t c =
+    let is : c.args.s.now ≡ variable c.in-Var.var = sym c.s.view_is ∙ ap type_of c.in-Var.is in
+    let fall = bound_weighs c.args.rows.now.table c.args.rows.now.formed c.in-Var.var c.in-Some.bound.now (sym c.in-Some.ensures) in
+    (omega (arith, fall, ap (weight_of c.args.rows.now.table) is, c.decreases), tt)
+
+pub upper_bare-returns-in-None : goal.upper_bare-returns-in-None
+upper_bare-returns-in-None t c =
+    (invalid, at_unbound_left c.args.rows.now.table c.in-Var.var (sym c.s.view_is ∙ ap type_of c.in-Var.is) c.requires.right (sym c.in-None.ensures), c.no_bound.ensures)
+
+pub upper_bare-returns-in-Some : goal.upper_bare-returns-in-Some
+upper_bare-returns-in-Some t c =
+    some_by (UpperApart c.args.rows.now.table c.args.s.now c.args.t.now) c.upper_part.result (Upper c.args.rows.now.table c.in-Some.bound.now c.args.t.now)
+    (λ u a. at_variable_left c.args.rows.now.table c.in-Var.var (sym c.s.view_is ∙ ap type_of c.in-Var.is) c.requires.right (sym c.in-Some.ensures) a)
+    c.upper_part.ensures
+
+pub upper_bare-returns-then-is_promoted_from : goal.upper_bare-returns-then-is_promoted_from
+upper_bare-returns-then-is_promoted_from t c = (
+  variable c.in-Promoted.var,
+  at_promoted_twice c.args.rows.now.table c.args.t.now c.in-Promoted.var c.in-Promoted.to.value (sym c.s.view_is ∙ ap type_of c.in-Promoted.is) (sym c.is_promoted_from.ensures ∙ c.if-is_promoted_from.true),
+  c.small.ensures,
+)
+
+pub upper_bare-upper_part-requires-in-Promoted : goal.upper_bare-upper_part-requires-in-Promoted
+upper_bare-upper_part-requires-in-Promoted t c =
+    let is : c.args.s.now ≡ promoted c.in-Promoted.var c.deref.result.now = sym c.s.view_is ∙ ap type_of c.in-Promoted.is ∙ ap (promoted c.in-Promoted.var) (sym c.deref.ensures) in
+    let fall = promoted_weighs c.args.rows.now.table c.in-Promoted.var c.deref.result.now in
+    (omega (arith, fall, ap (weight_of c.args.rows.now.table) is, c.decreases), tt)
+
+pub upper_bare-returns-else-is_promoted_from : goal.upper_bare-returns-else-is_promoted_from
+upper_bare-returns-else-is_promoted_from t c =
+    some_by (UpperApart c.args.rows.now.table c.args.s.now c.args.t.now) c.upper_part-in-Promoted.result (Upper c.args.rows.now.table c.deref.result.now c.args.t.now)
+    (λ u a.
+    at_promoted_left c.args.rows.now.table c.in-Promoted.var c.deref.result.now (sym c.s.view_is ∙ ap type_of c.in-Promoted.is ∙ ap (promoted c.in-Promoted.var) (sym c.deref.ensures)) c.requires.right (sym c.is_promoted_from.ensures ∙ c.if-is_promoted_from.false) a)
+    c.upper_part-in-Promoted.ensures
+
+-- variables on the right
+pub upper_right-upper_part-requires : goal.upper_right-upper_part-requires
+upper_right-upper_part-requires t c =
+    let is : c.args.t.now ≡ variable c.in-Var.var = sym c.t.view_is ∙ ap type_of c.in-Var.is in
+    let fall = bound_weighs c.args.rows.now.table c.args.rows.now.formed c.in-Var.var c.in-Some.bound.now (sym c.in-Some.ensures) in
+    (omega (arith, fall, ap (weight_of c.args.rows.now.table) is, c.decreases), tt)
+
+pub upper_right-upper_part-requires-in-Promoted : goal.upper_right-upper_part-requires-in-Promoted
+upper_right-upper_part-requires-in-Promoted t c =
+    let is : c.args.t.now ≡ promoted c.in-Promoted.var c.deref.result.now = sym c.t.view_is ∙ ap type_of c.in-Promoted.is ∙ ap (promoted c.in-Promoted.var) (sym c.deref.ensures) in
+    let fall = promoted_weighs c.args.rows.now.table c.in-Promoted.var c.deref.result.now in
+    (omega (arith, fall, ap (weight_of c.args.rows.now.table) is, c.decreases), tt)
+
+pub upper_right-returns-in-None : goal.upper_right-returns-in-None
+upper_right-returns-in-None t c =
+    (invalid, at_unbound_right c.args.rows.now.table c.in-Var.var (sym c.t.view_is ∙ ap type_of c.in-Var.is) c.requires.left (sym c.in-None.ensures), c.no_bound.ensures)
+
+pub upper_right-returns-in-Some : goal.upper_right-returns-in-Some
+upper_right-returns-in-Some t c =
+    some_by (UpperApart c.args.rows.now.table c.args.s.now c.args.t.now) c.upper_part.result (Upper c.args.rows.now.table c.args.s.now c.in-Some.bound.now)
+    (λ u a. at_variable_right c.args.rows.now.table c.in-Var.var (sym c.t.view_is ∙ ap type_of c.in-Var.is) c.requires.left (sym c.in-Some.ensures) a)
+    c.upper_part.ensures
+
+pub upper_right-returns-in-Promoted : goal.upper_right-returns-in-Promoted
+upper_right-returns-in-Promoted t c =
+    some_by (UpperApart c.args.rows.now.table c.args.s.now c.args.t.now) c.upper_part-in-Promoted.result (Upper c.args.rows.now.table c.args.s.now c.deref.result.now)
+    (λ u a. at_promoted_right c.args.rows.now.table c.in-Promoted.var c.deref.result.now (sym c.t.view_is ∙ ap type_of c.in-Promoted.is ∙ ap (promoted c.in-Promoted.var) (sym c.deref.ensures)) c.requires.left a)
+    c.upper_part-in-Promoted.ensures
+
+-- types that are no variables
+pub upper_settled-returns-in_default : goal.upper_settled-returns-in_default
+upper_settled-returns-in_default t c =
+    (invalid, at_settled c.args.rows.now.table c.s.inside.node c.args.t.now c.s.view_is c.requires.apart c.requires.left c.requires.right c.in_default.not-Interface c.in_default.not-Function, c.no_bound.ensures)
+
+pub upper_of_class-returns-then-as_slice : goal.upper_of_class-returns-then-as_slice
+upper_of_class-returns-then-as_slice t c = (
+  invalid,
+  at_other_arguments c.args.rows.now.table c.args.class c.in-Interface.other c.args.args.now c.in-Interface.others (sym c.t.view_is ∙ ap type_of c.in-Interface.is) (from_not c.if-ne.ensures)
+      (λ e. c.if-as_slice.true (ap length c.as_slice.ensures ∙ e ∙ sym (ap length c.as_slice-in-Interface.ensures))),
+  c.no_bound.ensures,
+)
+
+pub upper_of_class-upper_all-requires : goal.upper_of_class-upper_all-requires
+upper_of_class-upper_all-requires t c =
+    let is : c.args.t.now ≡ interface c.in-Interface.other (types_of c.in-Interface.others) = sym c.t.view_is ∙ ap type_of c.in-Interface.is in
+    let fall = arguments_fall c.args.rows.now.table c.args.class c.in-Interface.other c.args.args.now c.in-Interface.others c.as_slice-in-Interface-2.result.now c.as_slice-in-Interface-3.result.now is c.as_slice-in-Interface-2.ensures c.as_slice-in-Interface-3.ensures in
+    let same : length c.as_slice-in-Interface-2.result.now ≡ length c.as_slice-in-Interface-3.result.now =
+    ap length c.as_slice-in-Interface-2.ensures ∙ sym (ap length c.as_slice.ensures) ∙ c.if-as_slice.false ∙ ap length c.as_slice-in-Interface.ensures ∙ sym (ap length c.as_slice-in-Interface-3.ensures)
+    in
+    (omega (arith, fall, c.decreases), same)
+
+pub upper_of_class-returns-in-Function : goal.upper_of_class-returns-in-Function
+upper_of_class-returns-in-Function t c =
+    (object, at_class_and_function c.args.rows.now.table c.args.class (types_of c.args.args.now) c.in-Function.field-0.value (sym c.t.view_is ∙ ap type_of c.in-Function.is), c.class_part.ensures)
+
+pub upper_of_class-returns-in_ok-uppers-in-Interface :
+    goal.upper_of_class-returns-in_ok-uppers-in-Interface
+upper_of_class-returns-in_ok-uppers-in-Interface t c =
+    let uppers = c.in_ok-uppers-in-Interface.ensures in (
+      interface c.args.class uppers.0,
+      at_one_class c.args.rows.now.table c.args.class c.in-Interface.other c.args.args.now c.in-Interface.others (sym c.t.view_is ∙ ap type_of c.in-Interface.is) (from_not c.if-ne.ensures)
+          (moved_types (Uppers c.args.rows.now.table) c.as_slice-in-Interface-2.ensures c.as_slice-in-Interface-3.ensures uppers.1),
+      c.interface.ensures uppers.0 uppers.2,
+    )
+
+pub upper_of_class-returns-in_default : goal.upper_of_class-returns-in_default
+upper_of_class-returns-in_default t c =
+    (invalid, at_settled_right c.args.rows.now.table (interface c.args.class (types_of c.args.args.now)) c.t.inside.node c.t.view_is c.requires.apart refl c.requires.right c.in_default.not-Interface c.in_default.not-Function, c.no_bound-in_default.ensures)
+
+pub upper_of_function-returns-then-not-have_upper :
+    goal.upper_of_function-returns-then-not-have_upper
+upper_of_function-returns-then-not-have_upper t c =
+    let is : c.args.t.now ≡ function_type c.deref.result.now = sym c.t.view_is ∙ ap type_of c.in-Function.is ∙ ap function_type (sym c.deref.ensures) in
+    (interface FUNCTION no_more, at_other_functions c.args.rows.now.table c.args.function.now c.deref.result.now is (sym c.have_upper.ensures ∙ c.if-not-have_upper.true), c.class_part.ensures)
+
+pub upper_of_function-returns-in-Interface : goal.upper_of_function-returns-in-Interface
+upper_of_function-returns-in-Interface t c =
+    (object, at_function_and_class c.args.rows.now.table c.args.function.now c.in-Interface.class (types_of c.in-Interface.args) (sym c.t.view_is ∙ ap type_of c.in-Interface.is), c.class_part-in-Interface.ensures)
+
+pub upper_of_function-returns-in_default : goal.upper_of_function-returns-in_default
+upper_of_function-returns-in_default t c =
+    (invalid, at_settled_right c.args.rows.now.table (function_type c.args.function.now) c.t.inside.node c.t.view_is c.requires.apart refl c.requires.right c.in_default.not-Interface c.in_default.not-Function, c.no_bound.ensures)
+
+-- two function types
+pub upper_of_functions-lower_all-requires : goal.upper_of_functions-lower_all-requires
+upper_of_functions-lower_all-requires t c =
+    let fall = required_fall c.args.rows.now.table c.args.function.now c.args.other.now c.as_slice.result.now c.as_slice-2.result.now c.as_slice.ensures c.as_slice-2.ensures in
+    (omega (arith, fall, c.decreases), tt)
+
+pub upper_of_functions-lower_all-requires-2 : goal.upper_of_functions-lower_all-requires-2
+upper_of_functions-lower_all-requires-2 t c =
+    let fall = optional_fall c.args.rows.now.table c.args.function.now c.args.other.now c.as_slice-3.result.now c.as_slice-4.result.now c.as_slice-3.ensures c.as_slice-4.ensures in
+    (omega (arith, fall, c.decreases), tt)
+
+pub upper_of_functions-lower_named-requires : goal.upper_of_functions-lower_named-requires
+upper_of_functions-lower_named-requires t c =
+    let fall = named_fall c.args.rows.now.table c.args.function.now c.args.other.now c.as_slice-5.result.now c.args.other.now.named c.as_slice-5.ensures.same refl in
+    (omega (arith, fall, c.decreases), c.as_slice-5.ensures.in_order)
+
+pub upper_of_functions-upper_part-requires : goal.upper_of_functions-upper_part-requires
+upper_of_functions-upper_part-requires t c =
+    let fall = results_fall c.args.rows.now.table c.args.function.now c.args.other.now in
+    (omega (arith, fall, c.decreases), tt)
+
+pub upper_of_functions-returns : goal.upper_of_functions-returns
+upper_of_functions-returns t c =
+    let table = c.args.rows.now.table in
+    let f = c.args.function.now in
+    let g = c.args.other.now in
+    some_function (UpperApart table (function_type f) (function_type g)) c.function_part.result
+    (LowerParams table (types_of c.as_slice.result.now) (types_of c.as_slice-2.result.now))
+    (LowerParams table (types_of c.as_slice-3.result.now) (types_of c.as_slice-4.result.now))
+    (LowerNamed table (named_of c.as_slice-5.result.now) (named_of g.named))
+    (Upper table f.result g.result)
+    c.in_ok-required.required c.in_ok-optional.optional c.in_ok-named.named c.in_ok-result.result
+    (λ r o n e rs os ns a.
+    upper_functions c.requires
+    (moved_types (LowerParams table) c.as_slice.ensures c.as_slice-2.ensures rs)
+    (moved_types (LowerParams table) c.as_slice-3.ensures c.as_slice-4.ensures os)
+    (moved_named (LowerNamed table) c.as_slice-5.ensures.same refl ns)
+    a)
+    c.in_ok-required.ensures c.in_ok-optional.ensures c.in_ok-named.ensures c.in_ok-result.ensures c.function_part.ensures
+
+-- lists of types
+pub upper_all-upper_part-requires : goal.upper_all-upper_part-requires
+upper_all-upper_part-requires t c =
+    let a = type_weighs c.args.rows.now.table c.args.types.now c.loop-i.i c.index-types-i.result c.loop-i-test.true c.index-types-i.is in
+    let b = type_weighs c.args.rows.now.table c.args.others.now c.loop-i.i c.index-others-i.result (omega arith) c.index-others-i.is in
+    (omega (arith, a, b, c.decreases), tt)
+
+pub upper_all-loop-i-preserved : goal.upper_all-loop-i-preserved
+upper_all-loop-i-preserved t c =
+    let table = c.args.rows.now.table in
+    let so_far = c.loop-i.invariant in
+    let next = c.in_ok-part.ensures in (
+      join so_far.0 (more next.0 no_more),
+      one_more (Uppers table (types_of (drop c.loop-i.i c.args.types.now)) (types_of (drop c.loop-i.i c.args.others.now))) (Uppers table (types_of (drop (c.loop-i.i + 1) c.args.types.now)) (types_of (drop (c.loop-i.i + 1) c.args.others.now))) (Uppers table (types_of c.args.types.now) (types_of c.args.others.now)) so_far.0 next.0
+          (uppers_step table c.args.types.now c.args.others.now c.loop-i.i c.index-types-i.result c.index-others-i.result next.0 c.loop-i-test.true (omega arith) c.index-types-i.is c.index-others-i.is next.1)
+          so_far.1,
+      c.in_ok-uppers.ensures so_far.0 next.0 so_far.2 next.2,
+    )
+
+pub upper_all-returns : goal.upper_all-returns
+upper_all-returns t c =
+    let table = c.args.rows.now.table in
+    let so_far = c.loop-i.invariant in (
+      so_far.0,
+      completed (Uppers table (types_of (drop c.loop-i.i c.args.types.now)) (types_of (drop c.loop-i.i c.args.others.now))) (Uppers table (types_of c.args.types.now) (types_of c.args.others.now)) so_far.0
+          (uppers_end table c.args.types.now c.args.others.now c.loop-i.i c.loop-i-test.false (omega arith))
+          so_far.1,
+      so_far.2,
+    )
+
+pub lower_all-lower_part-requires : goal.lower_all-lower_part-requires
+lower_all-lower_part-requires t c =
+    let a = type_weighs c.args.rows.now.table c.args.types.now c.loop-i.i c.index-types-i.result c.loop-i-test.true c.index-types-i.is in
+    let b = type_weighs c.args.rows.now.table c.args.others.now c.loop-i.i c.index-others-i.result c.if-i-others.false c.index-others-i.is in
+    (omega (arith, a, b, c.decreases), tt)
+
+pub lower_all-returns-then-i-others : goal.lower_all-returns-then-i-others
+lower_all-returns-then-i-others t c =
+    let table = c.args.rows.now.table in
+    let so_far = c.loop-i.invariant in
+    let here = get_or c.args.types.now c.loop-i.i invalid in (
+      so_far.0,
+      completed (LowerParams table (types_of (drop c.loop-i.i c.args.types.now)) (types_of (drop c.loop-i.i c.args.others.now))) (LowerParams table (types_of c.args.types.now) (types_of c.args.others.now)) so_far.0
+          (lowers_end_right table c.args.types.now c.args.others.now c.loop-i.i here c.loop-i-test.true (get_or_default c.args.types.now c.loop-i.i invalid here c.loop-i-test.true) c.if-i-others.true)
+          so_far.1,
+      so_far.2,
+    )
+
+pub lower_all-loop-i-preserved : goal.lower_all-loop-i-preserved
+lower_all-loop-i-preserved t c =
+    let table = c.args.rows.now.table in
+    let so_far = c.loop-i.invariant in
+    let next = c.in_ok-part.ensures in (
+      join so_far.0 (more next.0 no_more),
+      one_more (LowerParams table (types_of (drop c.loop-i.i c.args.types.now)) (types_of (drop c.loop-i.i c.args.others.now))) (LowerParams table (types_of (drop (c.loop-i.i + 1) c.args.types.now)) (types_of (drop (c.loop-i.i + 1) c.args.others.now))) (LowerParams table (types_of c.args.types.now) (types_of c.args.others.now)) so_far.0 next.0
+          (lowers_step table c.args.types.now c.args.others.now c.loop-i.i c.index-types-i.result c.index-others-i.result next.0 c.loop-i-test.true c.if-i-others.false c.index-types-i.is c.index-others-i.is next.1)
+          so_far.1,
+      c.in_ok-lowers.ensures so_far.0 next.0 so_far.2 next.2,
+    )
+
+pub lower_all-returns : goal.lower_all-returns
+lower_all-returns t c =
+    let table = c.args.rows.now.table in
+    let so_far = c.loop-i.invariant in (
+      so_far.0,
+      completed (LowerParams table (types_of (drop c.loop-i.i c.args.types.now)) (types_of (drop c.loop-i.i c.args.others.now))) (LowerParams table (types_of c.args.types.now) (types_of c.args.others.now)) so_far.0
+          (lowers_end table c.args.types.now c.args.others.now c.loop-i.i c.loop-i-test.false)
+          so_far.1,
+      so_far.2,
+    )
+
+-- named parameters
+pub upper_named-bounds-others-i : goal.upper_named-bounds-others-i
+upper_named-bounds-others-i t c = let same = same_length c.args.named.now c.args.others.now c.requires.same in omega arith
+
+pub upper_named-upper_part-requires : goal.upper_named-upper_part-requires
+upper_named-upper_part-requires t c =
+    let same = same_length c.args.named.now c.args.others.now c.requires.same in
+    let a = param_weighs c.args.rows.now.table c.args.named.now c.loop-i.i c.index-named-i.result c.loop-i-test.true c.index-named-i.is in
+    let b = param_weighs c.args.rows.now.table c.args.others.now c.loop-i.i c.index-others-i.result (omega arith) c.index-others-i.is in
+    (omega (arith, a, b, c.decreases), tt)
+
+pub upper_named-with-requires : goal.upper_named-with-requires
+upper_named-with-requires t c =
+    let so_far = c.loop-i.invariant in
+    let before = so_far.1.1 c.loop-i.i c.index-named-i.result (omega arith) c.loop-i-test.true in
+    before_formed c.loop-i.uppers.formed so_far.0 c.index-named-i.result.name so_far.2.1 (subst (λ (n : NamedType). IsEachBefore so_far.0 n.name) (sym c.index-named-i.is) before)
+
+pub upper_named-loop-i-preserved : goal.upper_named-loop-i-preserved
+upper_named-loop-i-preserved t c =
+    let table = c.args.rows.now.table in
+    let own = c.index-named-i.result in
+    let other = c.index-others-i.result in
+    let so_far = c.loop-i.invariant in
+    let next = c.in_ok-part.ensures in
+    let same = same_length c.args.named.now c.args.others.now c.requires.same in
+    let within : c.loop-i.i < length c.args.others.now = omega arith in
+    let names : bytes_eq own.name other.name ≡ true =
+    ap (λ (n : NamedType). bytes_eq n.name other.name) c.index-named-i.is
+    ∙ ap (λ (n : NamedType). bytes_eq (get_or c.args.named.now c.loop-i.i own).name n.name) c.index-others-i.is
+    ∙ names_at c.args.named.now c.args.others.now c.loop-i.i own other c.requires.same c.loop-i-test.true
+    in (
+      join_named so_far.0 (more_named own.name (own.required && other.required) next.0 no_named),
+      (
+        one_more_named (UpperNamed table (named_of (drop c.loop-i.i c.args.named.now)) (named_of (drop c.loop-i.i c.args.others.now))) (UpperNamed table (named_of (drop (c.loop-i.i + 1) c.args.named.now)) (named_of (drop (c.loop-i.i + 1) c.args.others.now))) (UpperNamed table (named_of c.args.named.now) (named_of c.args.others.now)) so_far.0 own.name (own.required && other.required) next.0
+            (upper_names_step table c.args.named.now c.args.others.now c.loop-i.i own c.loop-i-test.true c.index-named-i.is other next.0 within c.index-others-i.is names next.1)
+            so_far.1.0,
+        before_with so_far.0 c.args.named.now c.loop-i.i own (own.required && other.required) next.0 c.requires.in_order c.loop-i-test.true c.index-named-i.is so_far.1.1,
+      ),
+      c.in_ok-uppers.ensures so_far.0 next.0 so_far.2 next.2,
+    )
+
+pub upper_named-returns : goal.upper_named-returns
+upper_named-returns t c =
+    let table = c.args.rows.now.table in
+    let so_far = c.loop-i.invariant in
+    let same = same_length c.args.named.now c.args.others.now c.requires.same in (
+      so_far.0,
+      completed_named (UpperNamed table (named_of (drop c.loop-i.i c.args.named.now)) (named_of (drop c.loop-i.i c.args.others.now))) (UpperNamed table (named_of c.args.named.now) (named_of c.args.others.now)) so_far.0
+          (upper_names_end table c.args.named.now c.args.others.now c.loop-i.i c.loop-i-test.false (omega arith))
+          so_far.1.0,
+      so_far.2,
+    )
+
+pub lower_named-lower_part-requires : goal.lower_named-lower_part-requires
+lower_named-lower_part-requires t c =
+    let a = param_weighs c.args.rows.now.table c.args.named.now c.loop-i.i c.index-named-i.result c.loop-i-test.true c.index-named-i.is in
+    let b = name_weighs c.args.rows.now.table (named_of c.args.others.now) c.index-named-i.result.name c.in-Some.other.now.ty (type_some c.args.others.now c.index-named-i.result.name c.in-Some.other.now (sym c.in-Some.ensures.found)) in
+    (omega (arith, a, b, c.decreases), tt)
+
+pub lower_named-with-requires : goal.lower_named-with-requires
+lower_named-with-requires t c =
+    let so_far = c.loop-i.invariant in
+    let before = so_far.1.1 c.loop-i.i c.index-named-i.result (omega arith) c.loop-i-test.true in
+    before_formed c.loop-i.lowers.formed so_far.0 c.index-named-i.result.name so_far.2.1 (subst (λ (n : NamedType). IsEachBefore so_far.0 n.name) (sym c.index-named-i.is) before)
+
+pub lower_named-loop-i-preserved : goal.lower_named-loop-i-preserved
+lower_named-loop-i-preserved t c =
+    let table = c.args.rows.now.table in
+    let own = c.index-named-i.result in
+    let so_far = c.loop-i.invariant in
+    let so = NamedSoFar (LowerNamed table (named_of (drop (c.loop-i.i + 1) c.args.named.now)) (named_of c.args.others.now)) (LowerNamed table (named_of c.args.named.now) (named_of c.args.others.now)) c.args.named.now (c.loop-i.i + 1) in
+    elim c.match-get.branch as (λ _. AreSomeNamed so c.match-get.lowers) [
+      | lower_named-in-Some+in_ok-part+in_ok-lowers w ↦
+          let next = w.in_ok-part.ensures in
+          let other = w.in-Some.other.now in
+          let found = sym w.in-Some.ensures.found in
+          let required = own.required || other.required in
+          let flag = required_found c.args.others.now w.in-Some.ensures.in_order own.name other found in
+          subst (AreSomeNamed so) (sym w.lowers-is) (
+            join_named so_far.0 (more_named own.name required next.0 no_named),
+            (
+              one_more_named (LowerNamed table (named_of (drop c.loop-i.i c.args.named.now)) (named_of c.args.others.now)) (LowerNamed table (named_of (drop (c.loop-i.i + 1) c.args.named.now)) (named_of c.args.others.now)) (LowerNamed table (named_of c.args.named.now) (named_of c.args.others.now)) so_far.0 own.name required next.0
+                  (lower_names_step table c.args.named.now c.args.named.now c.loop-i.i own c.loop-i-test.true c.index-named-i.is (named_of c.args.others.now) other.ty next.0 other.required (sym flag) (type_some c.args.others.now own.name other found) next.1)
+                  so_far.1.0,
+              before_with so_far.0 c.args.named.now c.loop-i.i own required next.0 c.requires c.loop-i-test.true c.index-named-i.is so_far.1.1,
+            ),
+            w.in_ok-lowers.ensures so_far.0 next.0 so_far.2 next.2,
+          )
+      | lower_named-in_default w ↦
+          subst (AreSomeNamed so) (sym w.lowers-is) (
+            so_far.0,
+            (
+              λ vs rest. so_far.1.0 vs (other_names_step table c.args.named.now c.args.named.now c.loop-i.i own c.loop-i-test.true c.index-named-i.is (named_of c.args.others.now) (type_none c.args.others.now own.name (sym w.in_default.ensures.found)) vs rest),
+              before_later so_far.0 c.args.named.now c.loop-i.i so_far.1.1,
+            ),
+            so_far.2,
+          )
+    ]
+
+pub lower_named-returns : goal.lower_named-returns
+lower_named-returns t c =
+    let table = c.args.rows.now.table in
+    let so_far = c.loop-i.invariant in (
+      so_far.0,
+      completed_named (LowerNamed table (named_of (drop c.loop-i.i c.args.named.now)) (named_of c.args.others.now)) (LowerNamed table (named_of c.args.named.now) (named_of c.args.others.now)) so_far.0
+          (lower_names_end table c.args.named.now c.args.others.now c.loop-i.i (named_of c.args.others.now) c.loop-i-test.false)
+          so_far.1.0,
+      so_far.2,
+    )
+
+-- lower bounds, by subtyping first
+pub lower_part-returns-then-is_subtype : goal.lower_part-returns-then-is_subtype
+lower_part-returns-then-is_subtype t c =
+    some_type (Lower c.args.rows.now.table c.args.s.now c.args.t.now) c.of.result c.args.s.now (left_below (granted c.is_subtype.ensures.rules c.if-is_subtype.true)) c.of.ensures
+
+pub lower_part-returns-then-is_subtype-2 : goal.lower_part-returns-then-is_subtype-2
+lower_part-returns-then-is_subtype-2 t c =
+    some_type (Lower c.args.rows.now.table c.args.s.now c.args.t.now) c.of-then-is_subtype-2.result c.args.t.now
+    (right_below (refused c.is_subtype.ensures.rules c.if-is_subtype.false) (granted c.is_subtype-2.ensures.rules c.if-is_subtype-2.true))
+    c.of-then-is_subtype-2.ensures
+
+pub lower_part-returns : goal.lower_part-returns
+lower_part-returns t c =
+    some_by (Lower c.args.rows.now.table c.args.s.now c.args.t.now) c.lower_apart.result (LowerApart c.args.rows.now.table c.args.s.now c.args.t.now)
+    (λ u a. lower_apart (refused c.is_subtype.ensures.rules c.if-is_subtype.false, refused c.is_subtype-2.ensures.rules c.if-is_subtype-2.false) a)
+    c.lower_apart.ensures
+
+-- types with `?`
+pub lower_apart-lower_part-requires : goal.lower_apart-lower_part-requires
+lower_apart-lower_part-requires t c =
+    let marked : (is_nullable c.args.s.now && is_nullable c.args.t.now) ≡ true = let e = c.is_nullable.ensures in let f = c.is_nullable-2.ensures in let g = c.if-is_nullable.true in cc in
+    let fall = marked_fall c.args.rows.now.table c.args.s.now c.args.t.now (either_holds (is_nullable c.args.s.now) (is_nullable c.args.t.now) marked) in
+    let e = ap (weight_of c.args.rows.now.table) c.bare.ensures in
+    let f = ap (weight_of c.args.rows.now.table) c.bare-then-is_nullable.ensures in
+    (omega (arith, fall, e, f, c.decreases), tt)
+
+pub lower_apart-returns-then-is_nullable : goal.lower_apart-returns-then-is_nullable
+lower_apart-returns-then-is_nullable t c =
+    let marked : (is_nullable c.args.s.now && is_nullable c.args.t.now) ≡ true = let e = c.is_nullable.ensures in let f = c.is_nullable-2.ensures in let g = c.if-is_nullable.true in cc in
+    let both = both_true (is_nullable c.args.s.now) (is_nullable c.args.t.now) marked in
+    some_marked (LowerApart c.args.rows.now.table c.args.s.now c.args.t.now) c.nullable.result (Lower c.args.rows.now.table c.bare.result.now c.bare-then-is_nullable.result.now) c.in_ok-lower_part.field-0
+    (λ u a. at_both_marks c.args.rows.now.table c.args.s.now c.args.t.now u both.0 both.1 (moved (Lower c.args.rows.now.table) c.bare.ensures c.bare-then-is_nullable.ensures a))
+    c.in_ok-lower_part.ensures
+    c.nullable.ensures
+
+pub lower_apart-lower_part-requires-then-is_nullable-2 :
+    goal.lower_apart-lower_part-requires-then-is_nullable-2
+lower_apart-lower_part-requires-then-is_nullable-2 t c =
+    let marked : (is_nullable c.args.s.now || is_nullable c.args.t.now) ≡ true = let e = c.is_nullable-3.ensures in let f = c.is_nullable-4.ensures in let g = c.if-is_nullable-2.true in cc in
+    let fall = marked_fall c.args.rows.now.table c.args.s.now c.args.t.now marked in
+    let e = ap (weight_of c.args.rows.now.table) c.bare-then-is_nullable-2.ensures in
+    let f = ap (weight_of c.args.rows.now.table) c.bare-then-is_nullable-2-2.ensures in
+    (omega (arith, fall, e, f, c.decreases), tt)
+
+pub lower_apart-returns-then-is_nullable-2 : goal.lower_apart-returns-then-is_nullable-2
+lower_apart-returns-then-is_nullable-2 t c =
+    let marked : (is_nullable c.args.s.now || is_nullable c.args.t.now) ≡ true = let e = c.is_nullable-3.ensures in let f = c.is_nullable-4.ensures in let g = c.if-is_nullable-2.true in cc in
+    let once : (is_nullable c.args.s.now && is_nullable c.args.t.now) ≡ false = let e = c.is_nullable.ensures in let f = c.is_nullable-2.ensures in let g = c.if-is_nullable.false in cc in
+    some_by (LowerApart c.args.rows.now.table c.args.s.now c.args.t.now) c.lower_part-then-is_nullable-2.result (Lower c.args.rows.now.table c.bare-then-is_nullable-2.result.now c.bare-then-is_nullable-2-2.result.now)
+    (λ u a. marked_once once marked (moved (Lower c.args.rows.now.table) c.bare-then-is_nullable-2.ensures c.bare-then-is_nullable-2-2.ensures a))
+    c.lower_part-then-is_nullable-2.ensures
+
+pub lower_apart-returns-in_default : goal.lower_apart-returns-in_default
+lower_apart-returns-in_default t c =
+    let unmarked : (is_nullable c.args.s.now || is_nullable c.args.t.now) ≡ false = let e = c.is_nullable-3.ensures in let f = c.is_nullable-4.ensures in let g = c.if-is_nullable-2.false in cc in
+    (never, at_no_function_left c.args.rows.now.table c.s.inside.node c.args.t.now c.s.view_is c.in_default.not-Function unmarked, c.nothing.ensures)
+
+-- function types
+pub lower_of_function-returns-then-not-have_lower :
+    goal.lower_of_function-returns-then-not-have_lower
+lower_of_function-returns-then-not-have_lower t c =
+    let is : c.args.t.now ≡ function_type c.deref.result.now = sym c.t.view_is ∙ ap type_of c.in-Function.is ∙ ap function_type (sym c.deref.ensures) in
+    (never, at_lower_others c.args.rows.now.table c.args.function.now c.deref.result.now is (sym c.have_lower.ensures ∙ c.if-not-have_lower.true), c.nothing.ensures)
+
+pub lower_of_function-returns-in_default : goal.lower_of_function-returns-in_default
+lower_of_function-returns-in_default t c =
+    (never, at_no_function_right c.args.rows.now.table c.args.function.now c.t.inside.node c.t.view_is c.in_default.not-Function c.requires, c.nothing-in_default.ensures)
+
+pub lower_of_functions-upper_all-requires : goal.lower_of_functions-upper_all-requires
+lower_of_functions-upper_all-requires t c =
+    let same = have_lower_counts c.args.function.now c.args.other.now c.requires in
+    let fall = required_fall c.args.rows.now.table c.args.function.now c.args.other.now c.as_slice.result.now c.as_slice-2.result.now c.as_slice.ensures c.as_slice-2.ensures in
+    (omega (arith, fall, c.decreases), ap length c.as_slice.ensures ∙ same.0 ∙ sym (ap length c.as_slice-2.ensures))
+
+pub lower_of_functions-upper_all-requires-2 : goal.lower_of_functions-upper_all-requires-2
+lower_of_functions-upper_all-requires-2 t c =
+    let same = have_lower_counts c.args.function.now c.args.other.now c.requires in
+    let fall = optional_fall c.args.rows.now.table c.args.function.now c.args.other.now c.as_slice-3.result.now c.as_slice-4.result.now c.as_slice-3.ensures c.as_slice-4.ensures in
+    (omega (arith, fall, c.decreases), ap length c.as_slice-3.ensures ∙ same.1 ∙ sym (ap length c.as_slice-4.ensures))
+
+pub lower_of_functions-upper_named-requires : goal.lower_of_functions-upper_named-requires
+lower_of_functions-upper_named-requires t c =
+    let same = have_lower_counts c.args.function.now c.args.other.now c.requires in
+    let fall = named_fall c.args.rows.now.table c.args.function.now c.args.other.now c.as_slice-5.result.now c.as_slice-6.result.now c.as_slice-5.ensures.same c.as_slice-6.ensures.same in
+    (omega (arith, fall, c.decreases), (c.as_slice-5.ensures.in_order, same_named_lists c.as_slice-5.ensures.same c.as_slice-6.ensures.same same.2))
+
+pub lower_of_functions-lower_part-requires : goal.lower_of_functions-lower_part-requires
+lower_of_functions-lower_part-requires t c =
+    let fall = results_fall c.args.rows.now.table c.args.function.now c.args.other.now in
+    (omega (arith, fall, c.decreases), tt)
+
+pub lower_of_functions-returns : goal.lower_of_functions-returns
+lower_of_functions-returns t c =
+    let table = c.args.rows.now.table in
+    let f = c.args.function.now in
+    let g = c.args.other.now in
+    some_function (LowerApart table (function_type f) (function_type g)) c.function_part.result
+    (Uppers table (types_of c.as_slice.result.now) (types_of c.as_slice-2.result.now))
+    (Uppers table (types_of c.as_slice-3.result.now) (types_of c.as_slice-4.result.now))
+    (UpperNamed table (named_of c.as_slice-5.result.now) (named_of c.as_slice-6.result.now))
+    (Lower table f.result g.result)
+    c.in_ok-required.required c.in_ok-optional.optional c.in_ok-named.named c.in_ok-result.result
+    (λ r o n e rs os ns a.
+    lower_functions c.requires
+    (moved_types (Uppers table) c.as_slice.ensures c.as_slice-2.ensures rs)
+    (moved_types (Uppers table) c.as_slice-3.ensures c.as_slice-4.ensures os)
+    (moved_named (UpperNamed table) c.as_slice-5.ensures.same c.as_slice-6.ensures.same ns)
+    a)
+    c.in_ok-required.ensures c.in_ok-optional.ensures c.in_ok-named.ensures c.in_ok-result.ensures c.function_part.ensures

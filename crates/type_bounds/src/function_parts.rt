@@ -1,0 +1,67 @@
+//! Function types that are formed as far as they aren't too large.
+
+ghost use Rattle.std.specs.Prelude.{IfOk};
+ghost use Rattle.dart_types.specs.Ty.{Ty, Types, Named, function};
+ghost use Rattle.type_bounds.specs.PartsView.{IsPart, AreParts};
+ghost use Rattle.type_bounds.specs.NamedView.{AreNamedParts};
+
+use crate::counts::Count;
+use crate::named_parts::NamedParts;
+use crate::parts::{Part, Parts};
+use dart_types::{DartType, FunctionType, NODE_LIMIT, TypeNode};
+use std::alloc::{AllocError, Global};
+
+/// The function type of these parameters and this result.
+pub(crate) fn function_part(
+    alloc: Global,
+    required: Parts,
+    optional: Parts,
+    named: NamedParts,
+    result_part: Part,
+) -> Result<Part, AllocError>
+    ensures { IfOk result (λ part. (r o : Types) (n : Named) (e : Ty) → AreParts required r → AreParts optional o → AreNamedParts named n → IsPart result_part e → IsPart part (function r o n e)) }
+{
+    let positional = required.nodes.saturating_add(optional.nodes);
+    let params = positional.saturating_add(named.nodes);
+    let parts = params.saturating_add(result_part.count.nodes);
+    let nodes = parts.saturating_add(1);
+    let count = Count {
+        nodes,
+        takes_mark: true,
+    };
+    let unformed = Part {
+        count,
+        formed: None,
+    };
+    let required = match required.formed {
+        None => return Ok(unformed),
+        Some(required) => required,
+    };
+    let optional = match optional.formed {
+        None => return Ok(unformed),
+        Some(optional) => optional,
+    };
+    let named = match named.formed {
+        None => return Ok(unformed),
+        Some(named) => named,
+    };
+    let result = match result_part.formed {
+        None => return Ok(unformed),
+        Some(result) => result,
+    };
+    if nodes > NODE_LIMIT {
+        return Ok(unformed);
+    }
+    let function = FunctionType {
+        required,
+        optional,
+        named,
+        result,
+    };
+    Ok(Part {
+        count,
+        formed: Some(DartType {
+            node: TypeNode::Function(Box::new(alloc, function)?),
+        }),
+    })
+}

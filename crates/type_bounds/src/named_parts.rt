@@ -1,0 +1,76 @@
+//! Named parameters, and function types, that are formed as far as they aren't too large.
+
+ghost use Rattle.std.specs.Prelude.{◌≡◌, IfOk};
+ghost use Rattle.dart_types.specs.Ty.{Ty, Types, Named, no_named, more_named};
+ghost use Rattle.type_bounds.specs.PartsView.{IsPart};
+ghost use Rattle.type_bounds.specs.NamedView.{AreNamedParts, AreBefore, join_named};
+
+use crate::parts::Part;
+use dart_types::{NODE_LIMIT, NamedType, NamedTypes};
+use plain_text::PlainText;
+use std::alloc::{AllocError, Global};
+
+/// Named parameters of a function type that a rule gives. They are formed unless they are too large.
+#[derive(Drop)]
+pub(crate) struct NamedParts {
+    pub(crate) nodes: u64,
+    pub(crate) formed: Option<NamedTypes>,
+}
+
+impl NamedParts {
+    /// No parameters.
+    pub(crate) fn new(alloc: Global) -> NamedParts
+        ensures { AreNamedParts result no_named }
+    {
+        NamedParts {
+            nodes: 0,
+            formed: Some(NamedTypes::new(alloc)),
+        }
+    }
+
+    /// One more parameter at the end, whose name comes after the others.
+    pub(crate) fn with(
+        self,
+        name: &PlainText,
+        required: bool,
+        part: Part,
+    ) -> Result<NamedParts, AllocError>
+        requires { AreBefore self.formed name.now }
+        ensures { IfOk result (λ parts. (ns : Named) (t : Ty) → AreNamedParts self ns → IsPart part t → AreNamedParts parts (join_named ns (more_named name.now required t no_named))) }
+    {
+        let nodes = self.nodes.saturating_add(part.count.nodes);
+        let mut named = match self.formed {
+            None => {
+                return Ok(NamedParts {
+                    nodes,
+                    formed: None,
+                });
+            }
+            Some(named) => named,
+        };
+        let ty = match part.formed {
+            None => {
+                return Ok(NamedParts {
+                    nodes,
+                    formed: None,
+                });
+            }
+            Some(ty) => ty,
+        };
+        if nodes > NODE_LIMIT {
+            return Ok(NamedParts {
+                nodes,
+                formed: None,
+            });
+        }
+        named.push(NamedType {
+            name: name.copy()?,
+            required,
+            ty,
+        })?;
+        Ok(NamedParts {
+            nodes,
+            formed: Some(named),
+        })
+    }
+}

@@ -1,0 +1,174 @@
+//! Types that are formed as far as they aren't too large.
+
+ghost use Rattle.std.specs.Prelude.{◌≡◌, ◌≤◌, IfOk};
+ghost use Rattle.dart_types.specs.Ty.{Ty, Types, interface, no_more, more, join};
+ghost use Rattle.dart_types.specs.Sizes.{size_of};
+ghost use Rattle.dart_types.specs.Normal.{nullable_of};
+ghost use Rattle.dart_types.specs.Formed.{Forms};
+ghost use Rattle.dart_types.specs.declared.refusal.TheConstants.{NODE_LIMIT};
+ghost use Rattle.type_bounds.specs.PartsView.{IsPart, AreParts, IsInterfaceWithin};
+
+use crate::counts::Count;
+use dart_types::{ClassId, DartType, NODE_LIMIT, TypeList, TypeNode, TypeRefusal};
+use std::alloc::{AllocError, Global};
+
+/// A type that a rule gives, with its count. It is formed unless it is too large.
+#[derive(Drop)]
+pub(crate) struct Part {
+    pub(crate) count: Count,
+    pub(crate) formed: Option<DartType>,
+}
+
+/// Types beside each other in a type that a rule gives. They are formed unless they are too large.
+#[derive(Drop)]
+pub(crate) struct Parts {
+    pub(crate) nodes: u64,
+    pub(crate) formed: Option<TypeList>,
+}
+
+impl Part {
+    /// A type that is at hand.
+    pub(crate) fn of(alloc: Global, t: &DartType) -> Result<Part, AllocError>
+        ensures { IfOk result (λ part. IsPart part t.now) }
+    {
+        let count = Count::of(t);
+        if count.nodes > NODE_LIMIT {
+            return Ok(Part {
+                count,
+                formed: None,
+            });
+        }
+        let copied = t.copy(alloc)?;
+        Ok(Part {
+            count,
+            formed: Some(copied),
+        })
+    }
+
+    /// A type that isn't too large.
+    pub(crate) fn small(t: DartType) -> Part
+        requires { size_of t ≤ NODE_LIMIT }
+        ensures { IsPart result t }
+    {
+        let count = Count::of(&t);
+        Part {
+            count,
+            formed: Some(t),
+        }
+    }
+
+    /// The normal form of `T?`, from T.
+    pub(crate) fn nullable(self, alloc: Global) -> Result<Part, AllocError>
+        ensures { IfOk result (λ part. (t : Ty) → IsPart self t → IsPart part (nullable_of t)) }
+    {
+        let count = self.count.nullable();
+        let bare = match self.formed {
+            None => {
+                return Ok(Part {
+                    count,
+                    formed: None,
+                });
+            }
+            Some(bare) => bare,
+        };
+        if count.nodes > NODE_LIMIT {
+            return Ok(Part {
+                count,
+                formed: None,
+            });
+        }
+        let formed = DartType::nullable(alloc, bare)?;
+        Ok(Part {
+            count,
+            formed: Some(formed),
+        })
+    }
+
+    /// The type, or how many types stand in it where it is too large.
+    pub(crate) fn finish(self) -> Result<DartType, TypeRefusal>
+        ensures { (t : Ty) → IsPart self t → Forms result t }
+    {
+        match self.formed {
+            None => Err(TypeRefusal::TooLarge {
+                nodes: self.count.nodes,
+            }),
+            Some(formed) => Ok(formed),
+        }
+    }
+
+    /// The class with these arguments.
+    pub(crate) fn interface(class: ClassId, args: Parts) -> Part
+        ensures { (ts : Types) → AreParts args ts → IsPart result (interface class ts) }
+    {
+        let nodes = args.nodes.saturating_add(1);
+        let count = Count {
+            nodes,
+            takes_mark: true,
+        };
+        let formed = match args.formed {
+            None => None,
+            Some(args) => interface_within(nodes, class, args),
+        };
+        Part { count, formed }
+    }
+}
+
+// The class with these arguments, unless it has too many nodes.
+fn interface_within(nodes: u64, class: ClassId, args: TypeList) -> Option<DartType>
+    ensures { IsInterfaceWithin nodes class args result }
+{
+    if nodes > NODE_LIMIT {
+        return None;
+    }
+    Some(DartType {
+        node: TypeNode::Interface { class, args },
+    })
+}
+
+impl Parts {
+    /// No types.
+    pub(crate) fn new(alloc: Global) -> Parts
+        ensures { AreParts result no_more }
+    {
+        Parts {
+            nodes: 0,
+            formed: Some(TypeList::new(alloc)),
+        }
+    }
+
+    /// One more type at the end.
+    pub(crate) fn with(self, part: Part) -> Result<Parts, AllocError>
+        ensures { IfOk result (λ parts. (ts : Types) (t : Ty) → AreParts self ts → IsPart part t → AreParts parts (join ts (more t no_more))) }
+    {
+        let nodes = self.nodes.saturating_add(part.count.nodes);
+        let mut types = match self.formed {
+            None => {
+                return Ok(Parts {
+                    nodes,
+                    formed: None,
+                });
+            }
+            Some(types) => types,
+        };
+        let formed = match part.formed {
+            None => {
+                return Ok(Parts {
+                    nodes,
+                    formed: None,
+                });
+            }
+            Some(formed) => formed,
+        };
+        if nodes > NODE_LIMIT {
+            return Ok(Parts {
+                nodes,
+                formed: None,
+            });
+        }
+        types.push(formed)?;
+        Ok(Parts {
+            nodes,
+            formed: Some(types),
+        })
+    }
+}

@@ -1,0 +1,430 @@
+//! Upper and lower bounds of types.
+
+ghost use Rattle.std.specs.Prelude.{◌≡◌, true, false, length, IfOk};
+ghost use Rattle.dart_types.specs.Ty.{invalid, never, interface, no_more, types_of};
+ghost use Rattle.dart_types.specs.Named.{named_of, names_of, AreInOrder};
+ghost use Rattle.dart_types.specs.Node.{function_type};
+ghost use Rattle.type_bounds.specs.Bounds.{Upper, UpperApart, Uppers, UpperNamed, Lower, LowerApart, LowerParams, LowerNamed, AreApart, is_bare, is_nullable, is_settled};
+ghost use Rattle.type_bounds.specs.Signatures.{have_upper, have_lower, same_names};
+ghost use Rattle.type_bounds.specs.FormsSome.{FormsSome};
+ghost use Rattle.type_bounds.specs.PartsView.{IsPart, IsSomePart, AreSomeParts};
+ghost use Rattle.type_bounds.specs.NamedView.{AreSomeNamed};
+
+use crate::function_parts::function_part;
+use crate::named_parts::NamedParts;
+use crate::parts::{Part, Parts};
+use crate::signatures::{have_lower, have_upper};
+use crate::superclasses::upper_of_classes;
+use crate::type_forms::{bare, is_null, is_nullable, is_promoted_from};
+use dart_types::{
+    ClassId, DartType, FUNCTION, FunctionType, NamedType, NamedTypes, OBJECT, Rows, TypeList,
+    TypeNode, TypeRefusal, is_subtype,
+};
+use std::alloc::{AllocError, Global};
+
+/// The upper bound of two types, by the rows of its table: `Invalid` where the table has no row for
+/// them, as for a variable without a bound. It is refused exactly where more than `NODE_LIMIT` types
+/// would stand in it.
+pub fn upper(
+    alloc: Global,
+    rows: &Rows,
+    s: &DartType,
+    t: &DartType,
+) -> Result<DartType, TypeRefusal>
+    ensures { FormsSome (Upper rows.now.table s.now t.now) result }
+{
+    let part = upper_part(alloc, rows, s, t)?;
+    part.finish()
+}
+
+/// The lower bound of two types, by the rows of its table. It is refused exactly where more than
+/// `NODE_LIMIT` types would stand in it.
+pub fn lower(
+    alloc: Global,
+    rows: &Rows,
+    s: &DartType,
+    t: &DartType,
+) -> Result<DartType, TypeRefusal>
+    ensures { FormsSome (Lower rows.now.table s.now t.now) result }
+{
+    let part = lower_part(alloc, rows, s, t)?;
+    part.finish()
+}
+
+// The invalid type, which is the bound where the table has no row.
+fn no_bound() -> Part
+    ensures { IsPart result invalid }
+{
+    Part::small(DartType {
+        node: TypeNode::Invalid,
+    })
+}
+
+// A class without arguments.
+fn class_part(alloc: Global, class: ClassId) -> Part
+    ensures { IsPart result (interface class no_more) }
+{
+    Part::small(DartType {
+        node: TypeNode::Interface {
+            class,
+            args: TypeList::new(alloc),
+        },
+    })
+}
+
+// The upper bound of two types.
+#[cycle(bounds)]
+fn upper_part(alloc: Global, rows: &Rows, s: &DartType, t: &DartType) -> Result<Part, AllocError>
+    ensures { IfOk result (IsSomePart (Upper rows.now.table s.now t.now)) }
+{
+    if is_subtype(rows, s, t) {
+        return Part::of(alloc, t);
+    }
+    if is_subtype(rows, t, s) {
+        return Part::of(alloc, s);
+    }
+    upper_apart(alloc, rows, s, t)
+}
+
+// The upper bound of two types that aren't subtypes of each other.
+#[cycle(bounds)]
+fn upper_apart(alloc: Global, rows: &Rows, s: &DartType, t: &DartType) -> Result<Part, AllocError>
+    requires apart { AreApart rows.now.table s.now t.now }
+    ensures { IfOk result (IsSomePart (UpperApart rows.now.table s.now t.now)) }
+{
+    if is_null(s) {
+        return Part::of(alloc, t)?.nullable(alloc);
+    }
+    if is_null(t) {
+        return Part::of(alloc, s)?.nullable(alloc);
+    }
+    if is_nullable(s) | is_nullable(t) {
+        return upper_part(alloc, rows, bare(s), bare(t))?.nullable(alloc);
+    }
+    upper_bare(alloc, rows, s, t)
+}
+
+// The upper bound of two types without `?` that aren't subtypes of each other, where variables on
+// the left give way first.
+#[cycle(bounds)]
+fn upper_bare(alloc: Global, rows: &Rows, s: &DartType, t: &DartType) -> Result<Part, AllocError>
+    requires apart { AreApart rows.now.table s.now t.now }
+    requires left { is_bare s.now ≡ true }
+    requires right { is_bare t.now ≡ true }
+    ensures { IfOk result (IsSomePart (UpperApart rows.now.table s.now t.now)) }
+{
+    match &s.node {
+        TypeNode::Var(var) => match rows.bound(*var) {
+            None => Ok(no_bound()),
+            Some(bound) => upper_part(alloc, rows, bound, t),
+        },
+        TypeNode::Promoted { var, to } => {
+            if is_promoted_from(*var, t) {
+                return Ok(Part::small(DartType {
+                    node: TypeNode::Var(*var),
+                }));
+            }
+            upper_part(alloc, rows, to, t)
+        }
+        _ => upper_right(alloc, rows, s, t),
+    }
+}
+
+// The upper bound where variables on the right give way.
+#[cycle(bounds)]
+fn upper_right(alloc: Global, rows: &Rows, s: &DartType, t: &DartType) -> Result<Part, AllocError>
+    requires apart { AreApart rows.now.table s.now t.now }
+    requires left { is_settled s.now ≡ true }
+    requires right { is_bare t.now ≡ true }
+    ensures { IfOk result (IsSomePart (UpperApart rows.now.table s.now t.now)) }
+{
+    match &t.node {
+        TypeNode::Var(var) => match rows.bound(*var) {
+            None => Ok(no_bound()),
+            Some(bound) => upper_part(alloc, rows, s, bound),
+        },
+        TypeNode::Promoted { to, .. } => upper_part(alloc, rows, s, to),
+        _ => upper_settled(alloc, rows, s, t),
+    }
+}
+
+// The upper bound of two types that are no variables.
+#[cycle(bounds)]
+fn upper_settled(alloc: Global, rows: &Rows, s: &DartType, t: &DartType) -> Result<Part, AllocError>
+    requires apart { AreApart rows.now.table s.now t.now }
+    requires left { is_settled s.now ≡ true }
+    requires right { is_settled t.now ≡ true }
+    ensures { IfOk result (IsSomePart (UpperApart rows.now.table s.now t.now)) }
+{
+    match &s.node {
+        TypeNode::Interface { class, args } => upper_of_class(alloc, rows, *class, args, t),
+        TypeNode::Function(function) => upper_of_function(alloc, rows, function, t),
+        _ => Ok(no_bound()),
+    }
+}
+
+// The upper bound of a class and another type.
+#[cycle(bounds)]
+fn upper_of_class(
+    alloc: Global,
+    rows: &Rows,
+    class: ClassId,
+    args: &TypeList,
+    t: &DartType,
+) -> Result<Part, AllocError>
+    requires apart { AreApart rows.now.table (interface class (types_of args.now)) t.now }
+    requires right { is_settled t.now ≡ true }
+    ensures { IfOk result (IsSomePart (UpperApart rows.now.table (interface class (types_of args.now)) t.now)) }
+{
+    match &t.node {
+        TypeNode::Function(_) => Ok(class_part(alloc, OBJECT)),
+        TypeNode::Interface {
+            class: other,
+            args: others,
+        } => {
+            if class != *other {
+                return upper_of_classes(alloc, rows, class, args, *other, others);
+            }
+            if args.as_slice().len() != others.as_slice().len() {
+                return Ok(no_bound());
+            }
+            let uppers = upper_all(alloc, rows, args.as_slice(), others.as_slice())?;
+            Ok(Part::interface(class, uppers))
+        }
+        _ => Ok(no_bound()),
+    }
+}
+
+// The upper bound of a function type and another type.
+#[cycle(bounds)]
+fn upper_of_function(
+    alloc: Global,
+    rows: &Rows,
+    function: &FunctionType,
+    t: &DartType,
+) -> Result<Part, AllocError>
+    requires apart { AreApart rows.now.table (function_type function.now) t.now }
+    requires right { is_settled t.now ≡ true }
+    ensures { IfOk result (IsSomePart (UpperApart rows.now.table (function_type function.now) t.now)) }
+{
+    match &t.node {
+        TypeNode::Function(other) => {
+            if !have_upper(function, other) {
+                return Ok(class_part(alloc, FUNCTION));
+            }
+            upper_of_functions(alloc, rows, function, other)
+        }
+        TypeNode::Interface { .. } => Ok(class_part(alloc, OBJECT)),
+        _ => Ok(no_bound()),
+    }
+}
+
+// The upper bound of two function types that have one that is one.
+#[cycle(bounds)]
+fn upper_of_functions(
+    alloc: Global,
+    rows: &Rows,
+    function: &FunctionType,
+    other: &FunctionType,
+) -> Result<Part, AllocError>
+    requires { have_upper (types_of function.now.required) (types_of function.now.optional) (named_of function.now.named) (types_of other.now.required) (types_of other.now.optional) (named_of other.now.named) ≡ true }
+    ensures { IfOk result (IsSomePart (UpperApart rows.now.table (function_type function.now) (function_type other.now))) }
+{
+    let required = lower_all(
+        alloc,
+        rows,
+        function.required.as_slice(),
+        other.required.as_slice(),
+    )?;
+    let optional = lower_all(
+        alloc,
+        rows,
+        function.optional.as_slice(),
+        other.optional.as_slice(),
+    )?;
+    let named = lower_named(alloc, rows, function.named.as_slice(), &other.named)?;
+    let result = upper_part(alloc, rows, &function.result, &other.result)?;
+    function_part(alloc, required, optional, named, result)
+}
+
+// The upper bounds of types at the same places of two lists that are as long.
+#[cycle(bounds)]
+fn upper_all(
+    alloc: Global,
+    rows: &Rows,
+    types: &[DartType],
+    others: &[DartType],
+) -> Result<Parts, AllocError>
+    requires { length types.now ≡ length others.now }
+    ensures { IfOk result (AreSomeParts (Uppers rows.now.table (types_of types.now) (types_of others.now))) }
+{
+    let mut uppers = Parts::new(alloc);
+    for i in 0..types.len() {
+        let part = upper_part(alloc, rows, &types[i], &others[i])?;
+        uppers = uppers.with(part)?;
+    }
+    Ok(uppers)
+}
+
+// The lower bounds of types at the same places of two lists, as far as both go.
+#[cycle(bounds)]
+fn lower_all(
+    alloc: Global,
+    rows: &Rows,
+    types: &[DartType],
+    others: &[DartType],
+) -> Result<Parts, AllocError>
+    ensures { IfOk result (AreSomeParts (LowerParams rows.now.table (types_of types.now) (types_of others.now))) }
+{
+    let mut lowers = Parts::new(alloc);
+    for i in 0..types.len() {
+        if i >= others.len() {
+            return Ok(lowers);
+        }
+        let part = lower_part(alloc, rows, &types[i], &others[i])?;
+        lowers = lowers.with(part)?;
+    }
+    Ok(lowers)
+}
+
+// The named parameters that both lists have, with lower bounds.
+#[cycle(bounds)]
+fn lower_named(
+    alloc: Global,
+    rows: &Rows,
+    named: &[NamedType],
+    others: &NamedTypes,
+) -> Result<NamedParts, AllocError>
+    requires { AreInOrder (names_of named.now) }
+    ensures { IfOk result (AreSomeNamed (LowerNamed rows.now.table (named_of named.now) (named_of others.now))) }
+{
+    let mut lowers = NamedParts::new(alloc);
+    for i in 0..named.len() {
+        let own = &named[i];
+        if let Some(other) = others.get(&own.name) {
+            let required = own.required | other.required;
+            let part = lower_part(alloc, rows, &own.ty, &other.ty)?;
+            lowers = lowers.with(&own.name, required, part)?;
+        }
+    }
+    Ok(lowers)
+}
+
+// The named parameters of two lists with the same names, with upper bounds.
+#[cycle(bounds)]
+fn upper_named(
+    alloc: Global,
+    rows: &Rows,
+    named: &[NamedType],
+    others: &[NamedType],
+) -> Result<NamedParts, AllocError>
+    requires in_order { AreInOrder (names_of named.now) }
+    requires same { same_names (named_of named.now) (named_of others.now) ≡ true }
+    ensures { IfOk result (AreSomeNamed (UpperNamed rows.now.table (named_of named.now) (named_of others.now))) }
+{
+    let mut uppers = NamedParts::new(alloc);
+    for i in 0..named.len() {
+        let own = &named[i];
+        let other = &others[i];
+        let required = own.required & other.required;
+        let part = upper_part(alloc, rows, &own.ty, &other.ty)?;
+        uppers = uppers.with(&own.name, required, part)?;
+    }
+    Ok(uppers)
+}
+
+// The lower bound of two types.
+#[cycle(bounds)]
+fn lower_part(alloc: Global, rows: &Rows, s: &DartType, t: &DartType) -> Result<Part, AllocError>
+    ensures { IfOk result (IsSomePart (Lower rows.now.table s.now t.now)) }
+{
+    if is_subtype(rows, s, t) {
+        return Part::of(alloc, s);
+    }
+    if is_subtype(rows, t, s) {
+        return Part::of(alloc, t);
+    }
+    lower_apart(alloc, rows, s, t)
+}
+
+// The lower bound of two types that aren't subtypes of each other.
+#[cycle(bounds)]
+fn lower_apart(alloc: Global, rows: &Rows, s: &DartType, t: &DartType) -> Result<Part, AllocError>
+    requires apart { AreApart rows.now.table s.now t.now }
+    ensures { IfOk result (IsSomePart (LowerApart rows.now.table s.now t.now)) }
+{
+    if is_nullable(s) & is_nullable(t) {
+        return lower_part(alloc, rows, bare(s), bare(t))?.nullable(alloc);
+    }
+    if is_nullable(s) | is_nullable(t) {
+        return lower_part(alloc, rows, bare(s), bare(t));
+    }
+    match &s.node {
+        TypeNode::Function(function) => lower_of_function(alloc, rows, function, t),
+        _ => Ok(nothing()),
+    }
+}
+
+// `Never`.
+fn nothing() -> Part
+    ensures { IsPart result never }
+{
+    Part::small(DartType {
+        node: TypeNode::Never,
+    })
+}
+
+// The lower bound of a function type and another type without `?`.
+#[cycle(bounds)]
+fn lower_of_function(
+    alloc: Global,
+    rows: &Rows,
+    function: &FunctionType,
+    t: &DartType,
+) -> Result<Part, AllocError>
+    requires { is_nullable t.now ≡ false }
+    ensures { IfOk result (IsSomePart (LowerApart rows.now.table (function_type function.now) t.now)) }
+{
+    match &t.node {
+        TypeNode::Function(other) => {
+            if !have_lower(function, other) {
+                return Ok(nothing());
+            }
+            lower_of_functions(alloc, rows, function, other)
+        }
+        _ => Ok(nothing()),
+    }
+}
+
+// The lower bound of two function types that have one that is one.
+#[cycle(bounds)]
+fn lower_of_functions(
+    alloc: Global,
+    rows: &Rows,
+    function: &FunctionType,
+    other: &FunctionType,
+) -> Result<Part, AllocError>
+    requires { have_lower (types_of function.now.required) (types_of function.now.optional) (named_of function.now.named) (types_of other.now.required) (types_of other.now.optional) (named_of other.now.named) ≡ true }
+    ensures { IfOk result (IsSomePart (LowerApart rows.now.table (function_type function.now) (function_type other.now))) }
+{
+    let required = upper_all(
+        alloc,
+        rows,
+        function.required.as_slice(),
+        other.required.as_slice(),
+    )?;
+    let optional = upper_all(
+        alloc,
+        rows,
+        function.optional.as_slice(),
+        other.optional.as_slice(),
+    )?;
+    let named = upper_named(
+        alloc,
+        rows,
+        function.named.as_slice(),
+        other.named.as_slice(),
+    )?;
+    let result = lower_part(alloc, rows, &function.result, &other.result)?;
+    function_part(alloc, required, optional, named, result)
+}
