@@ -1,0 +1,105 @@
+-- What the definitions say of a few calls.
+use Rattle.std.proofs.Common.{◌≡◌, ℕ, zero, suc, ◌<◌, List, [], ◌∷◌, ◌++◌, get_or, None, Ok, Err, refl, sym, subst, arith}
+use Rattle.std.specs.Prelude.{Contains}
+use Rattle.dart_types.specs.Ty.{Ty, null, interface, variable, nullable, no_more, more}
+use Rattle.dart_types.specs.Heads.{object}
+use Rattle.dart_types.specs.Substitution.{put, by_params}
+use Rattle.dart_types.specs.Tables.{Table}
+use Rattle.dart_types.specs.Sub.{Sub, right_top, right_object, super_interface}
+use Rattle.dart_types.specs.declared.ids.VarId.{VarId}
+use Rattle.dart_types.specs.declared.ids.TheConstants.{CORE, OBJECT}
+use Rattle.dart_types.specs.declared.class_rows.ClassRow.{ClassRow}
+use Rattle.dart_types.proofs.Above.{nullable_null}
+use Rattle.type_bounds.specs.Bounds.{upper_apart, null_right}
+use Rattle.type_infer.specs.Pairs.{Pair, paired}
+use Rattle.type_infer.specs.Matching.{constrained}
+use Rattle.type_infer.specs.Solutions.{Solution, by_upper, no_other, one_other}
+use Rattle.type_infer.specs.Inference.{context_pair, Gathered, none_left, one_pair, Inferred, by_constraints, one_given, all_given, refused_here, solved, outside, no_bound}
+use Rattle.type_infer.specs.declared.constraints.Side.TheVariants.{AtLeast}
+use Rattle.type_infer.specs.declared.constraints.Constraint.{Constraint}
+use Rattle.type_infer.specs.declared.refusal.InferRefusal.TheVariants.{NoSolution, Unconstrained}
+
+abbrev int : Ty
+int = interface (record { lib = CORE; index = 5 }) no_more
+
+-- the parameter T
+abbrev t : VarId
+t = record { lib = CORE; index = 1 }
+
+abbrev object_row : ClassRow
+object_row = record { id = OBJECT; params = []; supers = []; depth = 0 }
+
+abbrev int_row : ClassRow
+int_row = record { id = record { lib = CORE; index = 5 }; params = []; supers = object ∷ []; depth = 1 }
+
+-- rows in which T has this bound
+abbrev rows_with : Ty → Table
+rows_with bound = record { classes = object_row ∷ int_row ∷ []; vars = record { var = t; bound = bound } ∷ [] }
+
+-- a call with the result T, no context, and the formals T and T for arguments of the types int and Null
+abbrev int_and_null : List Pair
+int_and_null = context_pair (variable t) None ++ paired AtLeast (more (variable t) (more (variable t) no_more)) (more int (more null no_more))
+
+abbrev at_least : Ty → Constraint
+at_least s = record { param = t; side = AtLeast; ty = s }
+
+gathered : (table : Table) → Gathered table (t ∷ []) int_and_null (Ok (at_least int ∷ at_least null ∷ []))
+gathered table = one_pair (constrained refl refl) tt (one_pair (constrained refl refl) tt none_left)
+
+-- Null is no subtype of int, nor of Object
+null_not_int : (bound : Ty) → Sub (rows_with bound) null int → ⊥
+null_not_int bound (right_top e) = cc
+null_not_int bound (right_object e p) = cc
+
+null_not_object : (bound : Ty) → Sub (rows_with bound) null object → ⊥
+null_not_object bound (right_top e) = cc
+null_not_object bound (right_object e p) = cc
+
+-- what a list of one holds
+only : (v : Ty) → Contains (object ∷ []) v → v ≡ object
+only v c = at c.0 c.1 c.2
+  where
+    at : (j : ℕ) → j < 1 → get_or (object ∷ []) j v ≡ v → v ≡ object
+    at zero lt e = sym e
+    at (suc j) lt e = absurd (omega arith)
+
+none : (v : Ty) → Contains [] v → ⊥
+none v c = absurd (omega (arith, c.1))
+
+-- Object and int are no subtypes of Null
+object_not_null : (bound : Ty) → Sub (rows_with bound) object null → ⊥
+object_not_null bound (right_top e) = cc
+object_not_null bound (right_object e p) = cc
+object_not_null bound (super_interface row r v i k a) =
+    let is : row ≡ object_row = cc in
+    none v (subst (λ (q : ClassRow). Contains q.supers v) is i)
+
+int_not_null : (bound : Ty) → Sub (rows_with bound) int null → ⊥
+int_not_null bound (right_top e) = cc
+int_not_null bound (right_object e p) = cc
+int_not_null bound (super_interface row r v i k a) =
+    let is : row ≡ int_row = cc in
+    let same : v ≡ object = only v (subst (λ (q : ClassRow). Contains q.supers v) is i) in
+    object_not_null bound (subst (λ (w : Ty). Sub (rows_with bound) (put (by_params row.params no_more) w) null) same a)
+
+-- T is at least int and Null, so it is `int?`
+solution : (bound : Ty) → Solution (rows_with bound) (at_least int ∷ at_least null ∷ []) t (Ok (nullable int))
+solution bound =
+    by_upper refl
+    (one_other (omega arith) (upper_apart (int_not_null bound, null_not_int bound) null_right) (no_other (omega arith)))
+
+-- which is within the bound `Object?`
+nullable_int : Inferred (rows_with (nullable object)) (t ∷ []) int_and_null (Ok (nullable int ∷ []))
+nullable_int =
+    by_constraints (gathered (rows_with (nullable object)))
+    (one_given (solved (solution (nullable object)) (omega arith) (right_top refl)) all_given)
+
+-- and not within the bound Object
+no_solution : Inferred (rows_with object) (t ∷ []) int_and_null (Err (NoSolution t))
+no_solution =
+    by_constraints (gathered (rows_with object))
+    (refused_here (outside (solution object) (omega arith) (λ a. null_not_object object (nullable_null (rows_with object) a))))
+
+-- with neither formals nor a context nothing tells T
+unconstrained : Inferred (rows_with (nullable object)) (t ∷ []) (context_pair (variable t) None ++ paired AtLeast no_more no_more) (Err (Unconstrained t))
+unconstrained = by_constraints none_left (refused_here (no_bound (refl, refl) refl))

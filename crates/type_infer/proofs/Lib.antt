@@ -1,0 +1,19 @@
+-- Proofs.
+pub mod HandOn
+pub mod ReadTypes
+pub mod FoldSteps
+pub mod GatherSteps
+pub mod ArgumentSteps
+pub mod ContextSteps
+pub mod WithinBounds
+pub mod Examples
+pub mod Filtered
+pub mod Parts
+pub mod NameTests
+pub mod WaySteps
+pub mod AboveSteps
+pub mod Refusing
+pub mod SideMeasure
+pub mod SideFalls
+pub mod FindSteps
+pub mod MatchSteps

@@ -1,0 +1,231 @@
+-- The rules of matching, as the code takes them.
+use Rattle.std.proofs.Common.{◌≡◌, ℕ, ◌++◌, Box, Global, Bool, true, false, List, [], ◌∷◌, Option, Some, None, Result, Ok, Err, refl, sym, ◌∙◌, subst}
+use Rattle.std.specs.Prelude.{◌≢◌}
+use Rattle.dart_types.specs.Ty.{Ty, Types, null, interface, variable, nullable, types_of, join}
+use Rattle.dart_types.specs.Named.{named_of}
+use Rattle.dart_types.specs.Node.{type_of, function_type}
+use Rattle.dart_types.specs.Forms.{params_of}
+use Rattle.dart_types.specs.Same.{same_class}
+use Rattle.dart_types.specs.Tables.{Table}
+use Rattle.dart_types.specs.WellFormed.{is_among}
+use Rattle.dart_types.specs.declared.ids.ClassId.{ClassId}
+use Rattle.dart_types.specs.declared.ids.VarId.{VarId}
+use Rattle.dart_types.specs.declared.types.DartType.{DartType}
+use Rattle.dart_types.specs.declared.types.FunctionType.{FunctionType}
+use Rattle.dart_types.specs.declared.types.NamedType.{NamedType}
+use Rattle.dart_types.specs.declared.types.TypeList.{TypeList}
+use Rattle.dart_types.specs.declared.types.TypeNode.{TypeNode}
+use Rattle.dart_types.specs.declared.types.TypeNode.TheVariants.{Invalid, Never, Void, Null, Interface, Function, Var, Promoted, Nullable}
+use Rattle.dart_types.specs.declared.refusal.TypeRefusal.{TypeRefusal}
+use Rattle.dart_types.specs.declared.refusal.TypeRefusal.TheVariants.{TooLarge, Memory}
+use Rattle.type_bounds.specs.Bounds.{is_bare}
+use Rattle.type_infer.specs.Above.{arguments_of, FormsAbove}
+use Rattle.type_infer.specs.Constraints.{opposite}
+use Rattle.type_infer.specs.Finds.{Finds}
+use Rattle.type_infer.specs.Matching.{End, mismatched, too_large, ended, is_on_side, is_built, is_as_it_stands, is_class, is_function, is_leaf, Match, MatchAll, constrained, open_there, null_at_mark, marked_both, marked_formal, marked_other, bound_of_other, unbound_other, promoted_other, one_class, other_climbs, formal_climbs, other_too_large, formal_too_large, other_elsewhere, formal_elsewhere, functions, other_signature, leaf}
+use Rattle.type_infer.specs.Open.{is_open}
+use Rattle.type_infer.specs.Pairs.{Pair, pair, paired, paired_by_name, signatures_fit}
+use Rattle.type_infer.specs.Ways.{GivesWay, stands, to_bound, to_nothing, to_promoted, to_bare}
+use Rattle.type_infer.specs.declared.constraints.Constraint.{Constraint}
+use Rattle.type_infer.specs.declared.constraints.Side.{Side}
+use Rattle.type_infer.specs.declared.constraints.Side.TheVariants.{AtLeast, AtMost}
+use Rattle.type_infer.proofs.FindSteps.{finds_by, finds_nothing, finds_no_fit, finds_then, finds_end, finds_refusal}
+use Rattle.type_infer.proofs.NameTests.{join-types_of}
+
+-- forms of types, by what they are not
+pub bare_node : (n : TypeNode) → n ≢ Null → ((u : Box DartType Global) → n ≢ Nullable u) → is_bare (type_of n) ≡ true
+bare_node Invalid h k = refl
+bare_node Never h k = refl
+bare_node Void h k = refl
+bare_node Null h k = absurd (h refl)
+bare_node (Interface c ts) h k = refl
+bare_node (Function f) h k = refl
+bare_node (Var x) h k = refl
+bare_node (Promoted x u) h k = refl
+bare_node (Nullable u) h k = absurd (k u refl)
+
+pub no_class : (n : TypeNode) → ((c : ClassId) (ts : TypeList) → n ≢ Interface c ts) → is_class (type_of n) ≡ false
+no_class Invalid h = refl
+no_class Never h = refl
+no_class Void h = refl
+no_class Null h = refl
+no_class (Interface c ts) h = absurd (h c ts refl)
+no_class (Function f) h = refl
+no_class (Var x) h = refl
+no_class (Promoted x u) h = refl
+no_class (Nullable u) h = refl
+
+pub no_function : (n : TypeNode) → ((f : Box FunctionType Global) → n ≢ Function f) → is_function (type_of n) ≡ false
+no_function Invalid h = refl
+no_function Never h = refl
+no_function Void h = refl
+no_function Null h = refl
+no_function (Interface c ts) h = refl
+no_function (Function f) h = absurd (h f refl)
+no_function (Var x) h = refl
+no_function (Promoted x u) h = refl
+no_function (Nullable u) h = refl
+
+-- a class faces no class, and a function type no function type
+pub class_leaf : (params : List VarId) (side : Side) (c : ClassId) (ts : Types) (s : Ty) → is_as_it_stands side s ≡ true → is_class s ≡ false → is_leaf params side (interface c ts) s ≡ true
+class_leaf params side c ts s h k = rw (h, k) refl
+
+pub function_leaf : (params : List VarId) (side : Side) (f : FunctionType) (s : Ty) → is_as_it_stands side s ≡ true → is_function s ≡ false → is_leaf params side (function_type f) s ≡ true
+function_leaf params side f s h k = rw (h, k) refl
+
+module _ (table : Table) (params : List VarId) (side : Side) where
+  abbrev Fit : Ty → Ty → List Constraint → End → Type 0
+  Fit t s = Match table params side t s
+
+  -- a leaf
+  pub finds_leaf : (t s u : Ty) (before : List Constraint) (b : Bool) → t ≡ u → is_leaf params side u s ≡ true → b ≡ is_on_side table side t s → Finds (Fit t s) before before (Ok b)
+  finds_leaf t s u before b is l e = at b e (leaf (subst (λ (v : Ty). is_leaf params side v s ≡ true) (sym is) l))
+    where
+      at : (b : Bool) → b ≡ is_on_side table side t s → Fit t s [] (ended (is_on_side table side t s)) → Finds (Fit t s) before before (Ok b)
+      at true e m = finds_nothing (Fit t s) before (subst (λ (x : Bool). Fit t s [] (ended x)) (sym e) m)
+      at false e m = finds_no_fit (Fit t s) before (subst (λ (x : Bool). Fit t s [] (ended x)) (sym e) m)
+
+  -- a parameter
+  pub finds_open : (x : VarId) (t s : Ty) (before : List Constraint) → t ≡ variable x → is_among params x ≡ true → is_open s ≡ true → Finds (Fit t s) before before (Ok true)
+  finds_open x t s before is a o = subst (λ (u : Ty). Finds (Fit u s) before before (Ok true)) (sym is) (finds_nothing (Fit (variable x) s) before (open_there a o))
+
+  pub finds_constraint : (x : VarId) (t s copied : Ty) (before after : List Constraint) → t ≡ variable x → is_among params x ≡ true → is_open s ≡ false → copied ≡ s → after ≡ before ++ record { param = x; side = side; ty = copied } ∷ [] → Finds (Fit t s) before after (Ok true)
+  finds_constraint x t s copied before after is a o same e = subst (λ (u : Ty). Finds (Fit u s) before after (Ok true)) (sym is) (subst (λ (u : Ty). Finds (Fit (variable x) u) before after (Ok true)) same found)
+    where
+      found : Finds (Fit (variable x) copied) before after (Ok true)
+      found = (record { param = x; side = side; ty = copied } ∷ [], constrained a (subst (λ (u : Ty). is_open u ≡ false) (sym same) o), e)
+
+  -- a formal with `?`
+  pub finds_null : (t s : Ty) (before : List Constraint) → s ≡ null → Finds (Fit (nullable t) s) before before (Ok true)
+  finds_null t s before is = subst (λ (u : Ty). Finds (Fit (nullable t) u) before before (Ok true)) (sym is) (finds_nothing (Fit (nullable t) null) before null_at_mark)
+
+  pub finds_both_marked : (t s u : Ty) (before after : List Constraint) (r : Result Bool TypeRefusal) → s ≡ nullable u → Finds (Fit t u) before after r → Finds (Fit (nullable t) s) before after r
+  finds_both_marked t s u before after r is f = subst (λ (v : Ty). Finds (Fit (nullable t) v) before after r) (sym is) (finds_by (Fit t u) (Fit (nullable t) (nullable u)) before after r (λ cs end m. marked_both m) f)
+
+  pub finds_bare : (t s : Ty) (before after : List Constraint) (r : Result Bool TypeRefusal) → is_bare s ≡ true → Finds (Fit t s) before after r → Finds (Fit (nullable t) s) before after r
+  finds_bare t s before after r b f = finds_by (Fit t s) (Fit (nullable t) s) before after r (λ cs end m. marked_formal b m) f
+
+-- what a type gives way to
+way_fits : (table : Table) (params : List VarId) (t : Ty) → is_built t ≡ true → {side : Side} {s : Ty} {last : Option Ty} → GivesWay table side s last → (u : Ty) → last ≡ Some u → (cs : List Constraint) (end : End) → Match table params side t u cs end → Match table params side t s cs end
+way_fits table params t b {side} {s} (stands k) u e cs end m = let is : u ≡ s = cc in subst (λ (v : Ty). Match table params side t v cs end) is m
+way_fits table params t b (to_bound k g) u e cs end m = bound_of_other b k (way_fits table params t b g u e cs end m)
+way_fits table params t b (to_nothing k) u e cs end m = cc
+way_fits table params t b (to_promoted g) u e cs end m = promoted_other b (way_fits table params t b g u e cs end m)
+way_fits table params t b (to_bare g) u e cs end m = marked_other b (way_fits table params t b g u e cs end m)
+
+way_ends : (table : Table) (params : List VarId) (t : Ty) → is_built t ≡ true → {side : Side} {s : Ty} {last : Option Ty} → GivesWay table side s last → last ≡ None → Match table params side t s [] mismatched
+way_ends table params t b (stands k) e = cc
+way_ends table params t b (to_bound k g) e = bound_of_other b k (way_ends table params t b g e)
+way_ends table params t b (to_nothing k) e = unbound_other b k
+way_ends table params t b (to_promoted g) e = promoted_other b (way_ends table params t b g e)
+way_ends table params t b (to_bare g) e = marked_other b (way_ends table params t b g e)
+
+pub way_stands : (table : Table) {side : Side} {s : Ty} {last : Option Ty} → GivesWay table side s last → (u : Ty) → last ≡ Some u → is_as_it_stands side u ≡ true
+way_stands table {side} {s} (stands k) u e = let is : s ≡ u = cc in subst (λ (v : Ty). is_as_it_stands side v ≡ true) is k
+way_stands table (to_bound k g) u e = way_stands table g u e
+way_stands table (to_nothing k) u e = cc
+way_stands table (to_promoted g) u e = way_stands table g u e
+way_stands table (to_bare g) u e = way_stands table g u e
+
+module _ (table : Table) (params : List VarId) where
+  abbrev All : List Pair → List Constraint → End → Type 0
+  All ps = MatchAll table params ps
+
+  pub finds_way : (side : Side) (t s u : Ty) (before after : List Constraint) (r : Result Bool TypeRefusal) → is_built t ≡ true → GivesWay table side s (Some u) → Finds (Match table params side t u) before after r → Finds (Match table params side t s) before after r
+  finds_way side t s u before after r b g f = finds_by (Match table params side t u) (Match table params side t s) before after r (way_fits table params t b g u refl) f
+
+  pub finds_no_way : (side : Side) (t s : Ty) (before : List Constraint) → is_built t ≡ true → GivesWay table side s None → Finds (Match table params side t s) before before (Ok false)
+  finds_no_way side t s before b g = finds_no_fit (Match table params side t s) before (way_ends table params t b g refl)
+
+  -- classes
+  module _ (side : Side) (c d : ClassId) (ts ss : Types) (before after : List Constraint) where
+    abbrev Classes : List Constraint → End → Type 0
+    Classes = Match table params side (interface c ts) (interface d ss)
+
+    pub finds_one_class : (r : Result Bool TypeRefusal) → same_class c d ≡ true → Finds (All (paired side ts ss)) before after r → Finds Classes before after r
+    finds_one_class r e f = finds_by (All (paired side ts ss)) Classes before after r (λ cs end m. one_class e m) f
+
+    module _ (other : same_class c d ≡ false) where
+      -- at least
+      pub finds_above_other : (r : Result Bool TypeRefusal) (above : Ty) → side ≡ AtLeast → FormsAbove table d ss c (Ok (Some above)) → Finds (All (paired side ts (arguments_of above))) before after r → Finds Classes before after r
+      finds_above_other r above is a f =
+          finds_by (All (paired side ts (arguments_of above))) Classes before after r
+          (λ cs end m. subst (λ (k : Side). Match table params k (interface c ts) (interface d ss) cs end) (sym is) (other_climbs other a.1 a.2 (subst (λ (k : Side). All (paired k ts (arguments_of above)) cs end) is m))) f
+
+      pub finds_other_elsewhere : side ≡ AtLeast → FormsAbove table d ss c (Ok None) → Finds Classes before before (Ok false)
+      finds_other_elsewhere is a = finds_no_fit Classes before (subst (λ (k : Side). Match table params k (interface c ts) (interface d ss) [] mismatched) (sym is) (other_elsewhere other a))
+
+      pub finds_other_refused : (e : TypeRefusal) → side ≡ AtLeast → FormsAbove table d ss c (Err e) → Finds Classes before after (Err e)
+      finds_other_refused (TooLarge nodes) is a =
+          ([], subst (λ (k : Side). Match table params k (interface c ts) (interface d ss) [] (too_large nodes)) (sym is) (subst (λ (n : ℕ). Match table params AtLeast (interface c ts) (interface d ss) [] (too_large n)) (sym a.3) (other_too_large other a.1 a.2)))
+      finds_other_refused Memory is a = tt
+
+      -- at most
+      pub finds_above_formal : (r : Result Bool TypeRefusal) (above : Ty) → side ≡ AtMost → FormsAbove table c ts d (Ok (Some above)) → Finds (All (paired side (arguments_of above) ss)) before after r → Finds Classes before after r
+      finds_above_formal r above is a f =
+          finds_by (All (paired side (arguments_of above) ss)) Classes before after r
+          (λ cs end m. subst (λ (k : Side). Match table params k (interface c ts) (interface d ss) cs end) (sym is) (formal_climbs other a.1 a.2 (subst (λ (k : Side). All (paired k (arguments_of above) ss) cs end) is m))) f
+
+      pub finds_formal_elsewhere : side ≡ AtMost → FormsAbove table c ts d (Ok None) → Finds Classes before before (Ok false)
+      finds_formal_elsewhere is a = finds_no_fit Classes before (subst (λ (k : Side). Match table params k (interface c ts) (interface d ss) [] mismatched) (sym is) (formal_elsewhere other a))
+
+      pub finds_formal_refused : (e : TypeRefusal) → side ≡ AtMost → FormsAbove table c ts d (Err e) → Finds Classes before after (Err e)
+      finds_formal_refused (TooLarge nodes) is a =
+          ([], subst (λ (k : Side). Match table params k (interface c ts) (interface d ss) [] (too_large nodes)) (sym is) (subst (λ (n : ℕ). Match table params AtMost (interface c ts) (interface d ss) [] (too_large n)) (sym a.3) (formal_too_large other a.1 a.2)))
+      finds_formal_refused Memory is a = tt
+
+  -- function types
+  module _ (side : Side) (f g : FunctionType) (before : List Constraint) where
+    abbrev Functions : List Constraint → End → Type 0
+    Functions = Match table params side (function_type f) (function_type g)
+
+    abbrev pub FitsSo : Bool
+    FitsSo = signatures_fit side (types_of f.required) (types_of f.optional) (named_of f.named) (types_of g.required) (types_of g.optional) (named_of g.named)
+
+    abbrev pub Positional : List Pair
+    Positional = paired (opposite side) (types_of (params_of f)) (types_of (params_of g))
+
+    abbrev pub Names : List Pair
+    Names = paired_by_name (opposite side) (named_of f.named) (named_of g.named)
+
+    abbrev pub Results : List Pair
+    Results = pair side f.result g.result ∷ []
+
+    pub at_positional : (k : Side) (from to : List Constraint) (r : Result Bool TypeRefusal) → k ≡ opposite side → Finds (All (paired k (types_of (params_of f)) (types_of (params_of g)))) from to r → Finds (All Positional) from to r
+    at_positional k from to r e found = subst (λ (l : Side). Finds (All (paired l (types_of (params_of f)) (types_of (params_of g)))) from to r) e found
+
+    pub at_names : (k : Side) (ns ms : List NamedType) (from to : List Constraint) (r : Result Bool TypeRefusal) → k ≡ opposite side → ns ≡ f.named → ms ≡ g.named → Finds (All (paired_by_name k (named_of ns) (named_of ms))) from to r → Finds (All Names) from to r
+    at_names k ns ms from to r e n m found =
+        let same : paired_by_name k (named_of ns) (named_of ms) ≡ Names = rw (e, n, m) refl in
+        subst (λ (ps : List Pair). Finds (All ps) from to r) same found
+
+    pub finds_other_signature : (fit : Bool) → fit ≡ FitsSo → fit ≡ false → Finds Functions before before (Ok false)
+    finds_other_signature fit is e = finds_no_fit Functions before (other_signature (sym is ∙ e))
+
+    finds_parts : FitsSo ≡ true → (after : List Constraint) (r : Result Bool TypeRefusal) → Finds (All (Positional ++ (Names ++ Results))) before after r → Finds Functions before after r
+    finds_parts e after r found =
+        let same : Positional ≡ paired (opposite side) (join (types_of f.required) (types_of f.optional)) (join (types_of g.required) (types_of g.optional)) = rw (join-types_of f.required f.optional, join-types_of g.required g.optional) refl in
+        finds_by (All (Positional ++ (Names ++ Results))) Functions before after r (λ cs end m. functions e (subst (λ (ps : List Pair). All (ps ++ (Names ++ Results)) cs end) same m)) found
+
+    module _ (fit : Bool) (is : fit ≡ FitsSo) (so : fit ≡ true) where
+      e : FitsSo ≡ true
+      e = sym is ∙ so
+
+      pub finds_no_params : (after : List Constraint) (b : Bool) → Finds (All Positional) before after (Ok b) → b ≡ false → Finds Functions before after (Ok false)
+      finds_no_params after b p k = finds_parts e after (Ok false) (finds_end table params Positional (Names ++ Results) before after b p k)
+
+      pub finds_params_refused : (mid after : List Constraint) (x : TypeRefusal) → Finds (All Positional) before mid (Err x) → Finds Functions before after (Err x)
+      finds_params_refused mid after x p = finds_parts e after (Err x) (finds_refusal table params Positional (Names ++ Results) before mid after x p)
+
+      module _ (mid : List Constraint) (b : Bool) (positional : Finds (All Positional) before mid (Ok b)) (passed : b ≡ true) where
+        finds_rest : (after : List Constraint) (r : Result Bool TypeRefusal) → Finds (All (Names ++ Results)) mid after r → Finds Functions before after r
+        finds_rest after r found = finds_parts e after r (finds_then table params Positional (Names ++ Results) before mid after b r positional passed found)
+
+        pub finds_no_names : (after : List Constraint) (k : Bool) → Finds (All Names) mid after (Ok k) → k ≡ false → Finds Functions before after (Ok false)
+        finds_no_names after k p l = finds_rest after (Ok false) (finds_end table params Names Results mid after k p l)
+
+        pub finds_names_refused : (last after : List Constraint) (x : TypeRefusal) → Finds (All Names) mid last (Err x) → Finds Functions before after (Err x)
+        finds_names_refused last after x p = finds_rest after (Err x) (finds_refusal table params Names Results mid last after x p)
+
+        pub finds_result : (last after : List Constraint) (k : Bool) (r : Result Bool TypeRefusal) → Finds (All Names) mid last (Ok k) → k ≡ true → Finds (All Results) last after r → Finds Functions before after r
+        finds_result last after k r p l found = finds_rest after r (finds_then table params Names Results mid last after k r p l found)

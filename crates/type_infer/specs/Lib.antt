@@ -1,0 +1,19 @@
+-- The inference of type arguments.
+pub mod Open
+pub mod Promotions
+pub mod Constraints
+pub mod Pairs
+pub mod Matching
+pub mod Ways
+pub mod Above
+pub mod Finds
+pub mod Solutions
+pub mod Solves
+pub mod Inference
+pub mod Gathers
+pub mod Gives
+pub mod Bounded
+pub mod Within
+pub mod Contexts
+pub mod Knows
+pub mod Refusals

@@ -1,0 +1,110 @@
+//! The context in which an argument is typed.
+
+ghost use Rattle.std.specs.Prelude.{◌≡◌, ◌<◌, length, Ok, IfOk, IfErr, slice_index_or};
+ghost use Rattle.dart_types.specs.Ty.{invalid};
+ghost use Rattle.type_infer.specs.Inference.{pairs_of};
+ghost use Rattle.type_infer.specs.Contexts.{FormsContext, Known};
+ghost use Rattle.type_infer.specs.Knows.{EndsKnown, KnowsOne};
+
+use crate::constraints::Constraint;
+use crate::gathering::gather;
+use crate::reading::read_type;
+use crate::refusal::InferRefusal;
+use crate::solving::solution;
+use crate::var_types::push_pair;
+use dart_types::{DartType, Rows, TypeNode, TypeRefusal, VarId, substitute};
+use std::alloc::{AllocError, Global};
+
+/// The type that is asked of an expression by what stands around it. `Invalid` stands in it for each
+/// type parameter that is still open.
+#[derive(Drop)]
+pub struct Context {
+    ty: DartType,
+}
+
+impl Context {
+    /// The context of a type. A part of it that is `Invalid` counts as open.
+    pub fn of(alloc: Global, t: &DartType) -> Result<Context, AllocError>
+        ensures { IfOk result (λ context. context.ty ≡ t.now) }
+    {
+        let ty = t.copy(alloc)?;
+        Ok(Context { ty })
+    }
+
+    /// The type, with `Invalid` for each type parameter that is open.
+    pub fn as_type(&self) -> &DartType
+        ensures { result.now ≡ self.now.ty }
+    {
+        &self.ty
+    }
+}
+
+/// A call that leaves out its type arguments.
+#[derive(Clone, Copy)]
+pub struct Call<'a> {
+    /// The type parameters of what is called.
+    pub params: &'a [VarId],
+    /// The type of its result, in which they may stand.
+    pub result: &'a DartType,
+    /// The context of the call, if it has one.
+    pub context: Option<&'a Context>,
+    /// The types of the parameters that its arguments are for, in the order of the arguments.
+    pub formals: &'a [DartType],
+}
+
+/// The context of the argument after `done`, the types of those before it: its formal, in which each
+/// type parameter that the call's context and the arguments before constrain is replaced by its
+/// solution, and each other one is open. Constraints and solutions are those of `infer_arguments`,
+/// but no solution is held against its bound: `NoSolution` and `Unconstrained` never come.
+pub fn context_of(
+    alloc: Global,
+    rows: &Rows,
+    call: &Call,
+    done: &[DartType],
+) -> Result<Context, InferRefusal>
+    requires { length done.now < length call.now.formals.now }
+    ensures { FormsContext rows.now.table call.now.params.now (pairs_of call.now done.now) (slice_index_or call.now.formals.now (length done.now) invalid) result }
+{
+    let found = gather(alloc, rows, call, done)?;
+    let known = known_types(alloc, rows, &found, call.params)?;
+    let ty = substitute(alloc, &call.formals[done.len()], &known)?;
+    Ok(Context { ty })
+}
+
+// What stands for each parameter in a context.
+fn known_types(
+    alloc: Global,
+    rows: &Rows,
+    found: &[Constraint],
+    params: &[VarId],
+) -> Result<Vec<(VarId, DartType)>, TypeRefusal>
+    ensures ok { IfOk result (λ known. Known rows.now.table found.now params.now (Ok known.items)) }
+    ensures err { IfErr result (EndsKnown rows.now.table found.now params.now) }
+{
+    let mut known = Vec::new(alloc);
+    for param in params {
+        let ty = known_type(alloc, rows, found, *param)?;
+        push_pair(&mut known, *param, ty)?;
+    }
+    Ok(known)
+}
+
+// What stands for a parameter in a context: its solution, if it has one, else `Invalid`.
+fn known_type(
+    alloc: Global,
+    rows: &Rows,
+    found: &[Constraint],
+    param: VarId,
+) -> Result<DartType, TypeRefusal>
+    ensures { KnowsOne rows.now.table found.now param result }
+{
+    match solution(alloc, rows, found, param)? {
+        Some(solved) => {
+            let read = read_type(alloc, &solved)?;
+            Ok(read)
+        }
+        None => Ok(DartType {
+            node: TypeNode::Invalid,
+        }),
+    }
+}

@@ -1,0 +1,68 @@
+//! The type arguments that a call leaves out.
+
+ghost use Rattle.std.specs.Prelude.{◌≡◌, [], length};
+ghost use Rattle.type_infer.specs.Gives.{Gives};
+ghost use Rattle.type_infer.specs.Inference.{pairs_of, Argument, Arguments, Infers};
+
+use crate::bounds::{bound_as_argument, within_bound};
+use crate::constraints::Constraint;
+use crate::contexts::Call;
+use crate::gathering::gather;
+use crate::refusal::InferRefusal;
+use crate::solving::solution;
+use crate::var_types::{push_pair, types_of_pairs};
+use dart_types::{DartType, Rows, TypeList, VarId};
+use std::alloc::Global;
+
+/// The arguments for the type parameters of a call whose arguments have these types, in the order of
+/// the parameters. The call's result is matched against its context, if it has one, and each formal
+/// against the type of its argument. A parameter is the upper bound of the types that it is to be at
+/// least, else the lower bound of those that it is to be at most, each in the order in which they
+/// were found, with X in the place of each `X & U`; with no such types it is its bound, unless that
+/// is `Object?`. The first parameter that has no argument by this is refused.
+pub fn infer_arguments(
+    alloc: Global,
+    rows: &Rows,
+    call: &Call,
+    actuals: &[DartType],
+) -> Result<TypeList, InferRefusal>
+    requires { length call.now.formals.now ≡ length actuals.now }
+    ensures { Infers rows.now.table call.now.params.now (pairs_of call.now actuals.now) result }
+{
+    let found = gather(alloc, rows, call, actuals)?;
+    arguments_for(alloc, rows, &found, call.params)
+}
+
+// The arguments for the parameters under these constraints.
+fn arguments_for(
+    alloc: Global,
+    rows: &Rows,
+    found: &[Constraint],
+    params: &[VarId],
+) -> Result<TypeList, InferRefusal>
+    ensures { Gives (Arguments rows.now.table found.now [] params.now) result }
+{
+    let mut given = Vec::new(alloc);
+    for param in params {
+        let argument = argument_for(alloc, rows, found, &given, *param)?;
+        push_pair(&mut given, *param, argument)?;
+    }
+    let types = types_of_pairs(alloc, given)?;
+    Ok(types)
+}
+
+// The argument for a parameter, where those before it have these.
+fn argument_for(
+    alloc: Global,
+    rows: &Rows,
+    found: &[Constraint],
+    before: &[(VarId, DartType)],
+    param: VarId,
+) -> Result<DartType, InferRefusal>
+    ensures { Gives (Argument rows.now.table found.now before.now param) result }
+{
+    match solution(alloc, rows, found, param)? {
+        Some(solved) => within_bound(alloc, rows, before, param, &solved),
+        None => bound_as_argument(alloc, rows, before, param),
+    }
+}

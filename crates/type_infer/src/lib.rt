@@ -1,0 +1,39 @@
+//! The inference of type arguments.
+//!
+//! A call that leaves out its type arguments gets them from the context in which it stands and from
+//! the types of its arguments: `specs/Matching.antt` says which constraints these set on the
+//! parameters, one constructor for each rule, `specs/Solutions.antt` what constraints make of a
+//! parameter, and `specs/Inference.antt` and `specs/Contexts.antt` what the two calls answer. That
+//! the arguments are within their bounds is a law. The crate stands on `dart_types` and `type_bounds`.
+#![tactic(auto)]
+
+mod bounds;
+mod climbs;
+#[cfg(test)]
+mod climbs_tests;
+mod constraints;
+mod contexts;
+mod gathering;
+#[cfg(test)]
+mod infer_tests;
+mod inference;
+mod laws;
+mod matching;
+#[cfg(test)]
+mod matching_samples;
+#[cfg(test)]
+mod matching_tests;
+mod openness;
+mod reading;
+mod refusal;
+#[cfg(test)]
+mod sample_calls;
+mod signatures;
+mod solving;
+mod var_types;
+mod ways;
+
+pub use contexts::{Call, Context, context_of};
+pub use inference::infer_arguments;
+pub use laws::inferred_arguments_are_within_bounds;
+pub use refusal::InferRefusal;

@@ -1,0 +1,344 @@
+//! What types set on the type parameters in formals.
+
+ghost use Rattle.std.specs.Prelude.{◌≡◌, true, [], ◌∷◌, ◌++◌, OnOk};
+ghost use Rattle.dart_types.specs.Ty.{types_of, variable, nullable, interface};
+ghost use Rattle.dart_types.specs.Named.{named_of};
+ghost use Rattle.dart_types.specs.Node.{function_type};
+ghost use Rattle.dart_types.specs.Forms.{params_of};
+ghost use Rattle.dart_types.specs.WellFormed.{is_among};
+ghost use Rattle.type_infer.specs.Pairs.{pair, paired, paired_by_name};
+ghost use Rattle.type_infer.specs.Matching.{is_on_side, is_built, is_as_it_stands, Match, MatchAll};
+ghost use Rattle.type_infer.specs.Finds.{Finds};
+
+use crate::climbs::{arguments_of, form_above};
+use crate::constraints::{Constraint, Side};
+use crate::openness::is_open;
+use crate::signatures::{count_params, find_named, param_at, signatures_fit};
+use crate::ways::standing;
+use dart_types::{
+    ClassId, DartType, FunctionType, NamedType, NamedTypes, Rows, TypeList, TypeNode, TypeRefusal,
+    VarId, is_subtype,
+};
+use std::alloc::{AllocError, Global};
+
+/// Matches a formal, in which these type parameters stand, with another type, of which it is to be a
+/// supertype or a subtype, and puts the constraints that this sets on them at the end of the list.
+/// Whether the types fit. `TooLarge` comes where a superinterface on the way has too many nodes.
+pub(crate) fn match_types(
+    alloc: Global,
+    rows: &Rows,
+    params: &[VarId],
+    side: Side,
+    formal: &DartType,
+    other: &DartType,
+    found: &mut Vec<Constraint>,
+) -> Result<bool, TypeRefusal>
+    ensures { Finds (Match rows.now.table params.now side formal.now other.now) found.old.items found.new.items result }
+{
+    let matcher = Matcher {
+        alloc,
+        rows,
+        params,
+    };
+    matcher.match_types(side, formal, other, found)
+}
+
+// What a formal is matched by.
+#[derive(Clone, Copy)]
+struct Matcher<'a> {
+    alloc: Global,
+    rows: &'a Rows,
+    params: &'a [VarId],
+}
+
+impl<'a> Matcher<'a> {
+    // Matches a formal with another type.
+    #[cycle(matching)]
+    fn match_types(
+        &self,
+        side: Side,
+        formal: &DartType,
+        other: &DartType,
+        found: &mut Vec<Constraint>,
+    ) -> Result<bool, TypeRefusal>
+        ensures { Finds (Match self.now.rows.now.table self.now.params.now side formal.now other.now) found.old.items found.new.items result }
+    {
+        match &formal.node {
+            TypeNode::Var(var) => self.match_var(side, *var, formal, other, found),
+            TypeNode::Nullable(bare) => self.match_marked(side, bare, other, found),
+            TypeNode::Interface { .. } => self.match_built(side, formal, other, found),
+            TypeNode::Function(_) => self.match_built(side, formal, other, found),
+            TypeNode::Invalid => Ok(fits(self.rows, side, formal, other)),
+            TypeNode::Never => Ok(fits(self.rows, side, formal, other)),
+            TypeNode::Void => Ok(fits(self.rows, side, formal, other)),
+            TypeNode::Null => Ok(fits(self.rows, side, formal, other)),
+            TypeNode::Promoted { .. } => Ok(fits(self.rows, side, formal, other)),
+        }
+    }
+
+    // Matches a formal that is this variable: a parameter is constrained by the other type, unless
+    // that is open.
+    fn match_var(
+        &self,
+        side: Side,
+        var: VarId,
+        formal: &DartType,
+        other: &DartType,
+        found: &mut Vec<Constraint>,
+    ) -> Result<bool, TypeRefusal>
+        requires { formal.now ≡ variable var }
+        ensures { Finds (Match self.now.rows.now.table self.now.params.now side formal.now other.now) found.old.items found.new.items result }
+    {
+        if !is_param(self.params, var) {
+            return Ok(fits(self.rows, side, formal, other));
+        }
+        if is_open(other) {
+            return Ok(true);
+        }
+        let ty = other.copy(self.alloc)?;
+        let constraint = Constraint {
+            param: var,
+            side,
+            ty,
+        };
+        add(found, constraint)?;
+        Ok(true)
+    }
+
+    // Matches a formal that is this type with `?`: `Null` gives nothing, and a `?` on the other side
+    // goes with that of the formal.
+    #[cycle(matching)]
+    fn match_marked(
+        &self,
+        side: Side,
+        bare: &DartType,
+        other: &DartType,
+        found: &mut Vec<Constraint>,
+    ) -> Result<bool, TypeRefusal>
+        ensures { Finds (Match self.now.rows.now.table self.now.params.now side (nullable bare.now) other.now) found.old.items found.new.items result }
+    {
+        match &other.node {
+            TypeNode::Null => Ok(true),
+            TypeNode::Nullable(other_bare) => self.match_types(side, bare, other_bare, found),
+            _ => self.match_types(side, bare, other, found),
+        }
+    }
+
+    // Matches a formal that is a class or a function type: the other type may give way to a further
+    // one.
+    #[cycle(matching)]
+    fn match_built(
+        &self,
+        side: Side,
+        formal: &DartType,
+        other: &DartType,
+        found: &mut Vec<Constraint>,
+    ) -> Result<bool, TypeRefusal>
+        requires { is_built formal.now ≡ true }
+        ensures { Finds (Match self.now.rows.now.table self.now.params.now side formal.now other.now) found.old.items found.new.items result }
+    {
+        match standing(self.rows, side, other) {
+            None => Ok(false),
+            Some(last) => self.match_standing(side, formal, last, found),
+        }
+    }
+
+    // Matches it with a type that stands: a class with a class, and a function type with a function
+    // type.
+    #[cycle(matching)]
+    fn match_standing(
+        &self,
+        side: Side,
+        formal: &DartType,
+        other: &DartType,
+        found: &mut Vec<Constraint>,
+    ) -> Result<bool, TypeRefusal>
+        requires built { is_built formal.now ≡ true }
+        requires stands { is_as_it_stands side other.now ≡ true }
+        ensures { Finds (Match self.now.rows.now.table self.now.params.now side formal.now other.now) found.old.items found.new.items result }
+    {
+        match &formal.node {
+            TypeNode::Interface { class, args } => match &other.node {
+                TypeNode::Interface {
+                    class: other_class,
+                    args: other_args,
+                } => self.match_classes(side, *class, args, *other_class, other_args, found),
+                _ => Ok(fits(self.rows, side, formal, other)),
+            },
+            TypeNode::Function(function) => match &other.node {
+                TypeNode::Function(other_function) => {
+                    self.match_functions(side, function, other_function, found)
+                }
+                _ => Ok(fits(self.rows, side, formal, other)),
+            },
+            _ => unreachable!(),
+        }
+    }
+
+    // Matches a class with a class, argument by argument: those of two classes by the superinterface
+    // of the subtype that is of the class of the supertype.
+    #[cycle(matching)]
+    fn match_classes(
+        &self,
+        side: Side,
+        class: ClassId,
+        args: &TypeList,
+        other_class: ClassId,
+        other_args: &TypeList,
+        found: &mut Vec<Constraint>,
+    ) -> Result<bool, TypeRefusal>
+        ensures { Finds (Match self.now.rows.now.table self.now.params.now side (interface class (types_of args.now)) (interface other_class (types_of other_args.now))) found.old.items found.new.items result }
+    {
+        if class == other_class {
+            return self.match_lists(side, args.as_slice(), other_args.as_slice(), found);
+        }
+        match side {
+            Side::AtLeast => {
+                match form_above(self.alloc, self.rows, other_class, other_args, class)? {
+                    None => Ok(false),
+                    Some(above) => {
+                        self.match_lists(side, args.as_slice(), arguments_of(&above), found)
+                    }
+                }
+            }
+            Side::AtMost => match form_above(self.alloc, self.rows, class, args, other_class)? {
+                None => Ok(false),
+                Some(above) => {
+                    self.match_lists(side, arguments_of(&above), other_args.as_slice(), found)
+                }
+            },
+        }
+    }
+
+    // Matches a function type with a function type, part by part, if their signatures fit.
+    #[cycle(matching)]
+    fn match_functions(
+        &self,
+        side: Side,
+        formal: &FunctionType,
+        other: &FunctionType,
+        found: &mut Vec<Constraint>,
+    ) -> Result<bool, TypeRefusal>
+        ensures { Finds (Match self.now.rows.now.table self.now.params.now side (function_type formal.now) (function_type other.now)) found.old.items found.new.items result }
+    {
+        if !signatures_fit(side, formal, other) {
+            return Ok(false);
+        }
+        let inner = side.opposite();
+        if !self.match_params(inner, formal, other, found)? {
+            return Ok(false);
+        }
+        let named = formal.named.as_slice();
+        if !self.match_named(inner, named, &other.named, found)? {
+            return Ok(false);
+        }
+        self.match_part(side, &formal.result, &other.result, found)
+    }
+
+    // Matches the types at the same places of two lists, as far as both go.
+    #[cycle(matching)]
+    fn match_lists(
+        &self,
+        side: Side,
+        formals: &[DartType],
+        others: &[DartType],
+        found: &mut Vec<Constraint>,
+    ) -> Result<bool, TypeRefusal>
+        ensures { Finds (MatchAll self.now.rows.now.table self.now.params.now (paired side (types_of formals.now) (types_of others.now))) found.old.items found.new.items result }
+    {
+        let count = formals.len().min(others.len());
+        for i in 0..count {
+            if !self.match_part(side, &formals[i], &others[i], found)? {
+                return Ok(false);
+            }
+        }
+        Ok(true)
+    }
+
+    // Likewise the positional parameters of two function types.
+    #[cycle(matching)]
+    fn match_params(
+        &self,
+        side: Side,
+        formal: &FunctionType,
+        other: &FunctionType,
+        found: &mut Vec<Constraint>,
+    ) -> Result<bool, TypeRefusal>
+        ensures { Finds (MatchAll self.now.rows.now.table self.now.params.now (paired side (types_of (params_of formal.now)) (types_of (params_of other.now)))) found.old.items found.new.items result }
+    {
+        let count = count_params(formal).min(count_params(other));
+        for i in 0..count {
+            let param = param_at(formal, i);
+            let other_param = param_at(other, i);
+            if !self.match_part(side, param, other_param, found)? {
+                return Ok(false);
+            }
+        }
+        Ok(true)
+    }
+
+    // Matches the named parameters of the first list with those of their names in the second.
+    #[cycle(matching)]
+    fn match_named(
+        &self,
+        side: Side,
+        formals: &[NamedType],
+        others: &NamedTypes,
+        found: &mut Vec<Constraint>,
+    ) -> Result<bool, TypeRefusal>
+        ensures { Finds (MatchAll self.now.rows.now.table self.now.params.now (paired_by_name side (named_of formals.now) (named_of others.now))) found.old.items found.new.items result }
+    {
+        for formal in formals {
+            let other = match find_named(others, formal) {
+                None => continue,
+                Some(other) => other,
+            };
+            if !self.match_part(side, &formal.ty, &other.ty, found)? {
+                return Ok(false);
+            }
+        }
+        Ok(true)
+    }
+
+    // Matches two parts, unless that of the other type is open.
+    #[cycle(matching)]
+    fn match_part(
+        &self,
+        side: Side,
+        formal: &DartType,
+        other: &DartType,
+        found: &mut Vec<Constraint>,
+    ) -> Result<bool, TypeRefusal>
+        ensures { Finds (MatchAll self.now.rows.now.table self.now.params.now (pair side formal.now other.now ∷ [])) found.old.items found.new.items result }
+    {
+        if is_open(other) {
+            return Ok(true);
+        }
+        self.match_types(side, formal, other, found)
+    }
+}
+
+// Puts a constraint at the end of the list.
+fn add(found: &mut Vec<Constraint>, constraint: Constraint) -> Result<(), AllocError>
+    ensures { OnOk result (found.new.items ≡ found.old.items ++ constraint ∷ []) }
+{
+    found.push(constraint)?;
+    Ok(())
+}
+
+// Whether the variable is one of the parameters.
+fn is_param(params: &[VarId], var: VarId) -> bool
+    ensures { result ≡ is_among params.now var }
+{
+    params.iter().any(|param| *param == var)
+}
+
+// Whether a formal, as it stands, is a supertype, or a subtype, of another type.
+fn fits(rows: &Rows, side: Side, formal: &DartType, other: &DartType) -> bool
+    ensures { result ≡ is_on_side rows.now.table side formal.now other.now }
+{
+    match side {
+        Side::AtLeast => is_subtype(rows, other, formal),
+        Side::AtMost => is_subtype(rows, formal, other),
+    }
+}

@@ -1,0 +1,112 @@
+//! Which function types can be subtypes, as far as the numbers and the names of parameters tell.
+
+ghost use Rattle.std.specs.Prelude.{◌≡◌, ◌<◌, find, length, slice_index_or, bytes_eq};
+ghost use Rattle.std.specs.Option.{option_copied};
+ghost use Rattle.dart_types.specs.Ty.{types_of, invalid};
+ghost use Rattle.dart_types.specs.Named.{named_of};
+ghost use Rattle.dart_types.specs.Forms.{params_of};
+ghost use Rattle.dart_types.specs.Sub.{is_required, required_in};
+ghost use Rattle.type_bounds.specs.Signatures.{has_name};
+ghost use Rattle.type_infer.specs.Pairs.{names_are_in, takes_calls_of, signatures_fit};
+
+use crate::constraints::Side;
+use dart_types::{DartType, FunctionType, NamedType, NamedTypes};
+
+/// How many positional parameters a function type has.
+pub(crate) fn count_params(function: &FunctionType) -> usize
+    ensures { result ≡ length (params_of function.now) }
+{
+    function.required.as_slice().len() + function.optional.as_slice().len()
+}
+
+/// The type of the positional parameter at a place, where the required ones come first.
+pub(crate) fn param_at(function: &FunctionType, at: usize) -> &DartType
+    requires { at < length (params_of function.now) }
+    ensures { result.now ≡ slice_index_or (params_of function.now) at invalid }
+{
+    let required = function.required.as_slice();
+    if at < required.len() {
+        return &required[at];
+    }
+    let optional = function.optional.as_slice();
+    &optional[at - required.len()]
+}
+
+/// The parameter that has the name of another, if there is one.
+pub(crate) fn find_named<'a>(named: &'a NamedTypes, like: &NamedType) -> Option<&'a NamedType>
+    ensures { option_copied result ≡ find (λ n. bytes_eq n.name like.now.name) named.now }
+{
+    named.get(&like.name)
+}
+
+// Whether a parameter has the name of another.
+fn has_name(named: &NamedTypes, like: &NamedType) -> bool
+    ensures { result ≡ has_name (named_of named.now) like.now.name }
+{
+    match named.get(&like.name) {
+        None => false,
+        Some(_) => true,
+    }
+}
+
+// Whether one does that is required.
+fn is_required(named: &NamedTypes, like: &NamedType) -> bool
+    ensures { result ≡ is_required (named_of named.now) like.now.name }
+{
+    match named.get(&like.name) {
+        None => false,
+        Some(found) => found.required,
+    }
+}
+
+// Whether each name of the first list is in the second.
+fn names_are_in(named: &[NamedType], others: &NamedTypes) -> bool
+    ensures { result ≡ names_are_in (named_of named.now) (named_of others.now) }
+{
+    for item in named {
+        if !has_name(others, item) {
+            return false;
+        }
+    }
+    true
+}
+
+// Whether each parameter that the first list requires is required by the second.
+fn requires_no_more(named: &[NamedType], others: &NamedTypes) -> bool
+    ensures { result ≡ required_in (named_of named.now) (named_of others.now) }
+{
+    for item in named {
+        if item.required && !is_required(others, item) {
+            return false;
+        }
+    }
+    true
+}
+
+// Whether a function type can be a subtype of another.
+fn takes_calls_of(function: &FunctionType, other: &FunctionType) -> bool
+    ensures { result ≡ takes_calls_of (types_of function.now.required) (types_of function.now.optional) (named_of function.now.named) (types_of other.now.required) (types_of other.now.optional) (named_of other.now.named) }
+{
+    if function.required.as_slice().len() > other.required.as_slice().len() {
+        return false;
+    }
+    if count_params(other) > count_params(function) {
+        return false;
+    }
+    let named = function.named.as_slice();
+    let others = other.named.as_slice();
+    if !names_are_in(others, &function.named) {
+        return false;
+    }
+    requires_no_more(named, &other.named)
+}
+
+/// Whether a formal that is a function type can be a supertype, or a subtype, of another.
+pub(crate) fn signatures_fit(side: Side, formal: &FunctionType, other: &FunctionType) -> bool
+    ensures { result ≡ signatures_fit side (types_of formal.now.required) (types_of formal.now.optional) (named_of formal.now.named) (types_of other.now.required) (types_of other.now.optional) (named_of other.now.named) }
+{
+    match side {
+        Side::AtLeast => takes_calls_of(other, formal),
+        Side::AtMost => takes_calls_of(formal, other),
+    }
+}
