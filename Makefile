@@ -1,6 +1,6 @@
 # `make demo` proves and builds the program, feeds it the session of examples/ and prints its replies.
 # `make test` is the gate: it proves, tries and runs everything.
-# `make bench` proves and builds the programs, and prints how long tokens, checks, edits and runs take, by the size of the text, and tests of subtyping.
+# `make bench` proves and builds the programs, and prints how long tokens, checks, edits and runs take, by the size of the text, and tests of subtyping, bounds and inference.
 .PHONY: demo test bench
 
 SESSION := $(CURDIR)/examples/session.jsonl
@@ -18,3 +18,4 @@ bench:
 	@python3 bench/edit.py
 	@python3 bench/run.py
 	@python3 bench/subtypes.py
+	@python3 bench/bounds.py
