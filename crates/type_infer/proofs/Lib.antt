@@ -6,6 +6,9 @@ pub mod GatherSteps
 pub mod ArgumentSteps
 pub mod ContextSteps
 pub mod WithinBounds
+pub mod OneMatch
+pub mod OneAnswer
+pub mod FirstWithout
 pub mod Examples
 pub mod Filtered
 pub mod Parts

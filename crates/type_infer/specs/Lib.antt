@@ -3,9 +3,9 @@ pub mod Open
 pub mod Promotions
 pub mod Constraints
 pub mod Pairs
+pub mod Above
 pub mod Matching
 pub mod Ways
-pub mod Above
 pub mod Finds
 pub mod Solutions
 pub mod Solves
@@ -14,6 +14,7 @@ pub mod Gathers
 pub mod Gives
 pub mod Bounded
 pub mod Within
+pub mod Reached
 pub mod Contexts
 pub mod Knows
 pub mod Refusals

@@ -10,7 +10,7 @@ use Rattle.dart_types.specs.declared.ids.ClassId.{ClassId}
 use Rattle.dart_types.specs.declared.ids.VarId.{VarId}
 use Rattle.dart_types.specs.declared.refusal.TheConstants.{NODE_LIMIT}
 use Rattle.type_bounds.specs.Bounds.{is_bare}
-use Rattle.type_bounds.specs.Common.{IsAbove}
+use Rattle.type_infer.specs.Above.{IsOnlyAbove}
 use Rattle.type_infer.specs.Open.{is_open}
 use Rattle.type_infer.specs.Pairs.{Pair, paired, parts_of, signatures_fit}
 use Rattle.type_infer.specs.declared.constraints.Side.{Side}
@@ -114,17 +114,17 @@ mutual
     promoted_other : {y : VarId} {u t : Ty} {cs : List Constraint} {end : End} → is_built t ≡ true → Match table params AtLeast t u cs end → Match table params AtLeast t (promoted y u) cs end
     -- one class: argument by argument
     one_class : {side : Side} {c d : ClassId} {ts ss : Types} {cs : List Constraint} {end : End} → same_class c d ≡ true → MatchAll table params (paired side ts ss) cs end → Match table params side (interface c ts) (interface d ss) cs end
-    -- another class: by a superinterface of the subtype that is of the class of the supertype, if it has one
-    other_climbs : {c d : ClassId} {ts ss us : Types} {cs : List Constraint} {end : End} → same_class c d ≡ false → IsAbove table d ss (interface c us) → size_of (interface c us) ≤ NODE_LIMIT →
+    -- another class: by the superinterface of the subtype that is of the class of the supertype, if it has one, and one only
+    other_climbs : {c d : ClassId} {ts ss us : Types} {cs : List Constraint} {end : End} → same_class c d ≡ false → IsOnlyAbove table d ss c us → size_of (interface c us) ≤ NODE_LIMIT →
         MatchAll table params (paired AtLeast ts us) cs end → Match table params AtLeast (interface c ts) (interface d ss) cs end
-    formal_climbs : {c d : ClassId} {ts ss us : Types} {cs : List Constraint} {end : End} → same_class c d ≡ false → IsAbove table c ts (interface d us) → size_of (interface d us) ≤ NODE_LIMIT →
+    formal_climbs : {c d : ClassId} {ts ss us : Types} {cs : List Constraint} {end : End} → same_class c d ≡ false → IsOnlyAbove table c ts d us → size_of (interface d us) ≤ NODE_LIMIT →
         MatchAll table params (paired AtMost us ss) cs end → Match table params AtMost (interface c ts) (interface d ss) cs end
-    other_too_large : {c d : ClassId} {ts ss us : Types} → same_class c d ≡ false → IsAbove table d ss (interface c us) → NODE_LIMIT < size_of (interface c us) →
+    other_too_large : {c d : ClassId} {ts ss us : Types} → same_class c d ≡ false → IsOnlyAbove table d ss c us → NODE_LIMIT < size_of (interface c us) →
         Match table params AtLeast (interface c ts) (interface d ss) [] (too_large (held (size_of (interface c us))))
-    formal_too_large : {c d : ClassId} {ts ss us : Types} → same_class c d ≡ false → IsAbove table c ts (interface d us) → NODE_LIMIT < size_of (interface d us) →
+    formal_too_large : {c d : ClassId} {ts ss us : Types} → same_class c d ≡ false → IsOnlyAbove table c ts d us → NODE_LIMIT < size_of (interface d us) →
         Match table params AtMost (interface c ts) (interface d ss) [] (too_large (held (size_of (interface d us))))
-    other_elsewhere : {c d : ClassId} {ts ss : Types} → same_class c d ≡ false → ((us : Types) → IsAbove table d ss (interface c us) → ⊥) → Match table params AtLeast (interface c ts) (interface d ss) [] mismatched
-    formal_elsewhere : {c d : ClassId} {ts ss : Types} → same_class c d ≡ false → ((us : Types) → IsAbove table c ts (interface d us) → ⊥) → Match table params AtMost (interface c ts) (interface d ss) [] mismatched
+    other_elsewhere : {c d : ClassId} {ts ss : Types} → same_class c d ≡ false → ((us : Types) → IsOnlyAbove table d ss c us → ⊥) → Match table params AtLeast (interface c ts) (interface d ss) [] mismatched
+    formal_elsewhere : {c d : ClassId} {ts ss : Types} → same_class c d ≡ false → ((us : Types) → IsOnlyAbove table c ts d us → ⊥) → Match table params AtMost (interface c ts) (interface d ss) [] mismatched
     -- function types: part by part, where their signatures fit
     functions : {side : Side} {r o r' o' : Types} {n n' : Named} {e e' : Ty} {cs : List Constraint} {end : End} → signatures_fit side r o n r' o' n' ≡ true →
         MatchAll table params (parts_of side r o n e r' o' n' e') cs end → Match table params side (function r o n e) (function r' o' n' e') cs end

@@ -1,11 +1,10 @@
 //! Superinterfaces of classes with arguments.
 
-ghost use Rattle.std.specs.Prelude.{◌≡◌, AllPairs, false, find};
-ghost use Rattle.std.specs.Option.{option_copied};
+ghost use Rattle.std.specs.Prelude.{◌≡◌, AllPairs, false, MatchOption};
 ghost use Rattle.dart_types.specs.Ty.{types_of};
-ghost use Rattle.dart_types.specs.Same.{same_class};
 ghost use Rattle.dart_types.specs.WellFormed.{class_before};
-ghost use Rattle.type_infer.specs.Above.{FormsAbove, arguments_of};
+ghost use Rattle.dart_types.specs.declared.superinterfaces.Superinterface.{Superinterface};
+ghost use Rattle.type_infer.specs.Above.{FormsAbove, IsOnlyEntry, arguments_of};
 
 use dart_types::{
     Arguments, ClassId, DartType, Rows, Superinterface, TypeList, TypeNode, TypeRefusal,
@@ -13,8 +12,8 @@ use dart_types::{
 };
 use std::alloc::Global;
 
-/// The superinterface of a class with these arguments that is of another class: the first, if there
-/// are several. `TooLarge` comes where it has too many nodes.
+/// The superinterface of a class with these arguments that is of another class, if it has one, and one
+/// only. `TooLarge` comes where it has too many nodes.
 pub(crate) fn form_above(
     alloc: Global,
     rows: &Rows,
@@ -32,22 +31,34 @@ pub(crate) fn form_above(
     if params.len() != args.as_slice().len() {
         return Ok(None);
     }
-    match first_of(rows.superinterfaces(class), target) {
+    let arguments = Arguments { params, args };
+    match only_entry(rows.superinterfaces(class), target, arguments) {
         None => Ok(None),
         Some(superinterface) => {
-            let arguments = Arguments { params, args };
             let formed = superinterface.with_arguments(alloc, &arguments)?;
             Ok(Some(formed))
         }
     }
 }
 
-// The first superinterface that is of the class.
-fn first_of(superinterfaces: &[Superinterface], class: ClassId) -> Option<&Superinterface>
+// The first superinterface that is of the class, if all that are of it are one type where their class
+// has these arguments.
+fn only_entry<'a>(
+    superinterfaces: &'a [Superinterface],
+    class: ClassId,
+    arguments: Arguments,
+) -> Option<&'a Superinterface>
     requires { AllPairs (λ a b. class_before b.class a.class ≡ false) superinterfaces.now }
-    ensures { option_copied result ≡ find (λ s. same_class s.class class) superinterfaces.now }
+    ensures { MatchOption result ((s : Superinterface) → IsOnlyEntry superinterfaces.now class arguments.entry s → ⊥) (λ s. IsOnlyEntry superinterfaces.now class arguments.entry s.now) }
 {
-    superinterfaces_of_class(superinterfaces, class).first()
+    let of_class = superinterfaces_of_class(superinterfaces, class);
+    let first = of_class.first()?;
+    for other in of_class {
+        if !other.is_same_with(&arguments, first, &arguments) {
+            return None;
+        }
+    }
+    Some(first)
 }
 
 /// The arguments of a class; none of another type.

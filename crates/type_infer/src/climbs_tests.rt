@@ -52,7 +52,7 @@ const PART_T: Plain = Plain::Any(T);
 
 const PART_U: Plain = Plain::Any(U);
 
-const CASES: [Case; 9] = [
+const CASES: [Case; 13] = [
     (LEAST, Sample::Object, Sample::Int, true, Sets::None),
     (MOST, Sample::Int, Sample::Object, true, Sets::None),
     (
@@ -103,6 +103,35 @@ const CASES: [Case; 9] = [
         Sample::IterableOfPair(Plain::Number, Plain::Words),
         true,
         Sets::Two(T_BELOW_INT, T_BELOW_TEXT),
+    ),
+    // two superinterfaces of one class: none is the one to match by, unless they are one type
+    (
+        LEAST,
+        Sample::Iterable(PART_T),
+        Sample::Both(Plain::Words),
+        false,
+        Sets::None,
+    ),
+    (
+        LEAST,
+        Sample::Iterable(PART_T),
+        Sample::Both(Plain::Number),
+        true,
+        Sets::One(T_ABOVE_INT),
+    ),
+    (
+        MOST,
+        Sample::Both(PART_T),
+        Sample::Iterable(Plain::Number),
+        false,
+        Sets::None,
+    ),
+    (
+        MOST,
+        Sample::Both(Plain::Number),
+        Sample::Iterable(Plain::Number),
+        true,
+        Sets::None,
     ),
 ];
 

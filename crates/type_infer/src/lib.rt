@@ -4,7 +4,8 @@
 //! the types of its arguments: `specs/Matching.antt` says which constraints these set on the
 //! parameters, one constructor for each rule, `specs/Solutions.antt` what constraints make of a
 //! parameter, and `specs/Inference.antt` and `specs/Contexts.antt` what the two calls answer. That
-//! the arguments are within their bounds is a law. The crate stands on `dart_types` and `type_bounds`.
+//! they derive one answer at most, and that the arguments are within their bounds, are laws. The
+//! crate stands on `dart_types` and `type_bounds`.
 #![tactic(auto)]
 
 mod bounds;
@@ -35,5 +36,8 @@ mod ways;
 
 pub use contexts::{Call, Context, context_of};
 pub use inference::infer_arguments;
-pub use laws::inferred_arguments_are_within_bounds;
+pub use laws::{
+    contexts_are_unique, inferred_arguments_are_unique, inferred_arguments_are_within_bounds,
+    refusals_are_for_the_first_parameter,
+};
 pub use refusal::InferRefusal;

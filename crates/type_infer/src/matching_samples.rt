@@ -43,6 +43,12 @@ pub(crate) const TWINS: ClassId = ClassId {
     index: 17,
 };
 
+// `Both<A>`, which is an `Iterable<A>` and an `Iterable<int>`.
+const BOTH: ClassId = ClassId {
+    lib: CORE,
+    index: 19,
+};
+
 // The parameters of the classes.
 const A: VarId = VarId {
     lib: CORE,
@@ -101,6 +107,7 @@ pub(crate) enum Sample {
     Iterable(Plain),
     List(Plain),
     Twins(Plain),
+    Both(Plain),
     /// `List<..>?`
     AnyList(Plain),
     /// `X & List<..>`
@@ -192,6 +199,7 @@ pub(crate) fn type_of(alloc: Global, sample: Sample) -> Result<DartType, AllocEr
         Sample::Iterable(arg) => class_of(alloc, ITERABLE, part(alloc, arg)),
         Sample::List(arg) => class_of(alloc, LIST, part(alloc, arg)),
         Sample::Twins(arg) => class_of(alloc, TWINS, part(alloc, arg)),
+        Sample::Both(arg) => class_of(alloc, BOTH, part(alloc, arg)),
         Sample::AnyList(arg) => {
             let bare = class_of(alloc, LIST, part(alloc, arg))?;
             marked(alloc, bare)
@@ -323,6 +331,14 @@ fn twins_row(alloc: Global) -> Result<ClassRow, AllocError> {
     class_row(alloc, TWINS, &[A], above, 2)
 }
 
+fn both_row(alloc: Global) -> Result<ClassRow, AllocError> {
+    let above = class_of(alloc, ITERABLE, of_node(TypeNode::Var(A)))?;
+    let mut row = class_row(alloc, BOTH, &[A], above, 2)?;
+    let second = class_of(alloc, ITERABLE, class(alloc, INT))?;
+    row.supers.push(second)?;
+    Ok(row)
+}
+
 fn classes(alloc: Global) -> Result<Vec<ClassRow>, AllocError> {
     let mut classes = Vec::new(alloc);
     classes.push(object_row(alloc))?;
@@ -332,6 +348,7 @@ fn classes(alloc: Global) -> Result<Vec<ClassRow>, AllocError> {
     classes.push(list_row(alloc)?)?;
     classes.push(under_object(alloc, PAIR, &[A, B])?)?;
     classes.push(twins_row(alloc)?)?;
+    classes.push(both_row(alloc)?)?;
     Ok(classes)
 }
 

@@ -159,7 +159,7 @@ match_classes-match_lists-requires-in-Some t c =
     let ss = types_of c.args.other_args.now in
     let above = subst (λ (o : Option Ty). FormsAbove m.rows.now.table c.args.other_class ss c.args.class (Ok o)) c.in-Some.is c.in_ok-form_above-in-AtLeast.ensures in
     let below : pairs_measure m.rows.now.table (paired c.args.side ts (arguments_of c.in-Some.above)) < side_measure m.rows.now.table c.args.side (interface c.args.class ts) (interface c.args.other_class ss) =
-    rw c.in-AtLeast.is (other_above_below m.rows.now.table m.rows.now.formed c.args.class c.args.other_class ts ss (arguments_of c.in-Some.above) above.1) in
+    rw c.in-AtLeast.is (other_above_below m.rows.now.table m.rows.now.formed c.args.class c.args.other_class ts ss (arguments_of c.in-Some.above) above.1.above) in
     let same : pairs_measure m.rows.now.table (paired c.args.side (types_of c.as_slice-in-Some.result.now) (types_of c.arguments_of.result.now)) ≡ pairs_measure m.rows.now.table (paired c.args.side ts (arguments_of c.in-Some.above)) = rw (c.as_slice-in-Some.ensures, c.arguments_of.ensures) refl in
     (omega (arith, below, same, c.decreases), tt)
 
@@ -170,7 +170,7 @@ match_classes-match_lists-requires-in-Some-2 t c =
     let ss = types_of c.args.other_args.now in
     let above = subst (λ (o : Option Ty). FormsAbove m.rows.now.table c.args.class ts c.args.other_class (Ok o)) c.in-Some-2.is c.in_ok-form_above-in-AtMost.ensures in
     let below : pairs_measure m.rows.now.table (paired c.args.side (arguments_of c.in-Some-2.above) ss) < side_measure m.rows.now.table c.args.side (interface c.args.class ts) (interface c.args.other_class ss) =
-    rw c.in-AtMost.is (formal_above_below m.rows.now.table m.rows.now.formed c.args.class c.args.other_class ts ss (arguments_of c.in-Some-2.above) above.1) in
+    rw c.in-AtMost.is (formal_above_below m.rows.now.table m.rows.now.formed c.args.class c.args.other_class ts ss (arguments_of c.in-Some-2.above) above.1.above) in
     let same : pairs_measure m.rows.now.table (paired c.args.side (types_of c.arguments_of-in-Some-2.result.now) (types_of c.as_slice-in-Some-2.result.now)) ≡ pairs_measure m.rows.now.table (paired c.args.side (arguments_of c.in-Some-2.above) ss) = rw (c.as_slice-in-Some-2.ensures, c.arguments_of-in-Some-2.ensures) refl in
     (omega (arith, below, same, c.decreases), tt)
 
