@@ -1,6 +1,6 @@
 -- How the only superinterface that is of another class is found and formed.
-use Rattle.std.proofs.Common.{◌≡◌, ℕ, zero, suc, ◌+◌, ◌<◌, ◌≤◌, Bool, true, false, List, [], ◌∷◌, length, get_or, cond, Some, None, Ok, Err, refl, sym, ◌∙◌, ap, subst, arith}
-use Rattle.std.specs.Prelude.{Contains, find}
+use Rattle.std.proofs.Common.{◌≡◌, ◌≤◌, true, List, length, Some, None, Ok, Err, refl, sym, ◌∙◌, ap, subst}
+use Rattle.std.specs.Prelude.{Contains}
 use Rattle.dart_types.specs.Ty.{Ty, Types, invalid, never, void, null, interface, function, variable, promoted, nullable, count, types_of}
 use Rattle.dart_types.specs.Normal.{normal, normal_all}
 use Rattle.dart_types.specs.Same.{same_class}
@@ -22,16 +22,6 @@ use Rattle.dart_types.proofs.NormalPut.{normal-put-normal}
 use Rattle.dart_types.proofs.SameIds.{equal_from_same_class, same_class-refl}
 use Rattle.type_bounds.specs.Common.{IsAbove}
 use Rattle.type_infer.specs.Above.{FormsAbove, IsOnlyAbove}
-
--- where nothing is found, no element passes the test
-pub find_none : {X : Type 0} (p : X → Bool) (xs : List X) (x : X) → find p xs ≡ None → Contains xs x → p x ≡ false
-find_none p [] x e k = absurd (omega (arith, k.1))
-find_none {X} p (y ∷ ys) x e k = at (p y) refl e k.0 (omega (arith, k.1)) k.2 (find_none p ys x)
-  where
-    at : (b : Bool) → p y ≡ b → cond b (Some y) (find p ys) ≡ None → (i : ℕ) → i < length ys + 1 → get_or (y ∷ ys) i x ≡ x → (find p ys ≡ None → Contains ys x → p x ≡ false) → p x ≡ false
-    at true f e i lt is go = cc
-    at false f e zero lt is go = ap p (sym is) ∙ f
-    at false f e (suc i) lt is go = go e (i, omega arith, is)
 
 module _ (table : Table) (wf : IsWellFormed table) (c : ClassId) (ts : Types) (d : ClassId) where
   -- the class has no superinterface of the class d that is its only one

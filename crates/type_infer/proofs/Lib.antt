@@ -10,7 +10,6 @@ pub mod OneMatch
 pub mod OneAnswer
 pub mod FirstWithout
 pub mod Examples
-pub mod Filtered
 pub mod Parts
 pub mod NameTests
 pub mod WaySteps

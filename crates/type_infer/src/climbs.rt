@@ -52,8 +52,8 @@ fn only_entry<'a>(
     ensures { MatchOption result ((s : Superinterface) → IsOnlyEntry superinterfaces.now class arguments.entry s → ⊥) (λ s. IsOnlyEntry superinterfaces.now class arguments.entry s.now) }
 {
     let of_class = superinterfaces_of_class(superinterfaces, class);
-    let first = of_class.first()?;
-    for other in of_class {
+    let (first, others) = of_class.split_first()?;
+    for other in others {
         if !other.is_same_with(&arguments, first, &arguments) {
             return None;
         }
