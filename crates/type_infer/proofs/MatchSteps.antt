@@ -77,13 +77,18 @@ module _ (table : Table) (params : List VarId) (side : Side) where
   abbrev Fit : Ty → Ty → List Constraint → End → Type 0
   Fit t s = Match table params side t s
 
+  -- types that fit where the one is a subtype of the other
+  pub finds_ended : (t s : Ty) (before : List Constraint) (b : Bool) → b ≡ is_on_side table side t s → Fit t s [] (ended (is_on_side table side t s)) → Finds (Fit t s) before before (Ok b)
+  finds_ended t s before true e m = finds_nothing (Fit t s) before (subst (λ (x : Bool). Fit t s [] (ended x)) (sym e) m)
+  finds_ended t s before false e m = finds_no_fit (Fit t s) before (subst (λ (x : Bool). Fit t s [] (ended x)) (sym e) m)
+
   -- a leaf
   pub finds_leaf : (t s u : Ty) (before : List Constraint) (b : Bool) → t ≡ u → is_leaf params side u s ≡ true → b ≡ is_on_side table side t s → Finds (Fit t s) before before (Ok b)
-  finds_leaf t s u before b is l e = at b e (leaf (subst (λ (v : Ty). is_leaf params side v s ≡ true) (sym is) l))
-    where
-      at : (b : Bool) → b ≡ is_on_side table side t s → Fit t s [] (ended (is_on_side table side t s)) → Finds (Fit t s) before before (Ok b)
-      at true e m = finds_nothing (Fit t s) before (subst (λ (x : Bool). Fit t s [] (ended x)) (sym e) m)
-      at false e m = finds_no_fit (Fit t s) before (subst (λ (x : Bool). Fit t s [] (ended x)) (sym e) m)
+  finds_leaf t s u before b is l e = finds_ended t s before b e (leaf (subst (λ (v : Ty). is_leaf params side v s ≡ true) (sym is) l))
+
+  -- types that are others by name
+  pub finds_at : (t s t' s' : Ty) (before after : List Constraint) (r : Result Bool TypeRefusal) → t ≡ t' → s ≡ s' → Finds (Fit t' s') before after r → Finds (Fit t s) before after r
+  finds_at t s t' s' before after r e k f = subst (λ (u : Ty). Finds (Fit u s) before after r) (sym e) (subst (λ (u : Ty). Finds (Fit t' u) before after r) (sym k) f)
 
   -- a parameter
   pub finds_open : (x : VarId) (t s : Ty) (before : List Constraint) → t ≡ variable x → is_among params x ≡ true → is_open s ≡ true → Finds (Fit t s) before before (Ok true)
@@ -152,8 +157,10 @@ module _ (table : Table) (params : List VarId) where
           finds_by (All (paired side ts (arguments_of above))) Classes before after r
           (λ cs end m. subst (λ (k : Side). Match table params k (interface c ts) (interface d ss) cs end) (sym is) (other_climbs other a.1 a.2 (subst (λ (k : Side). All (paired k ts (arguments_of above)) cs end) is m))) f
 
-      pub finds_other_elsewhere : side ≡ AtLeast → FormsAbove table d ss c (Ok None) → Finds Classes before before (Ok false)
-      finds_other_elsewhere is a = finds_no_fit Classes before (subst (λ (k : Side). Match table params k (interface c ts) (interface d ss) [] mismatched) (sym is) (other_elsewhere other a))
+      pub finds_other_elsewhere : (b : Bool) → side ≡ AtLeast → FormsAbove table d ss c (Ok None) → b ≡ is_on_side table side (interface c ts) (interface d ss) → Finds Classes before before (Ok b)
+      finds_other_elsewhere b is a e =
+          finds_ended table params side (interface c ts) (interface d ss) before b e
+          (subst (λ (k : Side). Match table params k (interface c ts) (interface d ss) [] (ended (is_on_side table k (interface c ts) (interface d ss)))) (sym is) (other_elsewhere other a))
 
       pub finds_other_refused : (e : TypeRefusal) → side ≡ AtLeast → FormsAbove table d ss c (Err e) → Finds Classes before after (Err e)
       finds_other_refused (TooLarge nodes) is a =
@@ -166,8 +173,10 @@ module _ (table : Table) (params : List VarId) where
           finds_by (All (paired side (arguments_of above) ss)) Classes before after r
           (λ cs end m. subst (λ (k : Side). Match table params k (interface c ts) (interface d ss) cs end) (sym is) (formal_climbs other a.1 a.2 (subst (λ (k : Side). All (paired k (arguments_of above) ss) cs end) is m))) f
 
-      pub finds_formal_elsewhere : side ≡ AtMost → FormsAbove table c ts d (Ok None) → Finds Classes before before (Ok false)
-      finds_formal_elsewhere is a = finds_no_fit Classes before (subst (λ (k : Side). Match table params k (interface c ts) (interface d ss) [] mismatched) (sym is) (formal_elsewhere other a))
+      pub finds_formal_elsewhere : (b : Bool) → side ≡ AtMost → FormsAbove table c ts d (Ok None) → b ≡ is_on_side table side (interface c ts) (interface d ss) → Finds Classes before before (Ok b)
+      finds_formal_elsewhere b is a e =
+          finds_ended table params side (interface c ts) (interface d ss) before b e
+          (subst (λ (k : Side). Match table params k (interface c ts) (interface d ss) [] (ended (is_on_side table k (interface c ts) (interface d ss)))) (sym is) (formal_elsewhere other a))
 
       pub finds_formal_refused : (e : TypeRefusal) → side ≡ AtMost → FormsAbove table c ts d (Err e) → Finds Classes before after (Err e)
       finds_formal_refused (TooLarge nodes) is a =

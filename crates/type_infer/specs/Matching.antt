@@ -123,8 +123,11 @@ mutual
         Match table params AtLeast (interface c ts) (interface d ss) [] (too_large (held (size_of (interface c us))))
     formal_too_large : {c d : ClassId} {ts ss us : Types} → same_class c d ≡ false → IsOnlyAbove table c ts d us → NODE_LIMIT < size_of (interface d us) →
         Match table params AtMost (interface c ts) (interface d ss) [] (too_large (held (size_of (interface d us))))
-    other_elsewhere : {c d : ClassId} {ts ss : Types} → same_class c d ≡ false → ((us : Types) → IsOnlyAbove table d ss c us → ⊥) → Match table params AtLeast (interface c ts) (interface d ss) [] mismatched
-    formal_elsewhere : {c d : ClassId} {ts ss : Types} → same_class c d ≡ false → ((us : Types) → IsOnlyAbove table c ts d us → ⊥) → Match table params AtMost (interface c ts) (interface d ss) [] mismatched
+    -- without such a one they fit where the one is a subtype of the other
+    other_elsewhere : {c d : ClassId} {ts ss : Types} → same_class c d ≡ false → ((us : Types) → IsOnlyAbove table d ss c us → ⊥) →
+        Match table params AtLeast (interface c ts) (interface d ss) [] (ended (is_on_side table AtLeast (interface c ts) (interface d ss)))
+    formal_elsewhere : {c d : ClassId} {ts ss : Types} → same_class c d ≡ false → ((us : Types) → IsOnlyAbove table c ts d us → ⊥) →
+        Match table params AtMost (interface c ts) (interface d ss) [] (ended (is_on_side table AtMost (interface c ts) (interface d ss)))
     -- function types: part by part, where their signatures fit
     functions : {side : Side} {r o r' o' : Types} {n n' : Named} {e e' : Ty} {cs : List Constraint} {end : End} → signatures_fit side r o n r' o' n' ≡ true →
         MatchAll table params (parts_of side r o n e r' o' n' e') cs end → Match table params side (function r o n e) (function r' o' n' e') cs end

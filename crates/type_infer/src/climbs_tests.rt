@@ -52,7 +52,7 @@ const PART_T: Plain = Plain::Any(T);
 
 const PART_U: Plain = Plain::Any(U);
 
-const CASES: [Case; 13] = [
+const CASES: [Case; 15] = [
     (LEAST, Sample::Object, Sample::Int, true, Sets::None),
     (MOST, Sample::Int, Sample::Object, true, Sets::None),
     (
@@ -107,6 +107,13 @@ const CASES: [Case; 13] = [
     // two superinterfaces of one class: none is the one to match by, unless they are one type
     (
         LEAST,
+        Sample::Iterable(Plain::Number),
+        Sample::Both(Plain::Words),
+        true,
+        Sets::None,
+    ),
+    (
+        LEAST,
         Sample::Iterable(PART_T),
         Sample::Both(Plain::Words),
         false,
@@ -122,8 +129,15 @@ const CASES: [Case; 13] = [
     (
         MOST,
         Sample::Both(PART_T),
-        Sample::Iterable(Plain::Number),
+        Sample::Iterable(Plain::Words),
         false,
+        Sets::None,
+    ),
+    (
+        MOST,
+        Sample::Both(PART_T),
+        Sample::Iterable(Plain::Number),
+        true,
         Sets::None,
     ),
     (

@@ -158,13 +158,9 @@ impl<'a> Matcher<'a> {
         ensures { Finds (Match self.now.rows.now.table self.now.params.now side formal.now other.now) found.old.items found.new.items result }
     {
         match &formal.node {
-            TypeNode::Interface { class, args } => match &other.node {
-                TypeNode::Interface {
-                    class: other_class,
-                    args: other_args,
-                } => self.match_classes(side, *class, args, *other_class, other_args, found),
-                _ => Ok(fits(self.rows, side, formal, other)),
-            },
+            TypeNode::Interface { class, args } => {
+                self.match_classes(side, formal, *class, args, other, found)
+            }
             TypeNode::Function(function) => match &other.node {
                 TypeNode::Function(other_function) => {
                     self.match_functions(side, function, other_function, found)
@@ -175,34 +171,43 @@ impl<'a> Matcher<'a> {
         }
     }
 
-    // Matches a class with a class, argument by argument: those of two classes by the superinterface
-    // of the subtype that is of the class of the supertype.
+    // Matches a formal that is this class with these arguments with a class, argument by argument:
+    // those of two classes by the superinterface of the subtype that is of the class of the supertype.
     #[cycle(matching)]
     fn match_classes(
         &self,
         side: Side,
+        formal: &DartType,
         class: ClassId,
         args: &TypeList,
-        other_class: ClassId,
-        other_args: &TypeList,
+        other: &DartType,
         found: &mut Vec<Constraint>,
     ) -> Result<bool, TypeRefusal>
-        ensures { Finds (Match self.now.rows.now.table self.now.params.now side (interface class (types_of args.now)) (interface other_class (types_of other_args.now))) found.old.items found.new.items result }
+        requires class { formal.now ≡ interface class (types_of args.now) }
+        requires stands { is_as_it_stands side other.now ≡ true }
+        ensures { Finds (Match self.now.rows.now.table self.now.params.now side formal.now other.now) found.old.items found.new.items result }
     {
-        if class == other_class {
+        let TypeNode::Interface {
+            class: other_class,
+            args: other_args,
+        } = &other.node
+        else {
+            return Ok(fits(self.rows, side, formal, other));
+        };
+        if class == *other_class {
             return self.match_lists(side, args.as_slice(), other_args.as_slice(), found);
         }
         match side {
             Side::AtLeast => {
-                match form_above(self.alloc, self.rows, other_class, other_args, class)? {
-                    None => Ok(false),
+                match form_above(self.alloc, self.rows, *other_class, other_args, class)? {
+                    None => Ok(fits(self.rows, side, formal, other)),
                     Some(above) => {
                         self.match_lists(side, args.as_slice(), arguments_of(&above), found)
                     }
                 }
             }
-            Side::AtMost => match form_above(self.alloc, self.rows, class, args, other_class)? {
-                None => Ok(false),
+            Side::AtMost => match form_above(self.alloc, self.rows, class, args, *other_class)? {
+                None => Ok(fits(self.rows, side, formal, other)),
                 Some(above) => {
                     self.match_lists(side, arguments_of(&above), other_args.as_slice(), found)
                 }

@@ -5,13 +5,15 @@ use Rattle.dart_types.specs.Named.{named_of}
 use Rattle.dart_types.specs.Node.{type_of, function_type}
 use Rattle.dart_types.specs.Forms.{params_of}
 use Rattle.type_bounds.specs.Bounds.{is_bare}
+use Rattle.dart_types.specs.Tables.{Table}
 use Rattle.type_infer.specs.Above.{arguments_of, FormsAbove}
 use Rattle.type_infer.specs.Finds.{Finds}
-use Rattle.type_infer.specs.Matching.{is_class, is_function, Match, MatchAll}
+use Rattle.type_infer.specs.Matching.{is_on_side, is_class, is_function, Match, MatchAll}
+use Rattle.type_infer.specs.declared.constraints.Side.{Side}
 use Rattle.type_infer.specs.Pairs.{Pair, pair, paired, paired_by_name}
 use Rattle.type_infer.proofs.FindSteps.{finds_part, all_passed, passed_one, ended_one, refused_one, all_names_passed, passed_name, ended_name, refused_name, other_name}
 use Rattle.type_infer.proofs.FindSteps as find
-use Rattle.type_infer.proofs.MatchSteps.{bare_node, no_class, no_function, class_leaf, function_leaf, finds_leaf, finds_null, finds_both_marked, finds_bare, way_stands, finds_way, finds_no_way, finds_one_class, finds_above_other, finds_other_elsewhere, finds_other_refused, finds_above_formal, finds_formal_elsewhere, finds_formal_refused, at_positional, at_names, finds_other_signature, finds_no_params, finds_params_refused, finds_no_names, finds_names_refused, finds_result}
+use Rattle.type_infer.proofs.MatchSteps.{finds_at, bare_node, no_class, no_function, class_leaf, function_leaf, finds_leaf, finds_null, finds_both_marked, finds_bare, way_stands, finds_way, finds_no_way, finds_one_class, finds_above_other, finds_other_elsewhere, finds_other_refused, finds_above_formal, finds_formal_elsewhere, finds_formal_refused, at_positional, at_names, finds_other_signature, finds_no_params, finds_params_refused, finds_no_names, finds_names_refused, finds_result}
 use Rattle.type_infer.proofs.Refusing.{at_refusal}
 use Rattle.type_infer.proofs.SideMeasure.{side_measure, pairs_measure}
 use Rattle.type_infer.proofs.SideFalls.{both_bare_fall, bare_falls, way_least, arguments_below, other_above_below, formal_above_below, params_below, names_below, result_below, place_below, name_below}
@@ -92,111 +94,140 @@ match_built-returns-in-Some t c =
 pub match_standing-returns-in_default-node : goal.match_standing-returns-in_default-node
 match_standing-returns-in_default-node t c =
     let m = c.args.self.now in
-    let other = subst (λ (s : Ty). is_class s ≡ false) c.other.view_is (no_class c.other.inside.node c.in_default-node.not-Interface) in
-    finds_leaf m.rows.now.table m.params.now c.args.side c.args.formal.now c.args.other.now _ c.args.found.now.items c.fits.result (sym c.formal.view_is ∙ ap type_of c.in-Interface.is) (class_leaf m.params.now c.args.side c.in-Interface.class (types_of c.in-Interface.args) c.args.other.now c.requires.stands other) c.fits.ensures
-
-pub match_standing-returns-in_default-node-2 : goal.match_standing-returns-in_default-node-2
-match_standing-returns-in_default-node-2 t c =
-    let m = c.args.self.now in
-    let other = subst (λ (s : Ty). is_function s ≡ false) c.other.view_is (no_function c.other.inside.node c.in_default-node-2.not-Function) in
-    finds_leaf m.rows.now.table m.params.now c.args.side c.args.formal.now c.args.other.now _ c.args.found.now.items c.fits-in_default-node-2.result (sym c.formal.view_is ∙ ap type_of c.in-Function.is) (function_leaf m.params.now c.args.side c.in-Function.function.value c.args.other.now c.requires.stands other) c.fits-in_default-node-2.ensures
+    let other = subst (λ (s : Ty). is_function s ≡ false) c.other.view_is (no_function c.other.inside.node c.in_default-node.not-Function) in
+    finds_leaf m.rows.now.table m.params.now c.args.side c.args.formal.now c.args.other.now _ c.args.found.now.items c.fits.result (sym c.formal.view_is ∙ ap type_of c.in-Function.is) (function_leaf m.params.now c.args.side c.in-Function.function.value c.args.other.now c.requires.stands other) c.fits.ensures
 
 -- classes
+pub match_classes-returns-in_default : goal.match_classes-returns-in_default
+match_classes-returns-in_default t c =
+    let m = c.args.self.now in
+    let other = subst (λ (s : Ty). is_class s ≡ false) c.other.view_is (no_class c.other.inside.node c.in_default.not-Interface) in
+    finds_leaf m.rows.now.table m.params.now c.args.side c.args.formal.now c.args.other.now _ c.args.found.now.items c.fits.result c.requires.class (class_leaf m.params.now c.args.side c.args.class (types_of c.args.args.now) c.args.other.now c.requires.stands other) c.fits.ensures
+
+-- the sides are as deep by either name
+same_measure : (table : Table) (side : Side) {t t' s s' : Ty} → t ≡ t' → s ≡ s' → side_measure table side t s ≡ side_measure table side t' s'
+same_measure table side {t} {t'} {s} {s'} e f = ap (λ (u : Ty). side_measure table side u s) e ∙ ap (λ (u : Ty). side_measure table side t' u) f
+
 pub match_classes-match_lists-requires : goal.match_classes-match_lists-requires
 match_classes-match_lists-requires t c =
     let m = c.args.self.now in
     let ts = types_of c.args.args.now in
-    let ss = types_of c.args.other_args.now in
-    let below = arguments_below m.rows.now.table m.rows.now.formed c.args.side c.args.class c.args.other_class ts ss in
+    let ss = types_of c.in-Interface.other_args in
+    let measured = same_measure m.rows.now.table c.args.side c.requires.class (sym c.other.view_is ∙ ap type_of c.in-Interface.is) in
+    let below = arguments_below m.rows.now.table m.rows.now.formed c.args.side c.args.class c.in-Interface.other_class ts ss in
     let same : pairs_measure m.rows.now.table (paired c.args.side (types_of c.as_slice.result.now) (types_of c.as_slice-then-eq.result.now)) ≡ pairs_measure m.rows.now.table (paired c.args.side ts ss) = rw (c.as_slice.ensures, c.as_slice-then-eq.ensures) refl in
-    (omega (arith, below, same, c.decreases), tt)
+    (omega (arith, below, same, measured, c.decreases), tt)
 
 pub match_classes-returns-then-eq : goal.match_classes-returns-then-eq
 match_classes-returns-then-eq t c =
     let m = c.args.self.now in
     let ts = types_of c.args.args.now in
-    let ss = types_of c.args.other_args.now in
+    let ss = types_of c.in-Interface.other_args in
+    let other_is = sym c.other.view_is ∙ ap type_of c.in-Interface.is in
     let same : paired c.args.side (types_of c.as_slice.result.now) (types_of c.as_slice-then-eq.result.now) ≡ paired c.args.side ts ss = rw (c.as_slice.ensures, c.as_slice-then-eq.ensures) refl in
-    finds_one_class m.rows.now.table m.params.now c.args.side c.args.class c.args.other_class ts ss c.args.found.now.items c.match_lists.new.found.items c.match_lists.result (sym c.eq.ensures ∙ c.if-eq.true)
-    (subst (λ (ps : List Pair). Finds (MatchAll m.rows.now.table m.params.now ps) c.args.found.now.items c.match_lists.new.found.items c.match_lists.result) same c.match_lists.ensures)
+    finds_at m.rows.now.table m.params.now c.args.side c.args.formal.now c.args.other.now (interface c.args.class ts) (interface c.in-Interface.other_class ss) c.args.found.now.items c.match_lists.new.found.items c.match_lists.result c.requires.class other_is
+    (finds_one_class m.rows.now.table m.params.now c.args.side c.args.class c.in-Interface.other_class ts ss c.args.found.now.items c.match_lists.new.found.items c.match_lists.result (sym c.eq.ensures ∙ c.if-eq.true)
+    (subst (λ (ps : List Pair). Finds (MatchAll m.rows.now.table m.params.now ps) c.args.found.now.items c.match_lists.new.found.items c.match_lists.result) same c.match_lists.ensures))
 
 pub match_classes-returns-in_err-form_above-in-AtLeast : goal.match_classes-returns-in_err-form_above-in-AtLeast
 match_classes-returns-in_err-form_above-in-AtLeast t c =
     let m = c.args.self.now in
     let ts = types_of c.args.args.now in
-    let ss = types_of c.args.other_args.now in
+    let ss = types_of c.in-Interface.other_args in
+    let other_is = sym c.other.view_is ∙ ap type_of c.in-Interface.is in
     let before = c.args.found.now.items in
     let refused = c.in_err-form_above-in-AtLeast.field-0.0 in
-    at_refusal (Finds (Match m.rows.now.table m.params.now c.args.side (interface c.args.class ts) (interface c.args.other_class ss)) before before) c.from_residual.result refused c.from_residual.ensures.1
-    (finds_other_refused m.rows.now.table m.params.now c.args.side c.args.class c.args.other_class ts ss before before (sym c.eq.ensures ∙ c.if-eq.false) refused c.in-AtLeast.is c.in_err-form_above-in-AtLeast.ensures)
+    at_refusal (Finds (Match m.rows.now.table m.params.now c.args.side c.args.formal.now c.args.other.now) before before) c.from_residual.result refused c.from_residual.ensures.1
+    (finds_at m.rows.now.table m.params.now c.args.side c.args.formal.now c.args.other.now (interface c.args.class ts) (interface c.in-Interface.other_class ss) before before (Err refused) c.requires.class other_is
+    (finds_other_refused m.rows.now.table m.params.now c.args.side c.args.class c.in-Interface.other_class ts ss before before (sym c.eq.ensures ∙ c.if-eq.false) refused c.in-AtLeast.is c.in_err-form_above-in-AtLeast.ensures))
 
 pub match_classes-returns-in_err-form_above-in-AtMost : goal.match_classes-returns-in_err-form_above-in-AtMost
 match_classes-returns-in_err-form_above-in-AtMost t c =
     let m = c.args.self.now in
     let ts = types_of c.args.args.now in
-    let ss = types_of c.args.other_args.now in
+    let ss = types_of c.in-Interface.other_args in
+    let other_is = sym c.other.view_is ∙ ap type_of c.in-Interface.is in
     let before = c.args.found.now.items in
     let refused = c.in_err-form_above-in-AtMost.field-0.0 in
-    at_refusal (Finds (Match m.rows.now.table m.params.now c.args.side (interface c.args.class ts) (interface c.args.other_class ss)) before before) c.from_residual-in_err-form_above-in-AtMost.result refused c.from_residual-in_err-form_above-in-AtMost.ensures.1
-    (finds_formal_refused m.rows.now.table m.params.now c.args.side c.args.class c.args.other_class ts ss before before (sym c.eq.ensures ∙ c.if-eq.false) refused c.in-AtMost.is c.in_err-form_above-in-AtMost.ensures)
+    at_refusal (Finds (Match m.rows.now.table m.params.now c.args.side c.args.formal.now c.args.other.now) before before) c.from_residual-in_err-form_above-in-AtMost.result refused c.from_residual-in_err-form_above-in-AtMost.ensures.1
+    (finds_at m.rows.now.table m.params.now c.args.side c.args.formal.now c.args.other.now (interface c.args.class ts) (interface c.in-Interface.other_class ss) before before (Err refused) c.requires.class other_is
+    (finds_formal_refused m.rows.now.table m.params.now c.args.side c.args.class c.in-Interface.other_class ts ss before before (sym c.eq.ensures ∙ c.if-eq.false) refused c.in-AtMost.is c.in_err-form_above-in-AtMost.ensures))
 
 pub match_classes-returns-in-None : goal.match_classes-returns-in-None
 match_classes-returns-in-None t c =
     let m = c.args.self.now in
-    finds_other_elsewhere m.rows.now.table m.params.now c.args.side c.args.class c.args.other_class (types_of c.args.args.now) (types_of c.args.other_args.now) c.args.found.now.items c.args.found.now.items (sym c.eq.ensures ∙ c.if-eq.false) c.in-AtLeast.is
-    (subst (λ (o : Option Ty). FormsAbove m.rows.now.table c.args.other_class (types_of c.args.other_args.now) c.args.class (Ok o)) c.in-None.is c.in_ok-form_above-in-AtLeast.ensures)
+    let ts = types_of c.args.args.now in
+    let ss = types_of c.in-Interface.other_args in
+    let other_is = sym c.other.view_is ∙ ap type_of c.in-Interface.is in
+    let before = c.args.found.now.items in
+    let so = c.fits-in-None.ensures ∙ ap (λ (u : Ty). is_on_side m.rows.now.table c.args.side u c.args.other.now) c.requires.class ∙ ap (λ (u : Ty). is_on_side m.rows.now.table c.args.side (interface c.args.class ts) u) other_is in
+    finds_at m.rows.now.table m.params.now c.args.side c.args.formal.now c.args.other.now (interface c.args.class ts) (interface c.in-Interface.other_class ss) before before (Ok c.fits-in-None.result) c.requires.class other_is
+    (finds_other_elsewhere m.rows.now.table m.params.now c.args.side c.args.class c.in-Interface.other_class ts ss before before (sym c.eq.ensures ∙ c.if-eq.false) c.fits-in-None.result c.in-AtLeast.is
+    (subst (λ (o : Option Ty). FormsAbove m.rows.now.table c.in-Interface.other_class ss c.args.class (Ok o)) c.in-None.is c.in_ok-form_above-in-AtLeast.ensures) so)
 
 pub match_classes-returns-in-None-2 : goal.match_classes-returns-in-None-2
 match_classes-returns-in-None-2 t c =
     let m = c.args.self.now in
-    finds_formal_elsewhere m.rows.now.table m.params.now c.args.side c.args.class c.args.other_class (types_of c.args.args.now) (types_of c.args.other_args.now) c.args.found.now.items c.args.found.now.items (sym c.eq.ensures ∙ c.if-eq.false) c.in-AtMost.is
-    (subst (λ (o : Option Ty). FormsAbove m.rows.now.table c.args.class (types_of c.args.args.now) c.args.other_class (Ok o)) c.in-None-2.is c.in_ok-form_above-in-AtMost.ensures)
+    let ts = types_of c.args.args.now in
+    let ss = types_of c.in-Interface.other_args in
+    let other_is = sym c.other.view_is ∙ ap type_of c.in-Interface.is in
+    let before = c.args.found.now.items in
+    let so = c.fits-in-None-2.ensures ∙ ap (λ (u : Ty). is_on_side m.rows.now.table c.args.side u c.args.other.now) c.requires.class ∙ ap (λ (u : Ty). is_on_side m.rows.now.table c.args.side (interface c.args.class ts) u) other_is in
+    finds_at m.rows.now.table m.params.now c.args.side c.args.formal.now c.args.other.now (interface c.args.class ts) (interface c.in-Interface.other_class ss) before before (Ok c.fits-in-None-2.result) c.requires.class other_is
+    (finds_formal_elsewhere m.rows.now.table m.params.now c.args.side c.args.class c.in-Interface.other_class ts ss before before (sym c.eq.ensures ∙ c.if-eq.false) c.fits-in-None-2.result c.in-AtMost.is
+    (subst (λ (o : Option Ty). FormsAbove m.rows.now.table c.args.class ts c.in-Interface.other_class (Ok o)) c.in-None-2.is c.in_ok-form_above-in-AtMost.ensures) so)
 
 pub match_classes-match_lists-requires-in-Some : goal.match_classes-match_lists-requires-in-Some
 match_classes-match_lists-requires-in-Some t c =
     let m = c.args.self.now in
     let ts = types_of c.args.args.now in
-    let ss = types_of c.args.other_args.now in
-    let above = subst (λ (o : Option Ty). FormsAbove m.rows.now.table c.args.other_class ss c.args.class (Ok o)) c.in-Some.is c.in_ok-form_above-in-AtLeast.ensures in
-    let below : pairs_measure m.rows.now.table (paired c.args.side ts (arguments_of c.in-Some.above)) < side_measure m.rows.now.table c.args.side (interface c.args.class ts) (interface c.args.other_class ss) =
-    rw c.in-AtLeast.is (other_above_below m.rows.now.table m.rows.now.formed c.args.class c.args.other_class ts ss (arguments_of c.in-Some.above) above.1.above) in
+    let ss = types_of c.in-Interface.other_args in
+    let measured = same_measure m.rows.now.table c.args.side c.requires.class (sym c.other.view_is ∙ ap type_of c.in-Interface.is) in
+    let above = subst (λ (o : Option Ty). FormsAbove m.rows.now.table c.in-Interface.other_class ss c.args.class (Ok o)) c.in-Some.is c.in_ok-form_above-in-AtLeast.ensures in
+    let below : pairs_measure m.rows.now.table (paired c.args.side ts (arguments_of c.in-Some.above)) < side_measure m.rows.now.table c.args.side (interface c.args.class ts) (interface c.in-Interface.other_class ss) =
+    rw c.in-AtLeast.is (other_above_below m.rows.now.table m.rows.now.formed c.args.class c.in-Interface.other_class ts ss (arguments_of c.in-Some.above) above.1.above) in
     let same : pairs_measure m.rows.now.table (paired c.args.side (types_of c.as_slice-in-Some.result.now) (types_of c.arguments_of.result.now)) ≡ pairs_measure m.rows.now.table (paired c.args.side ts (arguments_of c.in-Some.above)) = rw (c.as_slice-in-Some.ensures, c.arguments_of.ensures) refl in
-    (omega (arith, below, same, c.decreases), tt)
+    (omega (arith, below, same, measured, c.decreases), tt)
 
 pub match_classes-match_lists-requires-in-Some-2 : goal.match_classes-match_lists-requires-in-Some-2
 match_classes-match_lists-requires-in-Some-2 t c =
     let m = c.args.self.now in
     let ts = types_of c.args.args.now in
-    let ss = types_of c.args.other_args.now in
-    let above = subst (λ (o : Option Ty). FormsAbove m.rows.now.table c.args.class ts c.args.other_class (Ok o)) c.in-Some-2.is c.in_ok-form_above-in-AtMost.ensures in
-    let below : pairs_measure m.rows.now.table (paired c.args.side (arguments_of c.in-Some-2.above) ss) < side_measure m.rows.now.table c.args.side (interface c.args.class ts) (interface c.args.other_class ss) =
-    rw c.in-AtMost.is (formal_above_below m.rows.now.table m.rows.now.formed c.args.class c.args.other_class ts ss (arguments_of c.in-Some-2.above) above.1.above) in
+    let ss = types_of c.in-Interface.other_args in
+    let measured = same_measure m.rows.now.table c.args.side c.requires.class (sym c.other.view_is ∙ ap type_of c.in-Interface.is) in
+    let above = subst (λ (o : Option Ty). FormsAbove m.rows.now.table c.args.class ts c.in-Interface.other_class (Ok o)) c.in-Some-2.is c.in_ok-form_above-in-AtMost.ensures in
+    let below : pairs_measure m.rows.now.table (paired c.args.side (arguments_of c.in-Some-2.above) ss) < side_measure m.rows.now.table c.args.side (interface c.args.class ts) (interface c.in-Interface.other_class ss) =
+    rw c.in-AtMost.is (formal_above_below m.rows.now.table m.rows.now.formed c.args.class c.in-Interface.other_class ts ss (arguments_of c.in-Some-2.above) above.1.above) in
     let same : pairs_measure m.rows.now.table (paired c.args.side (types_of c.arguments_of-in-Some-2.result.now) (types_of c.as_slice-in-Some-2.result.now)) ≡ pairs_measure m.rows.now.table (paired c.args.side (arguments_of c.in-Some-2.above) ss) = rw (c.as_slice-in-Some-2.ensures, c.arguments_of-in-Some-2.ensures) refl in
-    (omega (arith, below, same, c.decreases), tt)
+    (omega (arith, below, same, measured, c.decreases), tt)
 
 pub match_classes-returns-in-Some : goal.match_classes-returns-in-Some
 match_classes-returns-in-Some t c =
     let m = c.args.self.now in
     let ts = types_of c.args.args.now in
-    let ss = types_of c.args.other_args.now in
-    let above = subst (λ (o : Option Ty). FormsAbove m.rows.now.table c.args.other_class ss c.args.class (Ok o)) c.in-Some.is c.in_ok-form_above-in-AtLeast.ensures in
+    let ss = types_of c.in-Interface.other_args in
+    let other_is = sym c.other.view_is ∙ ap type_of c.in-Interface.is in
+    let above = subst (λ (o : Option Ty). FormsAbove m.rows.now.table c.in-Interface.other_class ss c.args.class (Ok o)) c.in-Some.is c.in_ok-form_above-in-AtLeast.ensures in
     let same : paired c.args.side (types_of c.as_slice-in-Some.result.now) (types_of c.arguments_of.result.now) ≡ paired c.args.side ts (arguments_of c.in-Some.above) = rw (c.as_slice-in-Some.ensures, c.arguments_of.ensures) refl in
     let before = c.args.found.now.items in
     let after = c.match_lists-in-Some.new.found.items in
-    finds_above_other m.rows.now.table m.params.now c.args.side c.args.class c.args.other_class ts ss before after (sym c.eq.ensures ∙ c.if-eq.false) c.match_lists-in-Some.result c.in-Some.above c.in-AtLeast.is above
-    (subst (λ (ps : List Pair). Finds (MatchAll m.rows.now.table m.params.now ps) before after c.match_lists-in-Some.result) same c.match_lists-in-Some.ensures)
+    finds_at m.rows.now.table m.params.now c.args.side c.args.formal.now c.args.other.now (interface c.args.class ts) (interface c.in-Interface.other_class ss) before after c.match_lists-in-Some.result c.requires.class other_is
+    (finds_above_other m.rows.now.table m.params.now c.args.side c.args.class c.in-Interface.other_class ts ss before after (sym c.eq.ensures ∙ c.if-eq.false) c.match_lists-in-Some.result c.in-Some.above c.in-AtLeast.is above
+    (subst (λ (ps : List Pair). Finds (MatchAll m.rows.now.table m.params.now ps) before after c.match_lists-in-Some.result) same c.match_lists-in-Some.ensures))
 
 pub match_classes-returns-in-Some-2 : goal.match_classes-returns-in-Some-2
 match_classes-returns-in-Some-2 t c =
     let m = c.args.self.now in
     let ts = types_of c.args.args.now in
-    let ss = types_of c.args.other_args.now in
-    let above = subst (λ (o : Option Ty). FormsAbove m.rows.now.table c.args.class ts c.args.other_class (Ok o)) c.in-Some-2.is c.in_ok-form_above-in-AtMost.ensures in
+    let ss = types_of c.in-Interface.other_args in
+    let other_is = sym c.other.view_is ∙ ap type_of c.in-Interface.is in
+    let above = subst (λ (o : Option Ty). FormsAbove m.rows.now.table c.args.class ts c.in-Interface.other_class (Ok o)) c.in-Some-2.is c.in_ok-form_above-in-AtMost.ensures in
     let same : paired c.args.side (types_of c.arguments_of-in-Some-2.result.now) (types_of c.as_slice-in-Some-2.result.now) ≡ paired c.args.side (arguments_of c.in-Some-2.above) ss = rw (c.as_slice-in-Some-2.ensures, c.arguments_of-in-Some-2.ensures) refl in
     let before = c.args.found.now.items in
     let after = c.match_lists-in-Some-2.new.found.items in
-    finds_above_formal m.rows.now.table m.params.now c.args.side c.args.class c.args.other_class ts ss before after (sym c.eq.ensures ∙ c.if-eq.false) c.match_lists-in-Some-2.result c.in-Some-2.above c.in-AtMost.is above
-    (subst (λ (ps : List Pair). Finds (MatchAll m.rows.now.table m.params.now ps) before after c.match_lists-in-Some-2.result) same c.match_lists-in-Some-2.ensures)
+    finds_at m.rows.now.table m.params.now c.args.side c.args.formal.now c.args.other.now (interface c.args.class ts) (interface c.in-Interface.other_class ss) before after c.match_lists-in-Some-2.result c.requires.class other_is
+    (finds_above_formal m.rows.now.table m.params.now c.args.side c.args.class c.in-Interface.other_class ts ss before after (sym c.eq.ensures ∙ c.if-eq.false) c.match_lists-in-Some-2.result c.in-Some-2.above c.in-AtMost.is above
+    (subst (λ (ps : List Pair). Finds (MatchAll m.rows.now.table m.params.now ps) before after c.match_lists-in-Some-2.result) same c.match_lists-in-Some-2.ensures))
 
 -- parts
 pub match_part-returns-then-is_open : goal.match_part-returns-then-is_open

@@ -1,5 +1,5 @@
 use Rattle.std.proofs.Common.{◌+◌, ◌*◌, drop}
-use Rattle.dart_types.specs.Ty.{nullable, interface, types_of}
+use Rattle.dart_types.specs.Ty.{nullable, types_of}
 use Rattle.dart_types.specs.Named.{named_of}
 use Rattle.dart_types.specs.Node.{function_type}
 use Rattle.dart_types.specs.Forms.{params_of}
@@ -21,8 +21,7 @@ abbrev pub decreases-match_standing : goal.decreases-match_standing
 decreases-match_standing l = 8 * side_measure l.self.now.rows.now.table l.side l.formal.now l.other.now + 2
 
 abbrev pub decreases-match_classes : goal.decreases-match_classes
-decreases-match_classes l =
-    8 * side_measure l.self.now.rows.now.table l.side (interface l.class (types_of l.args.now)) (interface l.other_class (types_of l.other_args.now)) + 1
+decreases-match_classes l = 8 * side_measure l.self.now.rows.now.table l.side l.formal.now l.other.now + 1
 
 abbrev pub decreases-match_functions : goal.decreases-match_functions
 decreases-match_functions l = 8 * side_measure l.self.now.rows.now.table l.side (function_type l.formal.now) (function_type l.other.now) + 1
