@@ -1,9 +1,11 @@
 -- What the definitions say of a few calls.
 use Rattle.std.proofs.Common.{◌≡◌, ℕ, zero, suc, ◌<◌, List, [], ◌∷◌, ◌++◌, get_or, None, Ok, Err, refl, sym, subst, arith}
 use Rattle.std.specs.Prelude.{Contains}
-use Rattle.dart_types.specs.Ty.{Ty, null, interface, variable, nullable, no_more, more}
+use Rattle.dart_types.specs.Ty.{Ty, Types, null, interface, variable, nullable, no_more, more}
 use Rattle.dart_types.specs.Heads.{object}
 use Rattle.dart_types.specs.Substitution.{put, by_params}
+use Rattle.dart_types.specs.SubTest.{sub}
+use Rattle.dart_types.specs.Superinterfaces.{direct}
 use Rattle.dart_types.specs.Tables.{Table}
 use Rattle.dart_types.specs.Sub.{Sub, right_top, right_object, super_interface}
 use Rattle.dart_types.specs.declared.ids.VarId.{VarId}
@@ -11,8 +13,10 @@ use Rattle.dart_types.specs.declared.ids.TheConstants.{CORE, OBJECT}
 use Rattle.dart_types.specs.declared.class_rows.ClassRow.{ClassRow}
 use Rattle.dart_types.proofs.Above.{nullable_null}
 use Rattle.type_bounds.specs.Bounds.{upper_apart, null_right}
+use Rattle.type_bounds.specs.Common.{IsAbove}
+use Rattle.type_infer.specs.Above.{IsOnlyAbove}
 use Rattle.type_infer.specs.Pairs.{Pair, paired}
-use Rattle.type_infer.specs.Matching.{constrained}
+use Rattle.type_infer.specs.Matching.{ended, Match, constrained, other_elsewhere}
 use Rattle.type_infer.specs.Solutions.{Solution, by_upper, no_other, one_other}
 use Rattle.type_infer.specs.Inference.{context_pair, Gathered, none_left, one_pair, Inferred, by_constraints, one_given, all_given, refused_here, solved, outside, no_bound}
 use Rattle.type_infer.specs.declared.constraints.Side.TheVariants.{AtLeast}
@@ -103,3 +107,30 @@ no_solution =
 -- with neither formals nor a context nothing tells T
 unconstrained : Inferred (rows_with (nullable object)) (t ∷ []) (context_pair (variable t) None ++ paired AtLeast no_more no_more) (Err (Unconstrained t))
 unconstrained = by_constraints none_left (refused_here (no_bound (refl, refl) refl))
+
+-- a class `Box<T>`, and one that is a `Box<int>` and a `Box<Object>` at once, which is an error
+abbrev box_of : Ty → Ty
+box_of arg = interface (record { lib = CORE; index = 9 }) (more arg no_more)
+
+abbrev both_row : ClassRow
+both_row = record { id = record { lib = CORE; index = 11 }; params = []; supers = box_of int ∷ box_of object ∷ []; depth = 2 }
+
+abbrev while_edited : Table
+while_edited = record { classes = object_row ∷ int_row ∷ record { id = record { lib = CORE; index = 9 }; params = t ∷ []; supers = object ∷ []; depth = 1 } ∷ both_row ∷ []; vars = [] }
+
+-- both are superinterfaces, so none is the only one
+a_box_of_int : IsAbove while_edited both_row.id no_more (box_of int)
+a_box_of_int = record { row = both_row; row_is = refl; counted = refl; over = box_of int; superinterface = direct refl (0, omega arith, refl); is = refl }
+
+a_box_of_object : IsAbove while_edited both_row.id no_more (box_of object)
+a_box_of_object = record { row = both_row; row_is = refl; counted = refl; over = box_of object; superinterface = direct refl (1, omega arith, refl); is = refl }
+
+none_alone : (us : Types) → IsOnlyAbove while_edited both_row.id no_more (record { lib = CORE; index = 9 }) us → ⊥
+none_alone us a =
+    let one = a.only (more int no_more) a_box_of_int in
+    let two = a.only (more object no_more) a_box_of_object in
+    cc
+
+-- T isn't constrained where `Box<T>` faces the class, and the two fit if they are subtypes as they stand
+several_boxes : Match while_edited (t ∷ []) AtLeast (box_of (variable t)) (interface both_row.id no_more) [] (ended (sub while_edited (interface both_row.id no_more) (box_of (variable t))))
+several_boxes = other_elsewhere refl none_alone
