@@ -25,7 +25,7 @@ arguments_of (variable x) = no_more
 arguments_of (promoted x t) = no_more
 arguments_of (nullable t) = no_more
 
--- a class with these arguments has one superinterface that is of the class d, with these arguments, and no other of that class
+-- of the superinterfaces of a class with the arguments ts one is of the class d, and one only; its arguments are us
 pub record IsOnlyAbove (table : Table) (c : ClassId) (ts : Types) (d : ClassId) (us : Types) : Type 0 where
   pub above : IsAbove table c ts (interface d us)
   pub only : (vs : Types) → IsAbove table c ts (interface d vs) → vs ≡ us
