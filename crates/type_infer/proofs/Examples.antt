@@ -16,7 +16,7 @@ use Rattle.type_bounds.specs.Bounds.{upper_apart, null_right}
 use Rattle.type_bounds.specs.Common.{IsAbove}
 use Rattle.type_infer.specs.Above.{IsOnlyAbove}
 use Rattle.type_infer.specs.Pairs.{Pair, paired}
-use Rattle.type_infer.specs.Matching.{ended, Match, constrained, other_elsewhere}
+use Rattle.type_infer.specs.Matching.{ended, Match, faced, constrained, other_elsewhere}
 use Rattle.type_infer.specs.Solutions.{Solution, by_upper, no_other, one_other}
 use Rattle.type_infer.specs.Inference.{context_pair, Gathered, none_left, one_pair, Inferred, by_constraints, one_given, all_given, refused_here, solved, outside, no_bound}
 use Rattle.type_infer.specs.declared.constraints.Side.TheVariants.{AtLeast}
@@ -48,7 +48,7 @@ abbrev at_least : Ty → Constraint
 at_least s = record { param = t; side = AtLeast; ty = s }
 
 gathered : (table : Table) → Gathered table (t ∷ []) int_and_null (Ok (at_least int ∷ at_least null ∷ []))
-gathered table = one_pair (constrained refl refl) tt (one_pair (constrained refl refl) tt none_left)
+gathered table = one_pair (faced refl (constrained refl)) tt (one_pair (faced refl (constrained refl)) tt none_left)
 
 -- Null is no subtype of int, nor of Object
 null_not_int : (bound : Ty) → Sub (rows_with bound) null int → ⊥
@@ -133,4 +133,4 @@ none_alone us a =
 
 -- T isn't constrained where `Box<T>` faces the class, and the two fit if they are subtypes as they stand
 several_boxes : Match while_edited (t ∷ []) AtLeast (box_of (variable t)) (interface both_row.id no_more) [] (ended (sub while_edited (interface both_row.id no_more) (box_of (variable t))))
-several_boxes = other_elsewhere refl none_alone
+several_boxes = faced refl (other_elsewhere refl none_alone)

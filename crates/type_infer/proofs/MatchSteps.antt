@@ -1,13 +1,13 @@
 -- The rules of matching, as the code takes them.
 use Rattle.std.proofs.Common.{◌≡◌, ℕ, ◌++◌, Box, Global, Bool, true, false, List, [], ◌∷◌, Option, Some, None, Result, Ok, Err, refl, sym, ◌∙◌, subst}
-use Rattle.std.specs.Prelude.{◌≢◌}
-use Rattle.dart_types.specs.Ty.{Ty, Types, null, interface, variable, nullable, types_of, join}
+use Rattle.std.specs.Prelude.{◌≢◌, ◌||◌, not}
+use Rattle.dart_types.specs.Ty.{Ty, Types, invalid, never, void, null, interface, function, variable, promoted, nullable, types_of, join}
 use Rattle.dart_types.specs.Named.{named_of}
 use Rattle.dart_types.specs.Node.{type_of, function_type}
 use Rattle.dart_types.specs.Forms.{params_of}
 use Rattle.dart_types.specs.Same.{same_class}
 use Rattle.dart_types.specs.Tables.{Table}
-use Rattle.dart_types.specs.WellFormed.{is_among}
+use Rattle.dart_types.specs.Heads.{is_plain}
 use Rattle.dart_types.specs.declared.ids.ClassId.{ClassId}
 use Rattle.dart_types.specs.declared.ids.VarId.{VarId}
 use Rattle.dart_types.specs.declared.types.DartType.{DartType}
@@ -22,10 +22,11 @@ use Rattle.type_bounds.specs.Bounds.{is_bare}
 use Rattle.type_infer.specs.Above.{arguments_of, FormsAbove}
 use Rattle.type_infer.specs.Constraints.{opposite}
 use Rattle.type_infer.specs.Finds.{Finds}
-use Rattle.type_infer.specs.Matching.{End, mismatched, too_large, ended, is_on_side, is_built, is_as_it_stands, is_class, is_function, is_leaf, Match, MatchAll, constrained, open_there, null_at_mark, marked_both, marked_formal, marked_other, bound_of_other, unbound_other, promoted_other, one_class, other_climbs, formal_climbs, other_too_large, formal_too_large, other_elsewhere, formal_elsewhere, functions, other_signature, leaf}
+use Rattle.type_infer.specs.Matching.{End, mismatched, too_large, ended, is_on_side, is_built, is_as_it_stands, is_class, is_function, is_leaf, Match, fixed, faced, Face, MatchAll, constrained, open_there, null_at_mark, marked_both, marked_formal, marked_other, bound_of_other, unbound_other, promoted_other, one_class, other_climbs, formal_climbs, other_too_large, formal_too_large, other_elsewhere, formal_elsewhere, functions, other_signature, leaf}
+use Rattle.type_infer.specs.Holding.{holds_param}
 use Rattle.type_infer.specs.Open.{is_open}
 use Rattle.type_infer.specs.Pairs.{Pair, pair, paired, paired_by_name, signatures_fit}
-use Rattle.type_infer.specs.Ways.{GivesWay, stands, to_bound, to_nothing, to_promoted, to_bare}
+use Rattle.type_infer.specs.Ways.{gives_way_at_mark, WayAtMark, GivesWay, stands, to_bound, to_nothing, to_promoted, to_bare}
 use Rattle.type_infer.specs.declared.constraints.Constraint.{Constraint}
 use Rattle.type_infer.specs.declared.constraints.Side.{Side}
 use Rattle.type_infer.specs.declared.constraints.Side.TheVariants.{AtLeast, AtMost}
@@ -67,38 +68,45 @@ no_function (Promoted x u) h = refl
 no_function (Nullable u) h = refl
 
 -- a class faces no class, and a function type no function type
-pub class_leaf : (params : List VarId) (side : Side) (c : ClassId) (ts : Types) (s : Ty) → is_as_it_stands side s ≡ true → is_class s ≡ false → is_leaf params side (interface c ts) s ≡ true
-class_leaf params side c ts s h k = rw (h, k) refl
+pub class_leaf : (side : Side) (c : ClassId) (ts : Types) (s : Ty) → is_as_it_stands side s ≡ true → is_class s ≡ false → is_leaf side (interface c ts) s ≡ true
+class_leaf side c ts s h k = rw (h, k) refl
 
-pub function_leaf : (params : List VarId) (side : Side) (f : FunctionType) (s : Ty) → is_as_it_stands side s ≡ true → is_function s ≡ false → is_leaf params side (function_type f) s ≡ true
-function_leaf params side f s h k = rw (h, k) refl
+pub function_leaf : (side : Side) (f : FunctionType) (s : Ty) → is_as_it_stands side s ≡ true → is_function s ≡ false → is_leaf side (function_type f) s ≡ true
+function_leaf side f s h k = rw (h, k) refl
 
 module _ (table : Table) (params : List VarId) (side : Side) where
   abbrev Fit : Ty → Ty → List Constraint → End → Type 0
-  Fit t s = Match table params side t s
+  Fit t s = Face table params side t s
 
   -- types that fit where the one is a subtype of the other
-  pub finds_ended : (t s : Ty) (before : List Constraint) (b : Bool) → b ≡ is_on_side table side t s → Fit t s [] (ended (is_on_side table side t s)) → Finds (Fit t s) before before (Ok b)
-  finds_ended t s before true e m = finds_nothing (Fit t s) before (subst (λ (x : Bool). Fit t s [] (ended x)) (sym e) m)
-  finds_ended t s before false e m = finds_no_fit (Fit t s) before (subst (λ (x : Bool). Fit t s [] (ended x)) (sym e) m)
+  pub finds_ended : (so : List Constraint → End → Type 0) (t s : Ty) (before : List Constraint) (b : Bool) → b ≡ is_on_side table side t s → so [] (ended (is_on_side table side t s)) → Finds so before before (Ok b)
+  finds_ended so t s before true e m = finds_nothing so before (subst (λ (x : Bool). so [] (ended x)) (sym e) m)
+  finds_ended so t s before false e m = finds_no_fit so before (subst (λ (x : Bool). so [] (ended x)) (sym e) m)
 
   -- a leaf
-  pub finds_leaf : (t s u : Ty) (before : List Constraint) (b : Bool) → t ≡ u → is_leaf params side u s ≡ true → b ≡ is_on_side table side t s → Finds (Fit t s) before before (Ok b)
-  finds_leaf t s u before b is l e = finds_ended t s before b e (leaf (subst (λ (v : Ty). is_leaf params side v s ≡ true) (sym is) l))
+  pub finds_leaf : (t s u : Ty) (before : List Constraint) (b : Bool) → t ≡ u → is_leaf side u s ≡ true → b ≡ is_on_side table side t s → Finds (Fit t s) before before (Ok b)
+  finds_leaf t s u before b is l e = finds_ended (Fit t s) t s before b e (leaf (subst (λ (v : Ty). is_leaf side v s ≡ true) (sym is) l))
 
   -- types that are others by name
   pub finds_at : (t s t' s' : Ty) (before after : List Constraint) (r : Result Bool TypeRefusal) → t ≡ t' → s ≡ s' → Finds (Fit t' s') before after r → Finds (Fit t s) before after r
   finds_at t s t' s' before after r e k f = subst (λ (u : Ty). Finds (Fit u s) before after r) (sym e) (subst (λ (u : Ty). Finds (Fit t' u) before after r) (sym k) f)
 
-  -- a parameter
-  pub finds_open : (x : VarId) (t s : Ty) (before : List Constraint) → t ≡ variable x → is_among params x ≡ true → is_open s ≡ true → Finds (Fit t s) before before (Ok true)
-  finds_open x t s before is a o = subst (λ (u : Ty). Finds (Fit u s) before before (Ok true)) (sym is) (finds_nothing (Fit (variable x) s) before (open_there a o))
+  -- a formal in which no parameter stands, and any other
+  pub finds_fixed : (t s : Ty) (before : List Constraint) (b : Bool) → holds_param params t ≡ false → b ≡ is_on_side table side t s → Finds (Match table params side t s) before before (Ok b)
+  finds_fixed t s before b h e = finds_ended (Match table params side t s) t s before b e (fixed h)
 
-  pub finds_constraint : (x : VarId) (t s copied : Ty) (before after : List Constraint) → t ≡ variable x → is_among params x ≡ true → is_open s ≡ false → copied ≡ s → after ≡ before ++ record { param = x; side = side; ty = copied } ∷ [] → Finds (Fit t s) before after (Ok true)
-  finds_constraint x t s copied before after is a o same e = subst (λ (u : Ty). Finds (Fit u s) before after (Ok true)) (sym is) (subst (λ (u : Ty). Finds (Fit (variable x) u) before after (Ok true)) same found)
+  pub finds_faced : (t s : Ty) (before after : List Constraint) (r : Result Bool TypeRefusal) → holds_param params t ≡ true → Finds (Fit t s) before after r → Finds (Match table params side t s) before after r
+  finds_faced t s before after r h f = finds_by (Fit t s) (Match table params side t s) before after r (λ cs end m. faced h m) f
+
+  -- a parameter
+  pub finds_open : (x : VarId) (s : Ty) (before : List Constraint) → is_open s ≡ true → Finds (Fit (variable x) s) before before (Ok true)
+  finds_open x s before o = finds_nothing (Fit (variable x) s) before (open_there o)
+
+  pub finds_constraint : (x : VarId) (s copied : Ty) (before after : List Constraint) → is_open s ≡ false → copied ≡ s → after ≡ before ++ record { param = x; side = side; ty = copied } ∷ [] → Finds (Fit (variable x) s) before after (Ok true)
+  finds_constraint x s copied before after o same e = subst (λ (u : Ty). Finds (Fit (variable x) u) before after (Ok true)) same found
     where
       found : Finds (Fit (variable x) copied) before after (Ok true)
-      found = (record { param = x; side = side; ty = copied } ∷ [], constrained a (subst (λ (u : Ty). is_open u ≡ false) (sym same) o), e)
+      found = (record { param = x; side = side; ty = copied } ∷ [], constrained (subst (λ (u : Ty). is_open u ≡ false) (sym same) o), e)
 
   -- a formal with `?`
   pub finds_null : (t s : Ty) (before : List Constraint) → s ≡ null → Finds (Fit (nullable t) s) before before (Ok true)
@@ -107,23 +115,46 @@ module _ (table : Table) (params : List VarId) (side : Side) where
   pub finds_both_marked : (t s u : Ty) (before after : List Constraint) (r : Result Bool TypeRefusal) → s ≡ nullable u → Finds (Fit t u) before after r → Finds (Fit (nullable t) s) before after r
   finds_both_marked t s u before after r is f = subst (λ (v : Ty). Finds (Fit (nullable t) v) before after r) (sym is) (finds_by (Fit t u) (Fit (nullable t) (nullable u)) before after r (λ cs end m. marked_both m) f)
 
-  pub finds_bare : (t s : Ty) (before after : List Constraint) (r : Result Bool TypeRefusal) → is_bare s ≡ true → Finds (Fit t s) before after r → Finds (Fit (nullable t) s) before after r
-  finds_bare t s before after r b f = finds_by (Fit t s) (Fit (nullable t) s) before after r (λ cs end m. marked_formal b m) f
+  pub finds_bare : (t s : Ty) (before after : List Constraint) (r : Result Bool TypeRefusal) → is_bare s ≡ true → (is_as_it_stands side s || not (is_plain t)) ≡ true → Finds (Fit t s) before after r → Finds (Fit (nullable t) s) before after r
+  finds_bare t s before after r b k f = finds_by (Fit t s) (Fit (nullable t) s) before after r (λ cs end m. marked_formal b k m) f
 
 -- what a type gives way to
-way_fits : (table : Table) (params : List VarId) (t : Ty) → is_built t ≡ true → {side : Side} {s : Ty} {last : Option Ty} → GivesWay table side s last → (u : Ty) → last ≡ Some u → (cs : List Constraint) (end : End) → Match table params side t u cs end → Match table params side t s cs end
-way_fits table params t b {side} {s} (stands k) u e cs end m = let is : u ≡ s = cc in subst (λ (v : Ty). Match table params side t v cs end) is m
-way_fits table params t b (to_bound k g) u e cs end m = bound_of_other b k (way_fits table params t b g u e cs end m)
-way_fits table params t b (to_nothing k) u e cs end m = cc
-way_fits table params t b (to_promoted g) u e cs end m = promoted_other b (way_fits table params t b g u e cs end m)
-way_fits table params t b (to_bare g) u e cs end m = marked_other b (way_fits table params t b g u e cs end m)
+way_fits : (table : Table) (params : List VarId) (t : Ty) → is_built t ≡ true → {side : Side} {s : Ty} {last : Option Ty} → (side ≡ AtMost → is_plain t ≡ true) → GivesWay table side s last → (u : Ty) → last ≡ Some u → (cs : List Constraint) (end : End) → Face table params side t u cs end → Face table params side t s cs end
+way_fits table params t b {side} {s} p (stands k) u e cs end m = let is : u ≡ s = cc in subst (λ (v : Ty). Face table params side t v cs end) is m
+way_fits table params t b p (to_bound k g) u e cs end m = bound_of_other b k (way_fits table params t b p g u e cs end m)
+way_fits table params t b p (to_nothing k) u e cs end m = cc
+way_fits table params t b p (to_promoted g) u e cs end m = promoted_other b (way_fits table params t b p g u e cs end m)
+way_fits table params t b p (to_bare g) u e cs end m = marked_other (p refl) (way_fits table params t b p g u e cs end m)
 
-way_ends : (table : Table) (params : List VarId) (t : Ty) → is_built t ≡ true → {side : Side} {s : Ty} {last : Option Ty} → GivesWay table side s last → last ≡ None → Match table params side t s [] mismatched
-way_ends table params t b (stands k) e = cc
-way_ends table params t b (to_bound k g) e = bound_of_other b k (way_ends table params t b g e)
-way_ends table params t b (to_nothing k) e = unbound_other b k
-way_ends table params t b (to_promoted g) e = promoted_other b (way_ends table params t b g e)
-way_ends table params t b (to_bare g) e = marked_other b (way_ends table params t b g e)
+way_ends : (table : Table) (params : List VarId) (t : Ty) → is_built t ≡ true → {side : Side} {s : Ty} {last : Option Ty} → (side ≡ AtMost → is_plain t ≡ true) → GivesWay table side s last → last ≡ None → Face table params side t s [] mismatched
+way_ends table params t b p (stands k) e = cc
+way_ends table params t b p (to_bound k g) e = bound_of_other b k (way_ends table params t b p g e)
+way_ends table params t b p (to_nothing k) e = unbound_other b k
+way_ends table params t b p (to_promoted g) e = promoted_other b (way_ends table params t b p g e)
+way_ends table params t b p (to_bare g) e = marked_other (p refl) (way_ends table params t b p g e)
+
+-- a supertype without `?` stands
+bare_stands : (u : Ty) → is_bare u ≡ true → is_as_it_stands AtMost u ≡ true
+bare_stands invalid b = refl
+bare_stands never b = refl
+bare_stands void b = refl
+bare_stands null b = refl
+bare_stands (interface c ts) b = refl
+bare_stands (function r o n e) b = refl
+bare_stands (variable x) b = refl
+bare_stands (promoted x t) b = refl
+bare_stands (nullable t) b = cc
+
+plain_built : (t : Ty) → is_plain t ≡ true → is_built t ≡ true
+plain_built invalid h = cc
+plain_built never h = cc
+plain_built void h = cc
+plain_built null h = cc
+plain_built (interface c ts) h = refl
+plain_built (function r o n e) h = refl
+plain_built (variable x) h = cc
+plain_built (promoted x t) h = cc
+plain_built (nullable t) h = cc
 
 pub way_stands : (table : Table) {side : Side} {s : Ty} {last : Option Ty} → GivesWay table side s last → (u : Ty) → last ≡ Some u → is_as_it_stands side u ≡ true
 way_stands table {side} {s} (stands k) u e = let is : s ≡ u = cc in subst (λ (v : Ty). is_as_it_stands side v ≡ true) is k
@@ -136,16 +167,50 @@ module _ (table : Table) (params : List VarId) where
   abbrev All : List Pair → List Constraint → End → Type 0
   All ps = MatchAll table params ps
 
-  pub finds_way : (side : Side) (t s u : Ty) (before after : List Constraint) (r : Result Bool TypeRefusal) → is_built t ≡ true → GivesWay table side s (Some u) → Finds (Match table params side t u) before after r → Finds (Match table params side t s) before after r
-  finds_way side t s u before after r b g f = finds_by (Match table params side t u) (Match table params side t s) before after r (way_fits table params t b g u refl) f
+  pub finds_way : (side : Side) (t s u : Ty) (before after : List Constraint) (r : Result Bool TypeRefusal) → is_plain t ≡ true → GivesWay table side s (Some u) → Finds (Face table params side t u) before after r → Finds (Face table params side t s) before after r
+  finds_way side t s u before after r h g f = finds_by (Face table params side t u) (Face table params side t s) before after r (way_fits table params t (plain_built t h) (λ e. h) g u refl) f
 
-  pub finds_no_way : (side : Side) (t s : Ty) (before : List Constraint) → is_built t ≡ true → GivesWay table side s None → Finds (Match table params side t s) before before (Ok false)
-  finds_no_way side t s before b g = finds_no_fit (Match table params side t s) before (way_ends table params t b g refl)
+  pub finds_no_way : (side : Side) (t s : Ty) (before : List Constraint) → is_plain t ≡ true → GivesWay table side s None → Finds (Face table params side t s) before before (Ok false)
+  finds_no_way side t s before h g = finds_no_fit (Face table params side t s) before (way_ends table params t (plain_built t h) (λ e. h) g refl)
+
+  -- what another type gives way to where the formal keeps its `?`
+  module _ (t s : Ty) where
+    abbrev Marked : Side → Ty → List Constraint → End → Type 0
+    Marked side = Face table params side (nullable t)
+
+    pub finds_way_at_mark : (side : Side) (u : Ty) (before after : List Constraint) (r : Result Bool TypeRefusal) → WayAtMark table (gives_way_at_mark side t) s (Some u) → Finds (Marked side u) before after r → Finds (Marked side s) before after r
+    finds_way_at_mark AtLeast u before after r w f = at (is_plain t) refl w
+      where
+        at : (k : Bool) → is_plain t ≡ k → WayAtMark table k s (Some u) → Finds (Marked AtLeast s) before after r
+        at true h g = finds_by (Marked AtLeast u) (Marked AtLeast s) before after r (way_fits table params (nullable t) h (λ e. cc) g u refl) f
+        at false h e = let is : u ≡ s = cc in subst (λ (v : Ty). Finds (Marked AtLeast v) before after r) is f
+    finds_way_at_mark AtMost u before after r w f = let is : u ≡ s = cc in subst (λ (v : Ty). Finds (Marked AtMost v) before after r) is f
+
+    pub finds_no_way_at_mark : (side : Side) (before : List Constraint) → WayAtMark table (gives_way_at_mark side t) s None → Finds (Marked side s) before before (Ok false)
+    finds_no_way_at_mark AtLeast before w = at (is_plain t) refl w
+      where
+        at : (k : Bool) → is_plain t ≡ k → WayAtMark table k s None → Finds (Marked AtLeast s) before before (Ok false)
+        at true h g = finds_no_fit (Marked AtLeast s) before (way_ends table params (nullable t) h (λ e. cc) g refl)
+        at false h e = cc
+    finds_no_way_at_mark AtMost before w = cc
+
+    -- what is faced then is taken as it stands, or the formal is no class and no function type
+    pub taken_at_mark : (side : Side) (u : Ty) → WayAtMark table (gives_way_at_mark side t) s (Some u) → is_bare u ≡ true → (is_as_it_stands side u || not (is_plain t)) ≡ true
+    taken_at_mark AtLeast u w b = at (is_plain t) w
+      where
+        at : (k : Bool) → WayAtMark table k s (Some u) → (is_as_it_stands AtLeast u || not k) ≡ true
+        at true g = rw (way_stands table g u refl) refl
+        at false e = either (is_as_it_stands AtLeast u)
+          where
+            either : (k : Bool) → (k || true) ≡ true
+            either true = refl
+            either false = refl
+    taken_at_mark AtMost u w b = rw (bare_stands u b) refl
 
   -- classes
   module _ (side : Side) (c d : ClassId) (ts ss : Types) (before after : List Constraint) where
     abbrev Classes : List Constraint → End → Type 0
-    Classes = Match table params side (interface c ts) (interface d ss)
+    Classes = Face table params side (interface c ts) (interface d ss)
 
     pub finds_one_class : (r : Result Bool TypeRefusal) → same_class c d ≡ true → Finds (All (paired side ts ss)) before after r → Finds Classes before after r
     finds_one_class r e f = finds_by (All (paired side ts ss)) Classes before after r (λ cs end m. one_class e m) f
@@ -155,38 +220,38 @@ module _ (table : Table) (params : List VarId) where
       pub finds_above_other : (r : Result Bool TypeRefusal) (above : Ty) → side ≡ AtLeast → FormsAbove table d ss c (Ok (Some above)) → Finds (All (paired side ts (arguments_of above))) before after r → Finds Classes before after r
       finds_above_other r above is a f =
           finds_by (All (paired side ts (arguments_of above))) Classes before after r
-          (λ cs end m. subst (λ (k : Side). Match table params k (interface c ts) (interface d ss) cs end) (sym is) (other_climbs other a.1 a.2 (subst (λ (k : Side). All (paired k ts (arguments_of above)) cs end) is m))) f
+          (λ cs end m. subst (λ (k : Side). Face table params k (interface c ts) (interface d ss) cs end) (sym is) (other_climbs other a.1 a.2 (subst (λ (k : Side). All (paired k ts (arguments_of above)) cs end) is m))) f
 
       pub finds_other_elsewhere : (b : Bool) → side ≡ AtLeast → FormsAbove table d ss c (Ok None) → b ≡ is_on_side table side (interface c ts) (interface d ss) → Finds Classes before before (Ok b)
       finds_other_elsewhere b is a e =
-          finds_ended table params side (interface c ts) (interface d ss) before b e
-          (subst (λ (k : Side). Match table params k (interface c ts) (interface d ss) [] (ended (is_on_side table k (interface c ts) (interface d ss)))) (sym is) (other_elsewhere other a))
+          finds_ended table params side Classes (interface c ts) (interface d ss) before b e
+          (subst (λ (k : Side). Face table params k (interface c ts) (interface d ss) [] (ended (is_on_side table k (interface c ts) (interface d ss)))) (sym is) (other_elsewhere other a))
 
       pub finds_other_refused : (e : TypeRefusal) → side ≡ AtLeast → FormsAbove table d ss c (Err e) → Finds Classes before after (Err e)
       finds_other_refused (TooLarge nodes) is a =
-          ([], subst (λ (k : Side). Match table params k (interface c ts) (interface d ss) [] (too_large nodes)) (sym is) (subst (λ (n : ℕ). Match table params AtLeast (interface c ts) (interface d ss) [] (too_large n)) (sym a.3) (other_too_large other a.1 a.2)))
+          ([], subst (λ (k : Side). Face table params k (interface c ts) (interface d ss) [] (too_large nodes)) (sym is) (subst (λ (n : ℕ). Face table params AtLeast (interface c ts) (interface d ss) [] (too_large n)) (sym a.3) (other_too_large other a.1 a.2)))
       finds_other_refused Memory is a = tt
 
       -- at most
       pub finds_above_formal : (r : Result Bool TypeRefusal) (above : Ty) → side ≡ AtMost → FormsAbove table c ts d (Ok (Some above)) → Finds (All (paired side (arguments_of above) ss)) before after r → Finds Classes before after r
       finds_above_formal r above is a f =
           finds_by (All (paired side (arguments_of above) ss)) Classes before after r
-          (λ cs end m. subst (λ (k : Side). Match table params k (interface c ts) (interface d ss) cs end) (sym is) (formal_climbs other a.1 a.2 (subst (λ (k : Side). All (paired k (arguments_of above) ss) cs end) is m))) f
+          (λ cs end m. subst (λ (k : Side). Face table params k (interface c ts) (interface d ss) cs end) (sym is) (formal_climbs other a.1 a.2 (subst (λ (k : Side). All (paired k (arguments_of above) ss) cs end) is m))) f
 
       pub finds_formal_elsewhere : (b : Bool) → side ≡ AtMost → FormsAbove table c ts d (Ok None) → b ≡ is_on_side table side (interface c ts) (interface d ss) → Finds Classes before before (Ok b)
       finds_formal_elsewhere b is a e =
-          finds_ended table params side (interface c ts) (interface d ss) before b e
-          (subst (λ (k : Side). Match table params k (interface c ts) (interface d ss) [] (ended (is_on_side table k (interface c ts) (interface d ss)))) (sym is) (formal_elsewhere other a))
+          finds_ended table params side Classes (interface c ts) (interface d ss) before b e
+          (subst (λ (k : Side). Face table params k (interface c ts) (interface d ss) [] (ended (is_on_side table k (interface c ts) (interface d ss)))) (sym is) (formal_elsewhere other a))
 
       pub finds_formal_refused : (e : TypeRefusal) → side ≡ AtMost → FormsAbove table c ts d (Err e) → Finds Classes before after (Err e)
       finds_formal_refused (TooLarge nodes) is a =
-          ([], subst (λ (k : Side). Match table params k (interface c ts) (interface d ss) [] (too_large nodes)) (sym is) (subst (λ (n : ℕ). Match table params AtMost (interface c ts) (interface d ss) [] (too_large n)) (sym a.3) (formal_too_large other a.1 a.2)))
+          ([], subst (λ (k : Side). Face table params k (interface c ts) (interface d ss) [] (too_large nodes)) (sym is) (subst (λ (n : ℕ). Face table params AtMost (interface c ts) (interface d ss) [] (too_large n)) (sym a.3) (formal_too_large other a.1 a.2)))
       finds_formal_refused Memory is a = tt
 
   -- function types
   module _ (side : Side) (f g : FunctionType) (before : List Constraint) where
     abbrev Functions : List Constraint → End → Type 0
-    Functions = Match table params side (function_type f) (function_type g)
+    Functions = Face table params side (function_type f) (function_type g)
 
     abbrev pub FitsSo : Bool
     FitsSo = signatures_fit side (types_of f.required) (types_of f.optional) (named_of f.named) (types_of g.required) (types_of g.optional) (named_of g.named)

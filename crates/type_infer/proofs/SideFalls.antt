@@ -5,6 +5,7 @@ use Rattle.std.specs.Option.{option_map}
 use Rattle.std.specs.Cmp.Lexicographic.{bytes_decides}
 use Rattle.dart_types.specs.Ty.{Ty, Types, Named, invalid, never, void, null, interface, function, variable, promoted, nullable, no_more, more, no_named, more_named, types_of, join}
 use Rattle.dart_types.specs.Named.{named_of}
+use Rattle.dart_types.specs.Heads.{is_plain}
 use Rattle.dart_types.specs.Node.{function_type}
 use Rattle.dart_types.specs.Forms.{params_of}
 use Rattle.dart_types.specs.Normal.{nullable_of, normal, normal_all, normal_named}
@@ -24,7 +25,7 @@ use Rattle.type_bounds.specs.Common.{IsAbove}
 use Rattle.type_bounds.specs.Signatures.{type_named}
 use Rattle.type_infer.specs.Constraints.{opposite}
 use Rattle.type_infer.specs.Pairs.{Pair, paired, paired_with, paired_by_name}
-use Rattle.type_infer.specs.Ways.{GivesWay, stands, to_bound, to_nothing, to_promoted, to_bare}
+use Rattle.type_infer.specs.Ways.{gives_way_at_mark, WayAtMark, GivesWay, stands, to_bound, to_nothing, to_promoted, to_bare}
 use Rattle.type_infer.specs.declared.constraints.Side.{Side}
 use Rattle.type_infer.specs.declared.constraints.Side.TheVariants.{AtLeast, AtMost}
 use Rattle.type_infer.proofs.NameTests.{join-types_of}
@@ -195,6 +196,14 @@ module _ (table : Table) where
     way_least t last (to_nothing k) u e = cc
     way_least t last (to_promoted {y = y} {u = v} g) u e = omega (arith, way_least t last g u e, (left_promoted_falls table wf y v t).1)
     way_least t last (to_bare {s = v} g) u e = omega (arith, way_least t last g u e, right_bare_falls table wf t v)
+
+    pub way_least_at_mark : (side : Side) (t s u : Ty) → WayAtMark table (gives_way_at_mark side t) s (Some u) → M side (nullable t) u ≤ M side (nullable t) s
+    way_least_at_mark AtLeast t s u w = at (is_plain t) w
+      where
+        at : (k : Bool) → WayAtMark table k s (Some u) → M AtLeast (nullable t) u ≤ M AtLeast (nullable t) s
+        at true g = way_least (nullable t) (Some u) g u refl
+        at false e = let is : u ≡ s = cc in subst (λ (v : Ty). M AtLeast (nullable t) v ≤ M AtLeast (nullable t) s) (sym is) (omega arith)
+    way_least_at_mark AtMost t s u w = let is : u ≡ s = cc in subst (λ (v : Ty). M AtMost (nullable t) v ≤ M AtMost (nullable t) s) (sym is) (omega arith)
 
     -- arguments of one class
     pub arguments_below : (side : Side) (c d : ClassId) (ts ss : Types) → Ms (paired side ts ss) ≤ M side (interface c ts) (interface d ss)

@@ -1,5 +1,6 @@
 -- The inference of type arguments.
 pub mod Open
+pub mod Holding
 pub mod Promotions
 pub mod Constraints
 pub mod Pairs

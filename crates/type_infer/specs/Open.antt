@@ -1,4 +1,4 @@
--- Which types are open: they hold `Invalid`, which stands for what isn't known yet.
+-- Which types are open: they hold `Invalid`, which stands for what isn't known yet. The others are valid.
 use Rattle.std.specs.Prelude.{Bool, true, false, ◌||◌}
 use Rattle.dart_types.specs.Ty.{Ty, Types, Named, invalid, never, void, null, interface, function, variable, promoted, nullable, no_more, more, no_named, more_named}
 

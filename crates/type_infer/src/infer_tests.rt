@@ -79,6 +79,24 @@ fn one_parameter(rt: HostRuntime) -> Result<(), Fail> {
         ),
         (Some(Sample::AnyInt), [t, None], [int, None], Sample::Int),
         (Some(Sample::Invalid), [t, None], [int, None], Sample::Int),
+        (
+            None,
+            [t, None],
+            [Some(Sample::ListOfIntX), None],
+            Sample::ListOfX,
+        ),
+        (
+            None,
+            [t, None],
+            [Some(Sample::IntOfAnyInt), None],
+            Sample::IntOfAnyInt,
+        ),
+        (
+            None,
+            [t, None],
+            [Some(Sample::NamedIntX), None],
+            Sample::NamedX,
+        ),
     ];
     for (context, formals, actuals, expected) in cases.iter() {
         let case = Case {
@@ -92,6 +110,24 @@ fn one_parameter(rt: HostRuntime) -> Result<(), Fail> {
         let expected = types_of(alloc, &[Some(*expected), None])?;
         assert!(rt; are_same(given.as_slice(), &expected));
     }
+    Ok(())
+}
+
+// A parameter without a row has the bound `Object?`.
+#[test]
+fn a_parameter_without_a_row(rt: HostRuntime) -> Result<(), Fail> {
+    let alloc = rt.alloc();
+    let rows = sample_rows(alloc)?;
+    let case = Case {
+        params: Params::Z,
+        result: Sample::VarZ,
+        context: None,
+        formals: [Some(Sample::VarZ), None],
+        actuals: [Some(Sample::AnyInt), None],
+    };
+    let given = inferred(alloc, &rows, &case)?;
+    let expected = types_of(alloc, &[Some(Sample::AnyInt), None])?;
+    assert!(rt; are_same(given.as_slice(), &expected));
     Ok(())
 }
 
@@ -203,10 +239,11 @@ fn solutions_of_too_many_nodes_are_refused(rt: HostRuntime) -> Result<(), Fail> 
     Ok(())
 }
 
-// The context of the argument after those of `done`.
+// The context of the argument after those of `done`, in a call with this context.
 fn context_after(
     alloc: Global,
     rows: &Rows,
+    context: Option<Sample>,
     formals: &[Option<Sample>; 2],
     done: &[Option<Sample>; 2],
 ) -> Result<Context, Fail> {
@@ -217,7 +254,7 @@ fn context_after(
     if done.len() >= formals.len() {
         return Err("a formal for the next argument".into());
     }
-    let context = context_in(alloc, None)?;
+    let context = context_in(alloc, context)?;
     let call = Call {
         params: &params,
         result: &returned,
@@ -237,12 +274,14 @@ fn contexts_of_arguments(rt: HostRuntime) -> Result<(), Fail> {
     let f = Some(Sample::TOfS);
     let int = Some(Sample::Int);
     let cases = [
-        ([t, f], [int, None], Sample::IntOfOpen),
-        ([t, f], [None, None], Sample::Invalid),
-        ([t, t], [Some(Sample::IntX), None], Sample::VarX),
+        (None, [t, f], [int, None], Sample::IntOfOpen),
+        (None, [t, f], [None, None], Sample::Invalid),
+        (None, [t, t], [Some(Sample::IntX), None], Sample::VarX),
+        (int, [t, f], [None, None], Sample::Int),
+        (Some(Sample::AnyInt), [t, f], [int, None], Sample::IntOfOpen),
     ];
-    for (formals, done, expected) in cases.iter() {
-        let context = context_after(alloc, &rows, formals, done)?;
+    for (outer, formals, done, expected) in cases.iter() {
+        let context = context_after(alloc, &rows, *outer, formals, done)?;
         let expected = type_of(alloc, *expected)?;
         assert!(rt; context.as_type().is_same(&expected));
     }

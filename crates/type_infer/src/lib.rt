@@ -15,6 +15,7 @@ mod climbs_tests;
 mod constraints;
 mod contexts;
 mod gathering;
+mod holding;
 #[cfg(test)]
 mod infer_tests;
 mod inference;

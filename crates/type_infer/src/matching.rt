@@ -5,16 +5,18 @@ ghost use Rattle.dart_types.specs.Ty.{types_of, variable, nullable, interface};
 ghost use Rattle.dart_types.specs.Named.{named_of};
 ghost use Rattle.dart_types.specs.Node.{function_type};
 ghost use Rattle.dart_types.specs.Forms.{params_of};
-ghost use Rattle.dart_types.specs.WellFormed.{is_among};
+ghost use Rattle.dart_types.specs.Heads.{is_plain};
 ghost use Rattle.type_infer.specs.Pairs.{pair, paired, paired_by_name};
-ghost use Rattle.type_infer.specs.Matching.{is_on_side, is_built, is_as_it_stands, Match, MatchAll};
+ghost use Rattle.type_infer.specs.Holding.{holds_param};
+ghost use Rattle.type_infer.specs.Matching.{is_on_side, is_as_it_stands, Match, Face, MatchAll};
 ghost use Rattle.type_infer.specs.Finds.{Finds};
 
 use crate::climbs::{arguments_of, form_above};
 use crate::constraints::{Constraint, Side};
+use crate::holding::holds_param;
 use crate::openness::is_open;
 use crate::signatures::{count_params, find_named, param_at, signatures_fit};
-use crate::ways::standing;
+use crate::ways::{standing, standing_at_mark};
 use dart_types::{
     ClassId, DartType, FunctionType, NamedType, NamedTypes, Rows, TypeList, TypeNode, TypeRefusal,
     VarId, is_subtype,
@@ -52,7 +54,7 @@ struct Matcher<'a> {
 }
 
 impl<'a> Matcher<'a> {
-    // Matches a formal with another type.
+    // Matches a formal with another type: one in which no parameter stands fits as it stands.
     #[cycle(matching)]
     fn match_types(
         &self,
@@ -63,107 +65,120 @@ impl<'a> Matcher<'a> {
     ) -> Result<bool, TypeRefusal>
         ensures { Finds (Match self.now.rows.now.table self.now.params.now side formal.now other.now) found.old.items found.new.items result }
     {
-        match &formal.node {
-            TypeNode::Var(var) => self.match_var(side, *var, formal, other, found),
-            TypeNode::Nullable(bare) => self.match_marked(side, bare, other, found),
-            TypeNode::Interface { .. } => self.match_built(side, formal, other, found),
-            TypeNode::Function(_) => self.match_built(side, formal, other, found),
-            TypeNode::Invalid => Ok(fits(self.rows, side, formal, other)),
-            TypeNode::Never => Ok(fits(self.rows, side, formal, other)),
-            TypeNode::Void => Ok(fits(self.rows, side, formal, other)),
-            TypeNode::Null => Ok(fits(self.rows, side, formal, other)),
-            TypeNode::Promoted { .. } => Ok(fits(self.rows, side, formal, other)),
+        if !holds_param(self.params, formal) {
+            return Ok(fits(self.rows, side, formal, other));
         }
+        self.face(side, formal, other, found)
     }
 
-    // Matches a formal that is this variable: a parameter is constrained by the other type, unless
-    // that is open.
-    fn match_var(
+    // Matches a formal in which a parameter stands by what it faces.
+    #[cycle(matching)]
+    fn face(
         &self,
         side: Side,
-        var: VarId,
         formal: &DartType,
         other: &DartType,
         found: &mut Vec<Constraint>,
     ) -> Result<bool, TypeRefusal>
-        requires { formal.now ≡ variable var }
-        ensures { Finds (Match self.now.rows.now.table self.now.params.now side formal.now other.now) found.old.items found.new.items result }
+        requires { holds_param self.now.params.now formal.now ≡ true }
+        ensures { Finds (Face self.now.rows.now.table self.now.params.now side formal.now other.now) found.old.items found.new.items result }
     {
-        if !is_param(self.params, var) {
-            return Ok(fits(self.rows, side, formal, other));
+        match &formal.node {
+            TypeNode::Var(var) => self.constrain(side, *var, other, found),
+            TypeNode::Nullable(bare) => self.face_marked(side, bare, other, found),
+            TypeNode::Interface { .. } => self.face_built(side, formal, other, found),
+            TypeNode::Function(_) => self.face_built(side, formal, other, found),
+            TypeNode::Promoted { .. } => Ok(fits(self.rows, side, formal, other)),
+            TypeNode::Invalid => unreachable!(),
+            TypeNode::Never => unreachable!(),
+            TypeNode::Void => unreachable!(),
+            TypeNode::Null => unreachable!(),
         }
+    }
+
+    // Constrains a parameter by the other type, unless that is open.
+    fn constrain(
+        &self,
+        side: Side,
+        param: VarId,
+        other: &DartType,
+        found: &mut Vec<Constraint>,
+    ) -> Result<bool, TypeRefusal>
+        ensures { Finds (Face self.now.rows.now.table self.now.params.now side (variable param) other.now) found.old.items found.new.items result }
+    {
         if is_open(other) {
             return Ok(true);
         }
         let ty = other.copy(self.alloc)?;
-        let constraint = Constraint {
-            param: var,
-            side,
-            ty,
-        };
+        let constraint = Constraint { param, side, ty };
         add(found, constraint)?;
         Ok(true)
     }
 
-    // Matches a formal that is this type with `?`: `Null` gives nothing, and a `?` on the other side
-    // goes with that of the formal.
+    // Matches a formal that is this type with `?`: the other type may give way first; then `Null`
+    // gives nothing, and a `?` on the other side goes with that of the formal.
     #[cycle(matching)]
-    fn match_marked(
+    fn face_marked(
         &self,
         side: Side,
         bare: &DartType,
         other: &DartType,
         found: &mut Vec<Constraint>,
     ) -> Result<bool, TypeRefusal>
-        ensures { Finds (Match self.now.rows.now.table self.now.params.now side (nullable bare.now) other.now) found.old.items found.new.items result }
+        requires { holds_param self.now.params.now bare.now ≡ true }
+        ensures { Finds (Face self.now.rows.now.table self.now.params.now side (nullable bare.now) other.now) found.old.items found.new.items result }
     {
-        match &other.node {
+        let last = match standing_at_mark(self.rows, side, bare, other) {
+            None => return Ok(false),
+            Some(last) => last,
+        };
+        match &last.node {
             TypeNode::Null => Ok(true),
-            TypeNode::Nullable(other_bare) => self.match_types(side, bare, other_bare, found),
-            _ => self.match_types(side, bare, other, found),
+            TypeNode::Nullable(other_bare) => self.face(side, bare, other_bare, found),
+            _ => self.face(side, bare, last, found),
         }
     }
 
     // Matches a formal that is a class or a function type: the other type may give way to a further
     // one.
     #[cycle(matching)]
-    fn match_built(
+    fn face_built(
         &self,
         side: Side,
         formal: &DartType,
         other: &DartType,
         found: &mut Vec<Constraint>,
     ) -> Result<bool, TypeRefusal>
-        requires { is_built formal.now ≡ true }
-        ensures { Finds (Match self.now.rows.now.table self.now.params.now side formal.now other.now) found.old.items found.new.items result }
+        requires { is_plain formal.now ≡ true }
+        ensures { Finds (Face self.now.rows.now.table self.now.params.now side formal.now other.now) found.old.items found.new.items result }
     {
         match standing(self.rows, side, other) {
             None => Ok(false),
-            Some(last) => self.match_standing(side, formal, last, found),
+            Some(last) => self.face_standing(side, formal, last, found),
         }
     }
 
     // Matches it with a type that stands: a class with a class, and a function type with a function
     // type.
     #[cycle(matching)]
-    fn match_standing(
+    fn face_standing(
         &self,
         side: Side,
         formal: &DartType,
         other: &DartType,
         found: &mut Vec<Constraint>,
     ) -> Result<bool, TypeRefusal>
-        requires built { is_built formal.now ≡ true }
+        requires built { is_plain formal.now ≡ true }
         requires stands { is_as_it_stands side other.now ≡ true }
-        ensures { Finds (Match self.now.rows.now.table self.now.params.now side formal.now other.now) found.old.items found.new.items result }
+        ensures { Finds (Face self.now.rows.now.table self.now.params.now side formal.now other.now) found.old.items found.new.items result }
     {
         match &formal.node {
             TypeNode::Interface { class, args } => {
-                self.match_classes(side, formal, *class, args, other, found)
+                self.face_classes(side, formal, *class, args, other, found)
             }
             TypeNode::Function(function) => match &other.node {
                 TypeNode::Function(other_function) => {
-                    self.match_functions(side, function, other_function, found)
+                    self.face_functions(side, function, other_function, found)
                 }
                 _ => Ok(fits(self.rows, side, formal, other)),
             },
@@ -174,7 +189,7 @@ impl<'a> Matcher<'a> {
     // Matches a formal that is this class with these arguments with a class, argument by argument:
     // those of two classes by the superinterface of the subtype that is of the class of the supertype.
     #[cycle(matching)]
-    fn match_classes(
+    fn face_classes(
         &self,
         side: Side,
         formal: &DartType,
@@ -185,7 +200,7 @@ impl<'a> Matcher<'a> {
     ) -> Result<bool, TypeRefusal>
         requires class { formal.now ≡ interface class (types_of args.now) }
         requires stands { is_as_it_stands side other.now ≡ true }
-        ensures { Finds (Match self.now.rows.now.table self.now.params.now side formal.now other.now) found.old.items found.new.items result }
+        ensures { Finds (Face self.now.rows.now.table self.now.params.now side formal.now other.now) found.old.items found.new.items result }
     {
         let TypeNode::Interface {
             class: other_class,
@@ -217,14 +232,14 @@ impl<'a> Matcher<'a> {
 
     // Matches a function type with a function type, part by part, if their signatures fit.
     #[cycle(matching)]
-    fn match_functions(
+    fn face_functions(
         &self,
         side: Side,
         formal: &FunctionType,
         other: &FunctionType,
         found: &mut Vec<Constraint>,
     ) -> Result<bool, TypeRefusal>
-        ensures { Finds (Match self.now.rows.now.table self.now.params.now side (function_type formal.now) (function_type other.now)) found.old.items found.new.items result }
+        ensures { Finds (Face self.now.rows.now.table self.now.params.now side (function_type formal.now) (function_type other.now)) found.old.items found.new.items result }
     {
         if !signatures_fit(side, formal, other) {
             return Ok(false);
@@ -329,13 +344,6 @@ fn add(found: &mut Vec<Constraint>, constraint: Constraint) -> Result<(), AllocE
 {
     found.push(constraint)?;
     Ok(())
-}
-
-// Whether the variable is one of the parameters.
-fn is_param(params: &[VarId], var: VarId) -> bool
-    ensures { result ≡ is_among params.now var }
-{
-    params.iter().any(|param| *param == var)
 }
 
 // Whether a formal, as it stands, is a supertype, or a subtype, of another type.

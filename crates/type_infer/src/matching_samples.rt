@@ -1,6 +1,7 @@
 //! A few classes and type variables, and types over them, for the tests of matching.
 
 use crate::constraints::{Constraint, Side};
+use crate::matching::match_types;
 use dart_types::{
     CORE, ClassId, ClassRow, DartType, FunctionType, NamedType, NamedTypes, OBJECT, Rows, TypeList,
     TypeNode, VarId, VarList, VarRow,
@@ -72,21 +73,27 @@ const Y: VarId = VarId {
     index: 3,
 };
 
+// A variable with the bound `List<int>?`.
+const W: VarId = VarId {
+    lib: CORE,
+    index: 4,
+};
+
 // A variable without a row.
 const Z: VarId = VarId {
     lib: CORE,
-    index: 4,
+    index: 5,
 };
 
 /// The type parameters in the formals.
 pub(crate) const T: VarId = VarId {
     lib: CORE,
-    index: 5,
+    index: 6,
 };
 
 pub(crate) const U: VarId = VarId {
     lib: CORE,
-    index: 6,
+    index: 7,
 };
 
 /// A type over the sample rows.
@@ -112,6 +119,8 @@ pub(crate) enum Sample {
     AnyList(Plain),
     /// `X & List<..>`
     ListX(Plain),
+    /// `X & List<..>?`
+    AnyListX(Plain),
     Pair(Plain, Plain),
     /// `Iterable<Pair<.., ..>>`
     IterableOfPair(Plain, Plain),
@@ -136,12 +145,18 @@ pub(crate) enum Plain {
     Nil,
     Number,
     Words,
+    /// `void`
+    Nothing,
+    /// `Object?`
+    AnyObject,
     Any(VarId),
+    /// A variable with `?`.
+    AnyVar(VarId),
 }
 
 /// A constraint on a parameter.
 #[derive(Clone, Copy)]
-pub(crate) struct Set {
+pub(crate) struct Expected {
     pub(crate) param: VarId,
     pub(crate) side: Side,
     pub(crate) ty: Sample,
@@ -151,13 +166,16 @@ pub(crate) fn of_node(node: TypeNode) -> DartType {
     DartType { node }
 }
 
-fn part(alloc: Global, part: Plain) -> DartType {
+fn part(alloc: Global, part: Plain) -> Result<DartType, AllocError> {
     match part {
-        Plain::Open => of_node(TypeNode::Invalid),
-        Plain::Nil => of_node(TypeNode::Null),
-        Plain::Number => class(alloc, INT),
-        Plain::Words => class(alloc, TEXT),
-        Plain::Any(var) => of_node(TypeNode::Var(var)),
+        Plain::Open => Ok(of_node(TypeNode::Invalid)),
+        Plain::Nil => Ok(of_node(TypeNode::Null)),
+        Plain::Number => Ok(class(alloc, INT)),
+        Plain::Words => Ok(class(alloc, TEXT)),
+        Plain::Nothing => Ok(of_node(TypeNode::Void)),
+        Plain::AnyObject => marked(alloc, class(alloc, OBJECT)),
+        Plain::Any(var) => Ok(of_node(TypeNode::Var(var))),
+        Plain::AnyVar(var) => marked(alloc, of_node(TypeNode::Var(var))),
     }
 }
 
@@ -196,18 +214,26 @@ pub(crate) fn type_of(alloc: Global, sample: Sample) -> Result<DartType, AllocEr
         Sample::Var(var) => Ok(of_node(TypeNode::Var(var))),
         Sample::AnyVar(var) => marked(alloc, of_node(TypeNode::Var(var))),
         Sample::AnyInt => marked(alloc, class(alloc, INT)),
-        Sample::Iterable(arg) => class_of(alloc, ITERABLE, part(alloc, arg)),
-        Sample::List(arg) => class_of(alloc, LIST, part(alloc, arg)),
-        Sample::Twins(arg) => class_of(alloc, TWINS, part(alloc, arg)),
-        Sample::Both(arg) => class_of(alloc, BOTH, part(alloc, arg)),
+        Sample::Iterable(arg) => class_of(alloc, ITERABLE, part(alloc, arg)?),
+        Sample::List(arg) => class_of(alloc, LIST, part(alloc, arg)?),
+        Sample::Twins(arg) => class_of(alloc, TWINS, part(alloc, arg)?),
+        Sample::Both(arg) => class_of(alloc, BOTH, part(alloc, arg)?),
         Sample::AnyList(arg) => {
-            let bare = class_of(alloc, LIST, part(alloc, arg))?;
+            let bare = class_of(alloc, LIST, part(alloc, arg)?)?;
             marked(alloc, bare)
         }
-        Sample::ListX(arg) => promoted_list(alloc, arg),
-        Sample::Pair(first, second) => pair(alloc, part(alloc, first), part(alloc, second)),
+        Sample::ListX(arg) => {
+            let to = class_of(alloc, LIST, part(alloc, arg)?)?;
+            promoted(alloc, to)
+        }
+        Sample::AnyListX(arg) => {
+            let bare = class_of(alloc, LIST, part(alloc, arg)?)?;
+            let to = marked(alloc, bare)?;
+            promoted(alloc, to)
+        }
+        Sample::Pair(first, second) => pair(alloc, part(alloc, first)?, part(alloc, second)?),
         Sample::IterableOfPair(first, second) => {
-            let arg = pair(alloc, part(alloc, first), part(alloc, second))?;
+            let arg = pair(alloc, part(alloc, first)?, part(alloc, second)?)?;
             class_of(alloc, ITERABLE, arg)
         }
         Sample::Call(result) => function(alloc, result, None, None),
@@ -219,8 +245,7 @@ pub(crate) fn type_of(alloc: Global, sample: Sample) -> Result<DartType, AllocEr
     }
 }
 
-fn promoted_list(alloc: Global, arg: Plain) -> Result<DartType, AllocError> {
-    let to = class_of(alloc, LIST, part(alloc, arg))?;
+fn promoted(alloc: Global, to: DartType) -> Result<DartType, AllocError> {
     let to = Box::new(alloc, to)?;
     Ok(of_node(TypeNode::Promoted { var: X, to }))
 }
@@ -228,7 +253,7 @@ fn promoted_list(alloc: Global, arg: Plain) -> Result<DartType, AllocError> {
 fn list_of(alloc: Global, param: Option<Plain>) -> Result<TypeList, AllocError> {
     let mut list = TypeList::new(alloc);
     if let Some(param) = param {
-        list.push(part(alloc, param))?;
+        list.push(part(alloc, param)?)?;
     }
     Ok(list)
 }
@@ -243,7 +268,7 @@ fn function(
         required: list_of(alloc, required)?,
         optional: list_of(alloc, optional)?,
         named: NamedTypes::new(alloc),
-        result: part(alloc, result_type),
+        result: part(alloc, result_type)?,
     };
     let function = Box::new(alloc, function)?;
     Ok(of_node(TypeNode::Function(function)))
@@ -257,7 +282,7 @@ fn function_named(
     second: Option<bool>,
 ) -> Result<DartType, AllocError> {
     let mut named = NamedTypes::new(alloc);
-    put(&mut named, name(alloc, "a", false, part(alloc, param))?)?;
+    put(&mut named, name(alloc, "a", false, part(alloc, param)?)?)?;
     if let Some(required) = second {
         put(&mut named, name(alloc, "b", required, class(alloc, INT))?)?;
     }
@@ -265,7 +290,7 @@ fn function_named(
         required: TypeList::new(alloc),
         optional: TypeList::new(alloc),
         named,
-        result: part(alloc, result_type),
+        result: part(alloc, result_type)?,
     };
     let function = Box::new(alloc, function)?;
     Ok(of_node(TypeNode::Function(function)))
@@ -368,6 +393,11 @@ fn vars(alloc: Global) -> Result<Vec<VarRow>, AllocError> {
         var: Y,
         bound: of_node(TypeNode::Var(X)),
     })?;
+    let list = class_of(alloc, LIST, class(alloc, INT))?;
+    vars.push(VarRow {
+        var: W,
+        bound: marked(alloc, list)?,
+    })?;
     Ok(vars)
 }
 
@@ -385,28 +415,61 @@ pub(crate) fn sample_rows(alloc: Global) -> Result<Rows, Fail> {
 }
 
 /// The variables of the samples by what they show: a bound that is a class, one that is a variable,
-/// and none.
+/// `Object?`, a class with `?`, and none.
 pub(crate) const BOUND_BY_CLASS: VarId = X;
 
 pub(crate) const BOUND_BY_VAR: VarId = Y;
 
+pub(crate) const BOUND_BY_ANY: VarId = A;
+
+pub(crate) const BOUND_BY_ANY_LIST: VarId = W;
+
 pub(crate) const UNBOUND: VarId = Z;
 
-/// Whether these constraints, and no others, were found, in this order.
-pub(crate) fn are_found(
+pub(crate) const LEAST: Side = Side::AtLeast;
+
+pub(crate) const MOST: Side = Side::AtMost;
+
+/// The constraints that are found.
+#[derive(Clone, Copy)]
+pub(crate) enum Finds {
+    None,
+    One(Expected),
+    Two(Expected, Expected),
+}
+
+/// A side, a formal, another type, whether they fit, and what is found.
+pub(crate) type Case = (Side, Sample, Sample, bool, Finds);
+
+/// Whether a case is answered as it says.
+pub(crate) fn is_answered(alloc: Global, rows: &Rows, case: &Case) -> Result<bool, Fail> {
+    let formal = type_of(alloc, case.1)?;
+    let other = type_of(alloc, case.2)?;
+    let mut found = Vec::new(alloc);
+    let fits = match_types(alloc, rows, &[T, U], case.0, &formal, &other, &mut found)?;
+    let same = match case.4 {
+        Finds::None => found.is_empty(),
+        Finds::One(one) => are_found(alloc, &found, &[one])?,
+        Finds::Two(first, second) => are_found(alloc, &found, &[first, second])?,
+    };
+    Ok(fits == case.3 && same)
+}
+
+// Whether these constraints, and no others, were found, in this order.
+fn are_found(
     alloc: Global,
     found: &[Constraint],
-    sets: &[Set],
+    expected: &[Expected],
 ) -> Result<bool, AllocError> {
-    if found.len() != sets.len() {
+    if found.len() != expected.len() {
         return Ok(false);
     }
     for i in 0..found.len() {
-        let ty = type_of(alloc, sets[i].ty)?;
-        if found[i].param != sets[i].param {
+        let ty = type_of(alloc, expected[i].ty)?;
+        if found[i].param != expected[i].param {
             return Ok(false);
         }
-        if !found[i].side.is(sets[i].side) || !found[i].ty.is_same(&ty) {
+        if !found[i].side.is(expected[i].side) || !found[i].ty.is_same(&ty) {
             return Ok(false);
         }
     }

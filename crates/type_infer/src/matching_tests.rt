@@ -1,61 +1,42 @@
 //! Formals and other types with the constraints that they set, worked out from the rules.
 
-use crate::constraints::Side;
-use crate::matching::match_types;
 use crate::matching_samples::{
-    BOUND_BY_CLASS, BOUND_BY_VAR, Plain, Sample, Set, T, U, UNBOUND, are_found, sample_rows,
-    type_of,
+    BOUND_BY_ANY, BOUND_BY_ANY_LIST, BOUND_BY_CLASS, BOUND_BY_VAR, Case, Expected, Finds, LEAST,
+    MOST, Plain, Sample, T, U, UNBOUND, is_answered, sample_rows,
 };
-use dart_types::Rows;
-use std::alloc::Global;
 use std::test::Fail;
 
-// The constraints that are found.
-#[derive(Clone, Copy)]
-enum Sets {
-    None,
-    One(Set),
-    Two(Set, Set),
-}
-
-// A side, a formal, another type, whether they fit, and what is found.
-type Case = (Side, Sample, Sample, bool, Sets);
-
-const LEAST: Side = Side::AtLeast;
-
-const MOST: Side = Side::AtMost;
-
-const T_ABOVE_INT: Set = Set {
+const T_ABOVE_INT: Expected = Expected {
     param: T,
     side: LEAST,
     ty: Sample::Int,
 };
 
-const T_BELOW_INT: Set = Set {
+const T_BELOW_INT: Expected = Expected {
     param: T,
     side: MOST,
     ty: Sample::Int,
 };
 
-const T_ABOVE_TEXT: Set = Set {
+const T_ABOVE_TEXT: Expected = Expected {
     param: T,
     side: LEAST,
     ty: Sample::Text,
 };
 
-const U_BELOW_TEXT: Set = Set {
+const U_BELOW_TEXT: Expected = Expected {
     param: U,
     side: MOST,
     ty: Sample::Text,
 };
 
-const U_ABOVE_TEXT: Set = Set {
+const U_ABOVE_TEXT: Expected = Expected {
     param: U,
     side: LEAST,
     ty: Sample::Text,
 };
 
-const T_ABOVE_ANY_INT: Set = Set {
+const T_ABOVE_ANY_INT: Expected = Expected {
     param: T,
     side: LEAST,
     ty: Sample::AnyInt,
@@ -72,89 +53,89 @@ const VARS_AND_LEAVES: [Case; 17] = [
         Sample::Var(T),
         Sample::Int,
         true,
-        Sets::One(T_ABOVE_INT),
+        Finds::One(T_ABOVE_INT),
     ),
     (
         MOST,
         Sample::Var(T),
         Sample::Int,
         true,
-        Sets::One(T_BELOW_INT),
+        Finds::One(T_BELOW_INT),
     ),
     (
         LEAST,
         Sample::Var(T),
         Sample::AnyInt,
         true,
-        Sets::One(T_ABOVE_ANY_INT),
+        Finds::One(T_ABOVE_ANY_INT),
     ),
-    (LEAST, Sample::Var(T), Sample::Invalid, true, Sets::None),
+    (LEAST, Sample::Var(T), Sample::Invalid, true, Finds::None),
     (
         MOST,
         Sample::Var(T),
         Sample::List(Plain::Open),
         true,
-        Sets::None,
+        Finds::None,
     ),
-    (LEAST, Sample::AnyVar(T), Sample::Null, true, Sets::None),
-    (MOST, Sample::AnyVar(T), Sample::Null, true, Sets::None),
+    (LEAST, Sample::AnyVar(T), Sample::Null, true, Finds::None),
+    (MOST, Sample::AnyVar(T), Sample::Null, true, Finds::None),
     (
         LEAST,
         Sample::AnyVar(T),
         Sample::AnyInt,
         true,
-        Sets::One(T_ABOVE_INT),
+        Finds::One(T_ABOVE_INT),
     ),
     (
         LEAST,
         Sample::AnyVar(T),
         Sample::Int,
         true,
-        Sets::One(T_ABOVE_INT),
+        Finds::One(T_ABOVE_INT),
     ),
     (
         MOST,
         Sample::AnyVar(T),
         Sample::AnyInt,
         true,
-        Sets::One(T_BELOW_INT),
+        Finds::One(T_BELOW_INT),
     ),
     (
         MOST,
         Sample::AnyVar(T),
         Sample::Int,
         true,
-        Sets::One(T_BELOW_INT),
+        Finds::One(T_BELOW_INT),
     ),
-    (MOST, Sample::Null, Sample::AnyInt, true, Sets::None),
-    (LEAST, Sample::Null, Sample::Int, false, Sets::None),
+    (MOST, Sample::Null, Sample::AnyInt, true, Finds::None),
+    (LEAST, Sample::Null, Sample::Int, false, Finds::None),
     (
         LEAST,
         Sample::Var(BOUND_BY_CLASS),
         Sample::Var(BOUND_BY_VAR),
         true,
-        Sets::None,
+        Finds::None,
     ),
     (
         MOST,
         Sample::Var(BOUND_BY_CLASS),
         Sample::Var(BOUND_BY_VAR),
         false,
-        Sets::None,
+        Finds::None,
     ),
     (
         LEAST,
         Sample::Object,
         Sample::Call(Plain::Number),
         true,
-        Sets::None,
+        Finds::None,
     ),
     (
         LEAST,
         Sample::List(PART_T),
         Sample::Call(Plain::Number),
         false,
-        Sets::None,
+        Finds::None,
     ),
 ];
 
@@ -165,100 +146,100 @@ const CLASSES: [Case; 16] = [
         Sample::List(PART_T),
         Sample::List(Plain::Number),
         true,
-        Sets::One(T_ABOVE_INT),
+        Finds::One(T_ABOVE_INT),
     ),
     (
         MOST,
         Sample::List(PART_T),
         Sample::List(Plain::Number),
         true,
-        Sets::One(T_BELOW_INT),
+        Finds::One(T_BELOW_INT),
     ),
     (
         LEAST,
         Sample::List(PART_T),
         Sample::List(Plain::Open),
         true,
-        Sets::None,
+        Finds::None,
     ),
     (
         LEAST,
         Sample::List(PART_T),
         Sample::Var(BOUND_BY_CLASS),
         true,
-        Sets::One(T_ABOVE_INT),
+        Finds::One(T_ABOVE_INT),
     ),
     (
         LEAST,
         Sample::List(PART_T),
         Sample::Var(BOUND_BY_VAR),
         true,
-        Sets::One(T_ABOVE_INT),
+        Finds::One(T_ABOVE_INT),
     ),
     (
         LEAST,
         Sample::List(PART_T),
         Sample::Var(UNBOUND),
         false,
-        Sets::None,
+        Finds::None,
     ),
     (
         LEAST,
         Sample::List(PART_T),
         Sample::ListX(Plain::Words),
         true,
-        Sets::One(T_ABOVE_TEXT),
+        Finds::One(T_ABOVE_TEXT),
     ),
     (
         LEAST,
         Sample::List(PART_T),
         Sample::AnyList(Plain::Number),
         false,
-        Sets::None,
+        Finds::None,
     ),
     (
         MOST,
         Sample::List(PART_T),
         Sample::AnyList(Plain::Number),
         true,
-        Sets::One(T_BELOW_INT),
+        Finds::One(T_BELOW_INT),
     ),
     (
         MOST,
         Sample::List(PART_T),
         Sample::Var(BOUND_BY_CLASS),
         false,
-        Sets::None,
+        Finds::None,
     ),
-    (LEAST, Sample::List(PART_T), Sample::Int, false, Sets::None),
+    (LEAST, Sample::List(PART_T), Sample::Int, false, Finds::None),
     (
         LEAST,
         Sample::List(PART_T),
         Sample::Iterable(Plain::Number),
         false,
-        Sets::None,
+        Finds::None,
     ),
-    (MOST, Sample::List(PART_T), Sample::Text, false, Sets::None),
+    (MOST, Sample::List(PART_T), Sample::Text, false, Finds::None),
     (
         LEAST,
         Sample::Pair(PART_T, PART_U),
         Sample::Pair(Plain::Number, Plain::Words),
         true,
-        Sets::Two(T_ABOVE_INT, U_ABOVE_TEXT),
+        Finds::Two(T_ABOVE_INT, U_ABOVE_TEXT),
     ),
     (
         LEAST,
         Sample::Pair(PART_T, Plain::Number),
         Sample::Pair(Plain::Number, Plain::Nil),
         false,
-        Sets::One(T_ABOVE_INT),
+        Finds::One(T_ABOVE_INT),
     ),
     (
         LEAST,
         Sample::Pair(Plain::Number, PART_T),
         Sample::Pair(Plain::Nil, Plain::Number),
         false,
-        Sets::None,
+        Finds::None,
     ),
 ];
 
@@ -269,106 +250,170 @@ const FUNCTIONS: [Case; 13] = [
         Sample::CallOf(PART_T, PART_U),
         Sample::CallOf(Plain::Number, Plain::Words),
         true,
-        Sets::Two(U_BELOW_TEXT, T_ABOVE_INT),
+        Finds::Two(U_BELOW_TEXT, T_ABOVE_INT),
     ),
     (
         MOST,
         Sample::CallOf(PART_T, PART_U),
         Sample::CallOf(Plain::Number, Plain::Words),
         true,
-        Sets::Two(U_ABOVE_TEXT, T_BELOW_INT),
+        Finds::Two(U_ABOVE_TEXT, T_BELOW_INT),
     ),
     (
         LEAST,
         Sample::CallOf(PART_T, PART_U),
         Sample::CallOf(Plain::Open, Plain::Words),
         true,
-        Sets::One(U_BELOW_TEXT),
+        Finds::One(U_BELOW_TEXT),
     ),
     (
         LEAST,
         Sample::CallOf(PART_T, Plain::Number),
         Sample::CallOf(Plain::Number, Plain::Words),
         false,
-        Sets::None,
+        Finds::None,
     ),
     (
         LEAST,
         Sample::CallOf(PART_T, PART_U),
         Sample::CallOfAny(Plain::Number, Plain::Words),
         true,
-        Sets::Two(U_BELOW_TEXT, T_ABOVE_INT),
+        Finds::Two(U_BELOW_TEXT, T_ABOVE_INT),
     ),
     (
         LEAST,
         Sample::CallOfAny(PART_T, PART_U),
         Sample::CallOf(Plain::Number, Plain::Words),
         false,
-        Sets::None,
+        Finds::None,
     ),
     (
         LEAST,
         Sample::Call(PART_T),
         Sample::CallOfAny(Plain::Number, Plain::Words),
         true,
-        Sets::One(T_ABOVE_INT),
+        Finds::One(T_ABOVE_INT),
     ),
     (
         LEAST,
         Sample::CallOf(PART_T, PART_U),
         Sample::Call(Plain::Number),
         false,
-        Sets::None,
+        Finds::None,
     ),
     (
         MOST,
         Sample::CallOf(PART_T, PART_U),
         Sample::Call(Plain::Number),
         false,
-        Sets::None,
+        Finds::None,
     ),
     (
         LEAST,
         Sample::CallNamed(PART_T, PART_U),
         Sample::CallNamedTwo(Plain::Number, Plain::Words),
         true,
-        Sets::Two(U_BELOW_TEXT, T_ABOVE_INT),
+        Finds::Two(U_BELOW_TEXT, T_ABOVE_INT),
     ),
     (
         LEAST,
         Sample::CallNamed(PART_T, PART_U),
         Sample::CallNamedNeeds(Plain::Number, Plain::Words),
         false,
-        Sets::None,
+        Finds::None,
     ),
     (
         LEAST,
         Sample::CallNamedTwo(PART_T, PART_U),
         Sample::CallNamed(Plain::Number, Plain::Words),
         false,
-        Sets::None,
+        Finds::None,
     ),
     (
         LEAST,
         Sample::CallOf(PART_T, PART_U),
         Sample::List(Plain::Number),
         false,
-        Sets::None,
+        Finds::None,
     ),
 ];
 
-// Whether a case is answered as it says.
-fn is_answered(alloc: Global, rows: &Rows, case: &Case) -> Result<bool, Fail> {
-    let formal = type_of(alloc, case.1)?;
-    let other = type_of(alloc, case.2)?;
-    let mut found = Vec::new(alloc);
-    let fits = match_types(alloc, rows, &[T, U], case.0, &formal, &other, &mut found)?;
-    let same = match case.4 {
-        Sets::None => found.is_empty(),
-        Sets::One(set) => are_found(alloc, &found, &[set])?,
-        Sets::Two(first, second) => are_found(alloc, &found, &[first, second])?,
-    };
-    Ok(fits == case.3 && same)
+// Formals in which no parameter stands, and formals with `?` that keep it while the other type gives
+// way.
+const FIXED_AND_MARKED: [Case; 9] = [
+    (
+        LEAST,
+        Sample::Pair(Plain::AnyObject, PART_T),
+        Sample::Pair(Plain::Any(BOUND_BY_ANY), Plain::Number),
+        true,
+        Finds::One(T_ABOVE_INT),
+    ),
+    (
+        LEAST,
+        Sample::Pair(Plain::AnyObject, PART_T),
+        Sample::Pair(Plain::Nothing, Plain::Number),
+        true,
+        Finds::One(T_ABOVE_INT),
+    ),
+    (
+        MOST,
+        Sample::Pair(Plain::AnyVar(BOUND_BY_ANY), PART_T),
+        Sample::Pair(Plain::AnyObject, Plain::Number),
+        true,
+        Finds::One(T_BELOW_INT),
+    ),
+    (
+        LEAST,
+        Sample::Pair(Plain::Number, PART_T),
+        Sample::Pair(Plain::Words, Plain::Number),
+        false,
+        Finds::None,
+    ),
+    (
+        LEAST,
+        Sample::AnyList(PART_T),
+        Sample::Var(BOUND_BY_ANY_LIST),
+        true,
+        Finds::One(T_ABOVE_INT),
+    ),
+    (
+        LEAST,
+        Sample::AnyList(PART_T),
+        Sample::AnyListX(Plain::Number),
+        true,
+        Finds::One(T_ABOVE_INT),
+    ),
+    (
+        LEAST,
+        Sample::AnyList(PART_T),
+        Sample::Var(BOUND_BY_VAR),
+        true,
+        Finds::One(T_ABOVE_INT),
+    ),
+    (
+        LEAST,
+        Sample::AnyList(PART_T),
+        Sample::Var(UNBOUND),
+        false,
+        Finds::None,
+    ),
+    (
+        MOST,
+        Sample::AnyList(PART_T),
+        Sample::AnyList(Plain::Number),
+        true,
+        Finds::One(T_BELOW_INT),
+    ),
+];
+
+#[test]
+fn fixed_and_marked_formals(rt: HostRuntime) -> Result<(), Fail> {
+    let rows = sample_rows(rt.alloc())?;
+    for (i, case) in FIXED_AND_MARKED.iter().enumerate() {
+        let answered = is_answered(rt.alloc(), &rows, case)?;
+        assert!(rt; answered, "case {i}");
+    }
+    Ok(())
 }
 
 #[test]

@@ -2,9 +2,10 @@
 
 use crate::contexts::Context;
 use dart_types::{
-    CORE, ClassId, ClassRow, DartType, FunctionType, NamedTypes, OBJECT, Rows, TypeList, TypeNode,
-    VarId, VarList, VarRow,
+    CORE, ClassId, ClassRow, DartType, FunctionType, NamedType, NamedTypes, OBJECT, Rows, TypeList,
+    TypeNode, VarId, VarList, VarRow,
 };
+use plain_text::PlainText;
 use std::alloc::{AllocError, Global};
 use std::test::Fail;
 
@@ -59,6 +60,12 @@ const X: VarId = VarId {
     index: 6,
 };
 
+// A parameter without a row.
+const Z: VarId = VarId {
+    lib: CORE,
+    index: 7,
+};
+
 // A type over the sample rows.
 #[derive(Clone, Copy)]
 pub(crate) enum Sample {
@@ -78,8 +85,13 @@ pub(crate) enum Sample {
     VarT,
     VarB,
     VarX,
+    VarZ,
     // `X & int`
     IntX,
+    // `List<X>`
+    ListOfX,
+    // `List<X & int>`
+    ListOfIntX,
     // `T Function(S)`
     TOfS,
     // `int Function(bool)`
@@ -90,6 +102,10 @@ pub(crate) enum Sample {
     IntOfAnyInt,
     // `int Function(Invalid)`
     IntOfOpen,
+    // `X Function({X a})`
+    NamedX,
+    // `X & int Function({X & int a})`, in which the first stands for the result
+    NamedIntX,
 }
 
 pub(crate) fn plain(node: TypeNode) -> DartType {
@@ -145,13 +161,42 @@ pub(crate) fn type_of(alloc: Global, sample: Sample) -> Result<DartType, AllocEr
         Sample::VarT => Ok(plain(TypeNode::Var(T))),
         Sample::VarB => Ok(plain(TypeNode::Var(B))),
         Sample::VarX => Ok(plain(TypeNode::Var(X))),
+        Sample::VarZ => Ok(plain(TypeNode::Var(Z))),
         Sample::IntX => promoted(alloc, X, class(alloc, INT)),
+        Sample::ListOfX => list(alloc, plain(TypeNode::Var(X))),
+        Sample::ListOfIntX => {
+            let arg = promoted(alloc, X, class(alloc, INT))?;
+            list(alloc, arg)
+        }
         Sample::TOfS => function(alloc, plain(TypeNode::Var(T)), plain(TypeNode::Var(S))),
         Sample::IntOfBool => function(alloc, class(alloc, INT), class(alloc, BOOL)),
         Sample::IntOfInt => function(alloc, class(alloc, INT), class(alloc, INT)),
         Sample::IntOfAnyInt => int_of_any_int(alloc),
         Sample::IntOfOpen => function(alloc, class(alloc, INT), plain(TypeNode::Invalid)),
+        Sample::NamedX => named(alloc, plain(TypeNode::Var(X)), plain(TypeNode::Var(X))),
+        Sample::NamedIntX => {
+            let param = promoted(alloc, X, class(alloc, INT))?;
+            let returned = promoted(alloc, X, class(alloc, INT))?;
+            named(alloc, returned, param)
+        }
     }
+}
+
+// The function type with this result and one named parameter.
+fn named(alloc: Global, returned: DartType, param: DartType) -> Result<DartType, AllocError> {
+    let mut named = NamedTypes::new(alloc);
+    named.push(NamedType {
+        name: PlainText::new(alloc, "a")?,
+        required: false,
+        ty: param,
+    })?;
+    let function = FunctionType {
+        required: TypeList::new(alloc),
+        optional: TypeList::new(alloc),
+        named,
+        result: returned,
+    };
+    Ok(plain(TypeNode::Function(Box::new(alloc, function)?)))
 }
 
 fn int_of_any_int(alloc: Global) -> Result<DartType, AllocError> {
@@ -173,6 +218,7 @@ pub(crate) fn of_nodes(alloc: Global, nodes: u64) -> Result<DartType, AllocError
 pub(crate) enum Params {
     T,
     B,
+    Z,
     TAndL,
     TAndS,
 }
@@ -182,6 +228,7 @@ pub(crate) fn params_of(alloc: Global, params: Params) -> Result<Vec<VarId>, All
     match params {
         Params::T => vars.push(T)?,
         Params::B => vars.push(B)?,
+        Params::Z => vars.push(Z)?,
         Params::TAndL => {
             vars.push(T)?;
             vars.push(L)?;

@@ -1,7 +1,9 @@
 //! What a type gives way to where it faces a class or a function type.
 
 ghost use Rattle.std.specs.Option.{option_copied};
-ghost use Rattle.type_infer.specs.Ways.{GivesWay, IsWay};
+ghost use Rattle.dart_types.specs.Heads.{is_plain};
+ghost use Rattle.std.specs.Prelude.{◌≡◌};
+ghost use Rattle.type_infer.specs.Ways.{GivesWay, IsWay, WayAtMark, gives_way_at_mark};
 
 use crate::constraints::Side;
 use dart_types::{DartType, Rows, TypeNode};
@@ -63,5 +65,38 @@ pub(crate) fn standing<'a>(rows: &'a Rows, side: Side, other: &'a DartType) -> O
             Way::Nothing => return None,
             Way::Next(next) => left = next,
         }
+    }
+}
+
+/// Likewise where it faces this type with `?`: a subtype of a class or a function type gives way while
+/// the `?` stays, and any other stands.
+pub(crate) fn standing_at_mark<'a>(
+    rows: &'a Rows,
+    side: Side,
+    bare: &DartType,
+    other: &'a DartType,
+) -> Option<&'a DartType>
+    ensures { WayAtMark rows.now.table (gives_way_at_mark side bare.now) other.now (option_copied result) }
+{
+    match side {
+        Side::AtLeast => {
+            if is_plain(bare) {
+                standing(rows, side, other)
+            } else {
+                Some(other)
+            }
+        }
+        Side::AtMost => Some(other),
+    }
+}
+
+// Whether the type is a class or a function type.
+fn is_plain(t: &DartType) -> bool
+    ensures { result ≡ is_plain t.now }
+{
+    match &t.node {
+        TypeNode::Interface { .. } => true,
+        TypeNode::Function(_) => true,
+        _ => false,
     }
 }

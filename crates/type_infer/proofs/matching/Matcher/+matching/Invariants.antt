@@ -9,22 +9,25 @@ use Rattle.type_infer.proofs.FindSteps.{Passes}
 use Rattle.type_infer.proofs.matching.Matcher.+matching.Given as goal
 
 abbrev pub decreases-match_types : goal.decreases-match_types
-decreases-match_types l = 8 * side_measure l.self.now.rows.now.table l.side l.formal.now l.other.now + 4
+decreases-match_types l = 8 * side_measure l.self.now.rows.now.table l.side l.formal.now l.other.now + 5
 
-abbrev pub decreases-match_marked : goal.decreases-match_marked
-decreases-match_marked l = 8 * side_measure l.self.now.rows.now.table l.side (nullable l.bare.now) l.other.now + 3
+abbrev pub decreases-face : goal.decreases-face
+decreases-face l = 8 * side_measure l.self.now.rows.now.table l.side l.formal.now l.other.now + 4
 
-abbrev pub decreases-match_built : goal.decreases-match_built
-decreases-match_built l = 8 * side_measure l.self.now.rows.now.table l.side l.formal.now l.other.now + 3
+abbrev pub decreases-face_marked : goal.decreases-face_marked
+decreases-face_marked l = 8 * side_measure l.self.now.rows.now.table l.side (nullable l.bare.now) l.other.now + 3
 
-abbrev pub decreases-match_standing : goal.decreases-match_standing
-decreases-match_standing l = 8 * side_measure l.self.now.rows.now.table l.side l.formal.now l.other.now + 2
+abbrev pub decreases-face_built : goal.decreases-face_built
+decreases-face_built l = 8 * side_measure l.self.now.rows.now.table l.side l.formal.now l.other.now + 3
 
-abbrev pub decreases-match_classes : goal.decreases-match_classes
-decreases-match_classes l = 8 * side_measure l.self.now.rows.now.table l.side l.formal.now l.other.now + 1
+abbrev pub decreases-face_standing : goal.decreases-face_standing
+decreases-face_standing l = 8 * side_measure l.self.now.rows.now.table l.side l.formal.now l.other.now + 2
 
-abbrev pub decreases-match_functions : goal.decreases-match_functions
-decreases-match_functions l = 8 * side_measure l.self.now.rows.now.table l.side (function_type l.formal.now) (function_type l.other.now) + 1
+abbrev pub decreases-face_classes : goal.decreases-face_classes
+decreases-face_classes l = 8 * side_measure l.self.now.rows.now.table l.side l.formal.now l.other.now + 1
+
+abbrev pub decreases-face_functions : goal.decreases-face_functions
+decreases-face_functions l = 8 * side_measure l.self.now.rows.now.table l.side (function_type l.formal.now) (function_type l.other.now) + 1
 
 abbrev pub decreases-match_lists : goal.decreases-match_lists
 decreases-match_lists l = 8 * pairs_measure l.self.now.rows.now.table (paired l.side (types_of l.formals.now) (types_of l.others.now))
@@ -36,7 +39,7 @@ abbrev pub decreases-match_named : goal.decreases-match_named
 decreases-match_named l = 8 * pairs_measure l.self.now.rows.now.table (paired_by_name l.side (named_of l.formals.now) (named_of l.others.now))
 
 abbrev pub decreases-match_part : goal.decreases-match_part
-decreases-match_part l = 8 * side_measure l.self.now.rows.now.table l.side l.formal.now l.other.now + 5
+decreases-match_part l = 8 * side_measure l.self.now.rows.now.table l.side l.formal.now l.other.now + 6
 
 -- what is found in the pairs that are left is found in all
 abbrev pub invariant-match_lists-loop-i : goal.invariant-match_lists-loop-i
