@@ -10,7 +10,7 @@ use Rattle.type_infer.specs.Pairs.{Pair}
 use Rattle.type_infer.specs.Refusals.{same_refusal}
 use Rattle.type_infer.specs.Solutions.{Solution, IsFree}
 use Rattle.type_infer.specs.Solves.{Solves}
-use Rattle.type_infer.specs.Inference.{Gathered, Argument, solved, outside, by_bound, no_bound, large_solution, large_beside, large_bound, Arguments, all_given, one_given, refused_later, refused_here, by_constraints, large_match, Infers}
+use Rattle.type_infer.specs.Inference.{Gathered, Argument, solved, outside, by_bound, no_bound, large_solution, large_beside, large_bound, Arguments, all_given, one_given, refused_later, refused_here, by_constraints, large_match, Inferred}
 use Rattle.type_infer.specs.Gathers.{EndsGathering}
 use Rattle.type_infer.specs.Gives.{Gives}
 use Rattle.type_infer.specs.Bounded.{IsHeld, IsByBound}
@@ -79,7 +79,7 @@ next_param xs i d lt = drop-cons xs i d lt ∙ ap (λ (n : ℕ). get_or xs i d �
 
 module _ (table : Table) (params : List VarId) (pairs : List Pair) where
   -- the arguments by all constraints
-  pub inferred : {cs : List Constraint} → Gathered table params pairs (Ok cs) → (answer : Result (List Ty) InferRefusal) → Gives (Arguments table cs [] params) answer → Infers table params pairs answer
+  pub inferred : {cs : List Constraint} → Gathered table params pairs (Ok cs) → (answer : Result (List Ty) InferRefusal) → Gives (Arguments table cs [] params) answer → Gives (Inferred table params pairs) answer
   inferred g (Ok ts) a = by_constraints g a
   inferred g (Err (NoSolution x)) a = by_constraints g a
   inferred g (Err (Unconstrained x)) a = by_constraints g a
@@ -87,6 +87,6 @@ module _ (table : Table) (params : List VarId) (pairs : List Pair) where
   inferred g (Err Memory) a = tt
 
   -- or a type that is too large on the way to them
-  pub not_gathered : (why : TypeRefusal) (said : InferRefusal) → EndsGathering table params pairs why → same_refusal why said → Infers table params pairs (Err said)
-  not_gathered (of_type.TooLarge nodes) said h e = subst (λ (r : InferRefusal). Infers table params pairs (Err r)) (sym e) (large_match h)
-  not_gathered of_type.Memory said h e = subst (λ (r : InferRefusal). Infers table params pairs (Err r)) (sym e) tt
+  pub not_gathered : (why : TypeRefusal) (said : InferRefusal) → EndsGathering table params pairs why → same_refusal why said → Gives (Inferred table params pairs) (Err said)
+  not_gathered (of_type.TooLarge nodes) said h e = subst (λ (r : InferRefusal). Gives (Inferred table params pairs) (Err r)) (sym e) (large_match h)
+  not_gathered of_type.Memory said h e = subst (λ (r : InferRefusal). Gives (Inferred table params pairs) (Err r)) (sym e) tt

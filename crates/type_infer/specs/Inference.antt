@@ -18,7 +18,7 @@ use Rattle.type_infer.specs.declared.constraints.Side.TheVariants.{AtLeast, AtMo
 use Rattle.type_infer.specs.declared.contexts.Context.{Context}
 use Rattle.type_infer.specs.declared.contexts.Call.{Call}
 use Rattle.type_infer.specs.declared.refusal.InferRefusal.{InferRefusal}
-use Rattle.type_infer.specs.declared.refusal.InferRefusal.TheVariants.{NoSolution, Unconstrained, TooLarge, Memory}
+use Rattle.type_infer.specs.declared.refusal.InferRefusal.TheVariants.{NoSolution, Unconstrained, TooLarge}
 
 -- the result of a call against its context, if it has one: it is to be a subtype
 abbrev pub context_pair : Ty → Option Context → List Pair
@@ -75,11 +75,3 @@ pub data Arguments (table : Table) (cs : List Constraint) : (before : List (VarI
 pub data Inferred (table : Table) (params : List VarId) (pairs : List Pair) : Result (List Ty) InferRefusal → Type 0 where
   by_constraints : {cs : List Constraint} {answer : Result (List Ty) InferRefusal} → Gathered table params pairs (Ok cs) → Arguments table cs [] params answer → Inferred table params pairs answer
   large_match : {nodes : ℕ} → Gathered table params pairs (Err nodes) → Inferred table params pairs (Err (TooLarge nodes))
-
--- what a call that infers arguments answers; only want of memory is free
-abbrev pub Infers : Table → List VarId → List Pair → Result (List Ty) InferRefusal → Type 0
-Infers table params pairs (Ok ts) = Inferred table params pairs (Ok ts)
-Infers table params pairs (Err (NoSolution x)) = Inferred table params pairs (Err (NoSolution x))
-Infers table params pairs (Err (Unconstrained x)) = Inferred table params pairs (Err (Unconstrained x))
-Infers table params pairs (Err (TooLarge nodes)) = Inferred table params pairs (Err (TooLarge nodes))
-Infers table params pairs (Err Memory) = Unit {0}

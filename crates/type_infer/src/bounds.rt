@@ -24,8 +24,11 @@ pub(crate) fn within_bound(
 ) -> Result<DartType, InferRefusal>
     ensures { IsHeld rows.now.table before.now param solved.now result }
 {
-    let bound = bound_given(alloc, rows, before, param)?;
     let read = read_type(alloc, solved)?;
+    if is_unbounded(alloc, rows, param) {
+        return Ok(read);
+    }
+    let bound = bound_given(alloc, rows, before, param)?;
     if !is_subtype(rows, &read, &bound) {
         return Err(InferRefusal::NoSolution { param });
     }

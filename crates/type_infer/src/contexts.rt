@@ -16,7 +16,8 @@ use dart_types::{DartType, Rows, TypeNode, TypeRefusal, VarId, substitute};
 use std::alloc::{AllocError, Global};
 
 /// The type that is asked of an expression by what stands around it. `Invalid` stands in it for each
-/// type parameter that is still open.
+/// type parameter that is still open, so an open `T?` is `Invalid?`. A type in which it stands counts
+/// as none.
 #[derive(Drop)]
 pub struct Context {
     ty: DartType,

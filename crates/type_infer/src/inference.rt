@@ -2,7 +2,7 @@
 
 ghost use Rattle.std.specs.Prelude.{◌≡◌, [], length};
 ghost use Rattle.type_infer.specs.Gives.{Gives};
-ghost use Rattle.type_infer.specs.Inference.{pairs_of, Argument, Arguments, Infers};
+ghost use Rattle.type_infer.specs.Inference.{pairs_of, Argument, Arguments, Inferred};
 
 use crate::bounds::{bound_as_argument, within_bound};
 use crate::constraints::Constraint;
@@ -19,7 +19,12 @@ use std::alloc::Global;
 /// against the type of its argument. A parameter is the upper bound of the types that it is to be at
 /// least, else the lower bound of those that it is to be at most, each in the order in which they
 /// were found, with X in the place of each `X & U`; with no such types it is its bound, unless that
-/// is `Object?`. The first parameter that has no argument by this is refused.
+/// is `Object?`.
+///
+/// `NoSolution` comes for the first parameter without an argument where it has a solution, but not
+/// within its bound, and `Unconstrained` where nothing constrains it; `TooLarge` where a type on the
+/// way has too many nodes. A type that holds `Invalid` constrains nothing. So a refusal may come of a
+/// part that a diagnostic left open, and is not one to be told then.
 pub fn infer_arguments(
     alloc: Global,
     rows: &Rows,
@@ -27,7 +32,7 @@ pub fn infer_arguments(
     actuals: &[DartType],
 ) -> Result<TypeList, InferRefusal>
     requires { length call.now.formals.now ≡ length actuals.now }
-    ensures { Infers rows.now.table call.now.params.now (pairs_of call.now actuals.now) result }
+    ensures { Gives (Inferred rows.now.table call.now.params.now (pairs_of call.now actuals.now)) result }
 {
     let found = gather(alloc, rows, call, actuals)?;
     arguments_for(alloc, rows, &found, call.params)

@@ -1,4 +1,4 @@
-//! Laws of inference, for every well-formed rows and all pairs of types.
+//! Laws of inference, for all well-formed rows and all pairs of types.
 
 ghost use Rattle.std.specs.Prelude.{◌≡◌, ◌↔◌, ℕ, List, [], Ok, Err, Result};
 ghost use Rattle.dart_types.specs.Ty.{Ty};
@@ -26,9 +26,9 @@ pub fn inferred_arguments_are_unique(_rows: &Rows, _params: &[VarId])
     ensures { (pairs : List Pair) (a b : Result (List Ty) InferRefusal) → Inferred _rows.now.table _params.now pairs a → Inferred _rows.now.table _params.now pairs b → a ≡ b }
 {}
 
-/// A call is refused exactly for the first parameter that has no argument: one whose solution isn't
-/// within its bound, in which the arguments of those before it are put in, or one that nothing
-/// constrains and that has no bound but `Object?`.
+/// `NoSolution` and `Unconstrained` come exactly for the first parameter that has no argument: for one
+/// whose solution isn't within its bound, in which the arguments of those before it are put in, and
+/// for one that nothing constrains and that has no bound but `Object?`.
 pub fn refusals_are_for_the_first_parameter(_rows: &Rows, _params: &[VarId])
     ensures no_solution { (pairs : List Pair) (x : VarId) → Inferred _rows.now.table _params.now pairs (Err (NoSolution x)) ↔ HasNoSolution _rows.now.table _params.now pairs x }
     ensures unconstrained { (pairs : List Pair) (x : VarId) → Inferred _rows.now.table _params.now pairs (Err (Unconstrained x)) ↔ IsUnconstrained _rows.now.table _params.now pairs x }

@@ -1,5 +1,5 @@
 use Rattle.std.proofs.Common.{List, [], subst}
-use Rattle.type_infer.specs.Inference.{pairs_of, Arguments, Infers}
+use Rattle.type_infer.specs.Inference.{pairs_of, Arguments, Inferred}
 use Rattle.type_infer.specs.Gives.{Gives}
 use Rattle.type_infer.specs.declared.constraints.Constraint.{Constraint}
 use Rattle.type_infer.proofs.ArgumentSteps.{inferred, not_gathered}
@@ -11,7 +11,7 @@ returns-in_err-found c =
     let table = c.args.rows.now.table in
     let params = c.args.call.now.params.now in
     let pairs = pairs_of c.args.call.now c.args.actuals.now in
-    handed_over (Infers table params pairs) c.from_residual.result c.in_err-found.field-0.0 c.from_residual.ensures.1
+    handed_over (Gives (Inferred table params pairs)) c.from_residual.result c.in_err-found.field-0.0 c.from_residual.ensures.1
     (λ said e. not_gathered table params pairs c.in_err-found.field-0.0 said c.in_err-found.ensures.err e)
 
 pub returns : goal.returns

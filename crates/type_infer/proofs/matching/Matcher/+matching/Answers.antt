@@ -8,7 +8,7 @@ use Rattle.type_bounds.specs.Bounds.{is_bare}
 use Rattle.dart_types.specs.Tables.{Table}
 use Rattle.type_infer.specs.Above.{arguments_of, FormsAbove}
 use Rattle.type_infer.specs.Finds.{Finds}
-use Rattle.type_infer.specs.Matching.{is_on_side, is_class, is_function, Match, Face, MatchAll}
+use Rattle.type_infer.specs.Matching.{is_on_side, is_class, is_function, Face, MatchAll}
 use Rattle.type_infer.specs.declared.constraints.Side.{Side}
 use Rattle.type_infer.specs.Pairs.{Pair, pair, paired, paired_by_name}
 use Rattle.type_infer.proofs.FindSteps.{finds_part, all_passed, passed_one, ended_one, refused_one, all_names_passed, passed_name, ended_name, refused_name, other_name}
