@@ -13,6 +13,7 @@ pub mod OneMore
 pub mod OneMoreNamed
 pub mod BoundFalls
 pub mod SomeParts
+pub mod ChainSteps
 pub mod UpperSteps
 pub mod LowerSteps
 pub mod Rests

@@ -11,3 +11,4 @@ pub mod Bounds
 pub mod FormsSome
 pub mod Valid
 pub mod Above
+pub mod Chains

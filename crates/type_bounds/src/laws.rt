@@ -1,7 +1,7 @@
-//! Laws of upper and lower bounds, for every well-formed rows and all types.
+//! Laws of upper and lower bounds, for all well-formed rows and all types.
 
 ghost use Rattle.std.specs.Prelude.{◌≡◌};
-ghost use Rattle.dart_types.specs.Ty.{interface, no_more};
+ghost use Rattle.dart_types.specs.Ty.{Ty, interface, no_more};
 ghost use Rattle.dart_types.specs.WellFormed.{IsOver};
 ghost use Rattle.dart_types.specs.Sub.{Sub};
 ghost use Rattle.dart_types.specs.declared.ids.TheConstants.{FUNCTION};
@@ -17,10 +17,10 @@ pub fn bounds_are_bounds(_rows: &Rows, _s: &DartType, _t: &DartType, _u: &DartTy
     ensures lower { Lower _rows.now.table _s.now _t.now _u.now → IsValid _u.now → Sub _rows.now.table _u.now _s.now × Sub _rows.now.table _u.now _t.now }
 {}
 
-/// Two types have one upper bound and one lower bound at most.
-pub fn bounds_are_unique(_rows: &Rows, _s: &DartType, _t: &DartType, _u: &DartType, _v: &DartType)
-    ensures upper { Upper _rows.now.table _s.now _t.now _u.now → Upper _rows.now.table _s.now _t.now _v.now → _u.now ≡ _v.now }
-    ensures lower { Lower _rows.now.table _s.now _t.now _u.now → Lower _rows.now.table _s.now _t.now _v.now → _u.now ≡ _v.now }
+/// Two types have one upper bound and one lower bound at most, however large.
+pub fn bounds_are_unique(_rows: &Rows)
+    ensures upper { (s t u v : Ty) → Upper _rows.now.table s t u → Upper _rows.now.table s t v → u ≡ v }
+    ensures lower { (s t u v : Ty) → Lower _rows.now.table s t u → Lower _rows.now.table s t v → u ≡ v }
 {}
 
 /// Where rows hold no `Invalid`, the bounds of two types that are over them, and hold none, hold none

@@ -9,6 +9,7 @@
 
 #[cfg(test)]
 mod bound_tests;
+mod chains;
 mod counts;
 mod factors;
 mod function_parts;

@@ -10,6 +10,7 @@ ghost use Rattle.type_bounds.specs.FormsSome.{FormsSome};
 ghost use Rattle.type_bounds.specs.PartsView.{IsPart, IsSomePart, AreSomeParts};
 ghost use Rattle.type_bounds.specs.NamedView.{AreSomeNamed};
 
+use crate::chains::last_of_chain;
 use crate::function_parts::function_part;
 use crate::named_parts::NamedParts;
 use crate::parts::{Part, Parts};
@@ -113,7 +114,8 @@ fn upper_bare(alloc: Global, rows: &Rows, s: &DartType, t: &DartType) -> Result<
     requires right { is_bare t.now ≡ true }
     ensures { IfOk result (IsSomePart (UpperApart rows.now.table s.now t.now)) }
 {
-    match &s.node {
+    let last = last_of_chain(rows, s, t);
+    match &last.node {
         TypeNode::Var(var) => match rows.bound(*var) {
             None => Ok(no_bound()),
             Some(bound) => upper_part(alloc, rows, bound, t),
@@ -126,7 +128,7 @@ fn upper_bare(alloc: Global, rows: &Rows, s: &DartType, t: &DartType) -> Result<
             }
             upper_part(alloc, rows, to, t)
         }
-        _ => upper_right(alloc, rows, s, t),
+        _ => upper_right(alloc, rows, last, t),
     }
 }
 
@@ -138,13 +140,14 @@ fn upper_right(alloc: Global, rows: &Rows, s: &DartType, t: &DartType) -> Result
     requires right { is_bare t.now ≡ true }
     ensures { IfOk result (IsSomePart (UpperApart rows.now.table s.now t.now)) }
 {
-    match &t.node {
+    let last = last_of_chain(rows, t, s);
+    match &last.node {
         TypeNode::Var(var) => match rows.bound(*var) {
             None => Ok(no_bound()),
             Some(bound) => upper_part(alloc, rows, s, bound),
         },
         TypeNode::Promoted { to, .. } => upper_part(alloc, rows, s, to),
-        _ => upper_settled(alloc, rows, s, t),
+        _ => upper_settled(alloc, rows, s, last),
     }
 }
 

@@ -19,6 +19,7 @@ use Rattle.type_bounds.proofs.SomeParts.{some_type, some_by, some_marked, marked
 use Rattle.type_bounds.proofs.Rests.{completed, completed_named, one_more, one_more_named, uppers_end, lowers_end, lowers_end_right, uppers_step, lowers_step, upper_names_end, lower_names_end, upper_names_step, lower_names_step, other_names_step}
 use Rattle.type_bounds.proofs.NamesBefore.{IsEachBefore, NamedSoFar, before_formed, before_later, before_with}
 use Rattle.type_bounds.proofs.SignatureTests.{type_none, type_some, have_lower_counts, same_named_lists, same_length, names_at}
+use Rattle.type_bounds.proofs.ChainSteps.{settled_node, last_apart, last_apart_right, last_bare, last_no_heavier, chain_left, chain_right}
 use Rattle.type_bounds.proofs.UpperSteps.{from_not, at_null_left, at_null_right, at_variable_left, at_unbound_left, at_promoted_twice, at_promoted_left, at_variable_right, at_unbound_right, at_promoted_right, at_settled, at_settled_right, at_class_and_function, at_other_arguments, at_one_class, at_function_and_class, at_other_functions}
 use Rattle.type_bounds.proofs.LowerSteps.{either_holds, at_both_marks, at_no_function_left, at_no_function_right, at_lower_others}
 use Rattle.type_bounds.proofs.uppers.+bounds.Goals.{lower_named-in-Some+in_ok-part+in_ok-lowers, lower_named-in_default}
@@ -75,68 +76,108 @@ upper_apart-returns-then-is_nullable t c =
 -- variables on the left
 pub upper_bare-upper_part-requires : goal.upper_bare-upper_part-requires
 upper_bare-upper_part-requires t c =
-    let is : c.args.s.now ≡ variable c.in-Var.var = sym c.s.view_is ∙ ap type_of c.in-Var.is in
+    let is : c.last_of_chain-last.result.now ≡ variable c.in-Var.var = sym c.last.view_is ∙ ap type_of c.in-Var.is in
     let fall = bound_weighs c.args.rows.now.table c.args.rows.now.formed c.in-Var.var c.in-Some.bound.now (sym c.in-Some.ensures) in
-    (omega (arith, fall, ap (weight_of c.args.rows.now.table) is, c.decreases), tt)
+    let chain = last_no_heavier c.args.rows.now.table c.args.rows.now.formed c.last_of_chain-last.ensures in
+    (omega (arith, fall, chain, ap (weight_of c.args.rows.now.table) is, c.decreases), tt)
 
 pub upper_bare-returns-in-None : goal.upper_bare-returns-in-None
-upper_bare-returns-in-None t c =
-    (invalid, at_unbound_left c.args.rows.now.table c.in-Var.var (sym c.s.view_is ∙ ap type_of c.in-Var.is) c.requires.right (sym c.in-None.ensures), c.no_bound.ensures)
+upper_bare-returns-in-None t c = (
+  invalid,
+  chain_left c.args.rows.now.table c.last_of_chain-last.ensures c.requires.apart c.requires.right (at_unbound_left c.args.rows.now.table c.in-Var.var (sym c.last.view_is ∙ ap type_of c.in-Var.is) c.requires.right (sym c.in-None.ensures)),
+  c.no_bound.ensures,
+)
 
 pub upper_bare-returns-in-Some : goal.upper_bare-returns-in-Some
 upper_bare-returns-in-Some t c =
     some_by (UpperApart c.args.rows.now.table c.args.s.now c.args.t.now) c.upper_part.result (Upper c.args.rows.now.table c.in-Some.bound.now c.args.t.now)
-    (λ u a. at_variable_left c.args.rows.now.table c.in-Var.var (sym c.s.view_is ∙ ap type_of c.in-Var.is) c.requires.right (sym c.in-Some.ensures) a)
+    (λ u a. chain_left c.args.rows.now.table c.last_of_chain-last.ensures c.requires.apart c.requires.right (at_variable_left c.args.rows.now.table c.in-Var.var (sym c.last.view_is ∙ ap type_of c.in-Var.is) c.requires.right (sym c.in-Some.ensures) a))
     c.upper_part.ensures
 
 pub upper_bare-returns-then-is_promoted_from : goal.upper_bare-returns-then-is_promoted_from
 upper_bare-returns-then-is_promoted_from t c = (
   variable c.in-Promoted.var,
-  at_promoted_twice c.args.rows.now.table c.args.t.now c.in-Promoted.var c.in-Promoted.to.value (sym c.s.view_is ∙ ap type_of c.in-Promoted.is) (sym c.is_promoted_from.ensures ∙ c.if-is_promoted_from.true),
+  chain_left c.args.rows.now.table c.last_of_chain-last.ensures c.requires.apart c.requires.right
+  (at_promoted_twice c.args.rows.now.table c.args.t.now c.in-Promoted.var c.in-Promoted.to.value (sym c.last.view_is ∙ ap type_of c.in-Promoted.is) (sym c.is_promoted_from.ensures ∙ c.if-is_promoted_from.true)),
   c.small.ensures,
 )
 
 pub upper_bare-upper_part-requires-in-Promoted : goal.upper_bare-upper_part-requires-in-Promoted
 upper_bare-upper_part-requires-in-Promoted t c =
-    let is : c.args.s.now ≡ promoted c.in-Promoted.var c.deref.result.now = sym c.s.view_is ∙ ap type_of c.in-Promoted.is ∙ ap (promoted c.in-Promoted.var) (sym c.deref.ensures) in
+    let is : c.last_of_chain-last.result.now ≡ promoted c.in-Promoted.var c.deref.result.now = sym c.last.view_is ∙ ap type_of c.in-Promoted.is ∙ ap (promoted c.in-Promoted.var) (sym c.deref.ensures) in
     let fall = promoted_weighs c.args.rows.now.table c.in-Promoted.var c.deref.result.now in
-    (omega (arith, fall, ap (weight_of c.args.rows.now.table) is, c.decreases), tt)
+    let chain = last_no_heavier c.args.rows.now.table c.args.rows.now.formed c.last_of_chain-last.ensures in
+    (omega (arith, fall, chain, ap (weight_of c.args.rows.now.table) is, c.decreases), tt)
 
 pub upper_bare-returns-else-is_promoted_from : goal.upper_bare-returns-else-is_promoted_from
 upper_bare-returns-else-is_promoted_from t c =
     some_by (UpperApart c.args.rows.now.table c.args.s.now c.args.t.now) c.upper_part-in-Promoted.result (Upper c.args.rows.now.table c.deref.result.now c.args.t.now)
     (λ u a.
-    at_promoted_left c.args.rows.now.table c.in-Promoted.var c.deref.result.now (sym c.s.view_is ∙ ap type_of c.in-Promoted.is ∙ ap (promoted c.in-Promoted.var) (sym c.deref.ensures)) c.requires.right (sym c.is_promoted_from.ensures ∙ c.if-is_promoted_from.false) a)
+    chain_left c.args.rows.now.table c.last_of_chain-last.ensures c.requires.apart c.requires.right
+    (at_promoted_left c.args.rows.now.table c.in-Promoted.var c.deref.result.now (sym c.last.view_is ∙ ap type_of c.in-Promoted.is ∙ ap (promoted c.in-Promoted.var) (sym c.deref.ensures)) c.requires.right (sym c.is_promoted_from.ensures ∙ c.if-is_promoted_from.false) a))
     c.upper_part-in-Promoted.ensures
+
+pub upper_bare-upper_right-requires : goal.upper_bare-upper_right-requires
+upper_bare-upper_right-requires t c =
+    let chain = c.last_of_chain-last.ensures in
+    let table = c.args.rows.now.table in
+    let settled = settled_node c.last.inside.node c.last.view_is c.in_default.not-Var c.in_default.not-Promoted (last_bare table chain c.requires.left) in
+    (omega (arith, last_no_heavier table c.args.rows.now.formed chain, c.decreases), (last_apart table chain c.requires.apart, (settled, c.requires.right)))
+
+pub upper_bare-returns-in_default : goal.upper_bare-returns-in_default
+upper_bare-returns-in_default t c =
+    some_by (UpperApart c.args.rows.now.table c.args.s.now c.args.t.now) c.upper_right.result (UpperApart c.args.rows.now.table c.last_of_chain-last.result.now c.args.t.now)
+    (λ u a. chain_left c.args.rows.now.table c.last_of_chain-last.ensures c.requires.apart c.requires.right a)
+    c.upper_right.ensures
 
 -- variables on the right
 pub upper_right-upper_part-requires : goal.upper_right-upper_part-requires
 upper_right-upper_part-requires t c =
-    let is : c.args.t.now ≡ variable c.in-Var.var = sym c.t.view_is ∙ ap type_of c.in-Var.is in
+    let is : c.last_of_chain-last.result.now ≡ variable c.in-Var.var = sym c.last.view_is ∙ ap type_of c.in-Var.is in
     let fall = bound_weighs c.args.rows.now.table c.args.rows.now.formed c.in-Var.var c.in-Some.bound.now (sym c.in-Some.ensures) in
-    (omega (arith, fall, ap (weight_of c.args.rows.now.table) is, c.decreases), tt)
+    let chain = last_no_heavier c.args.rows.now.table c.args.rows.now.formed c.last_of_chain-last.ensures in
+    (omega (arith, fall, chain, ap (weight_of c.args.rows.now.table) is, c.decreases), tt)
 
 pub upper_right-upper_part-requires-in-Promoted : goal.upper_right-upper_part-requires-in-Promoted
 upper_right-upper_part-requires-in-Promoted t c =
-    let is : c.args.t.now ≡ promoted c.in-Promoted.var c.deref.result.now = sym c.t.view_is ∙ ap type_of c.in-Promoted.is ∙ ap (promoted c.in-Promoted.var) (sym c.deref.ensures) in
+    let is : c.last_of_chain-last.result.now ≡ promoted c.in-Promoted.var c.deref.result.now = sym c.last.view_is ∙ ap type_of c.in-Promoted.is ∙ ap (promoted c.in-Promoted.var) (sym c.deref.ensures) in
     let fall = promoted_weighs c.args.rows.now.table c.in-Promoted.var c.deref.result.now in
-    (omega (arith, fall, ap (weight_of c.args.rows.now.table) is, c.decreases), tt)
+    let chain = last_no_heavier c.args.rows.now.table c.args.rows.now.formed c.last_of_chain-last.ensures in
+    (omega (arith, fall, chain, ap (weight_of c.args.rows.now.table) is, c.decreases), tt)
 
 pub upper_right-returns-in-None : goal.upper_right-returns-in-None
-upper_right-returns-in-None t c =
-    (invalid, at_unbound_right c.args.rows.now.table c.in-Var.var (sym c.t.view_is ∙ ap type_of c.in-Var.is) c.requires.left (sym c.in-None.ensures), c.no_bound.ensures)
+upper_right-returns-in-None t c = (
+  invalid,
+  chain_right c.args.rows.now.table c.last_of_chain-last.ensures c.requires.apart c.requires.left (at_unbound_right c.args.rows.now.table c.in-Var.var (sym c.last.view_is ∙ ap type_of c.in-Var.is) c.requires.left (sym c.in-None.ensures)),
+  c.no_bound.ensures,
+)
 
 pub upper_right-returns-in-Some : goal.upper_right-returns-in-Some
 upper_right-returns-in-Some t c =
     some_by (UpperApart c.args.rows.now.table c.args.s.now c.args.t.now) c.upper_part.result (Upper c.args.rows.now.table c.args.s.now c.in-Some.bound.now)
-    (λ u a. at_variable_right c.args.rows.now.table c.in-Var.var (sym c.t.view_is ∙ ap type_of c.in-Var.is) c.requires.left (sym c.in-Some.ensures) a)
+    (λ u a. chain_right c.args.rows.now.table c.last_of_chain-last.ensures c.requires.apart c.requires.left (at_variable_right c.args.rows.now.table c.in-Var.var (sym c.last.view_is ∙ ap type_of c.in-Var.is) c.requires.left (sym c.in-Some.ensures) a))
     c.upper_part.ensures
 
 pub upper_right-returns-in-Promoted : goal.upper_right-returns-in-Promoted
 upper_right-returns-in-Promoted t c =
     some_by (UpperApart c.args.rows.now.table c.args.s.now c.args.t.now) c.upper_part-in-Promoted.result (Upper c.args.rows.now.table c.args.s.now c.deref.result.now)
-    (λ u a. at_promoted_right c.args.rows.now.table c.in-Promoted.var c.deref.result.now (sym c.t.view_is ∙ ap type_of c.in-Promoted.is ∙ ap (promoted c.in-Promoted.var) (sym c.deref.ensures)) c.requires.left a)
+    (λ u a.
+    chain_right c.args.rows.now.table c.last_of_chain-last.ensures c.requires.apart c.requires.left
+    (at_promoted_right c.args.rows.now.table c.in-Promoted.var c.deref.result.now (sym c.last.view_is ∙ ap type_of c.in-Promoted.is ∙ ap (promoted c.in-Promoted.var) (sym c.deref.ensures)) c.requires.left a))
     c.upper_part-in-Promoted.ensures
+
+pub upper_right-upper_settled-requires : goal.upper_right-upper_settled-requires
+upper_right-upper_settled-requires t c =
+    let chain = c.last_of_chain-last.ensures in
+    let table = c.args.rows.now.table in
+    let settled = settled_node c.last.inside.node c.last.view_is c.in_default.not-Var c.in_default.not-Promoted (last_bare table chain c.requires.right) in
+    (omega (arith, last_no_heavier table c.args.rows.now.formed chain, c.decreases), (last_apart_right table chain c.requires.apart, (c.requires.left, settled)))
+
+pub upper_right-returns-in_default : goal.upper_right-returns-in_default
+upper_right-returns-in_default t c =
+    some_by (UpperApart c.args.rows.now.table c.args.s.now c.args.t.now) c.upper_settled.result (UpperApart c.args.rows.now.table c.args.s.now c.last_of_chain-last.result.now)
+    (λ u a. chain_right c.args.rows.now.table c.last_of_chain-last.ensures c.requires.apart c.requires.left a)
+    c.upper_settled.ensures
 
 -- types that are no variables
 pub upper_settled-returns-in_default : goal.upper_settled-returns-in_default
