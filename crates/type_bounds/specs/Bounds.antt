@@ -1,4 +1,4 @@
--- Upper and lower bounds: one constructor is one row of the tables, of which the first that fits is taken.
+-- Upper and lower bounds, the "standard upper bounds and standard lower bounds" of Dart: a constructor is a form that a row of the tables speaks of, and the first row that fits is taken.
 use Rattle.std.specs.Prelude.{◌≡◌, ◌≢◌, ℕ, Bool, true, false, ◌&&◌, ◌||◌, List, Some, None, bytes_eq}
 use Rattle.dart_types.specs.Ty.{Ty, Types, Named, invalid, never, void, null, interface, function, variable, promoted, nullable, no_more, more, no_named, more_named, count}
 use Rattle.dart_types.specs.Heads.{object}

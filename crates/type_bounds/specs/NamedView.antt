@@ -21,7 +21,7 @@ abbrev pub AreBefore : Option (List NamedType) → List ℕ → Type 0
 AreBefore None name = Unit {0}
 AreBefore (Some formed) name = All (λ before. IsNameBefore before name) (names_of formed)
 
--- the first list with one more parameter at the end
+-- the second list behind the first
 abbrev pub join_named : Named → Named → Named
 join_named no_named ms = ms
 join_named (more_named n r t ns) ms = more_named n r t (join_named ns ms)

@@ -13,7 +13,7 @@ abbrev pub variable_without_null : Table → (Ty → Ty) → VarId → Option Ty
 variable_without_null table below x None = variable x
 variable_without_null table below x (Some bound) = if sub table bound object then variable x else promoted x (below bound)
 
--- One step: `Null` to `Never`, `U?` to U without null, X to `X & B` of its bound B without null, unless B has no null, and `X & U` to `X & V` of U without null; each other type stays, `void` too.
+-- One step: `Null` to `Never`, `U?` to U without null, X to `X & B` of its bound B without null, unless it has none or B is a subtype of Object, and `X & U` to `X & V` of U without null; each other type stays, `void` too.
 abbrev pub without_null : Table → (Ty → Ty) → Ty → Ty
 without_null table below invalid = invalid
 without_null table below never = never

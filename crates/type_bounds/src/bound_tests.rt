@@ -1,8 +1,9 @@
 //! Upper and lower bounds of types.
 
 use crate::null_tests::answers;
-use crate::sample_types::{Sample, of_nodes, sample_rows, type_of};
+use crate::sample_types::{Sample, chain_rows, in_chain, of_nodes, plain, sample_rows, type_of};
 use crate::uppers::{lower, upper};
+use dart_types::TypeNode;
 use std::test::Fail;
 
 // Two types with their upper bound.
@@ -26,6 +27,8 @@ fn upper_bounds(rt: HostRuntime) -> Result<(), Fail> {
         (Sample::VarN, Sample::IntFunction, Sample::Object),
         (Sample::IntFunction, Sample::VarN, Sample::Object),
         (Sample::VarN, Sample::VarF, Sample::AnyObject),
+        (Sample::VarF, Sample::Int, Sample::AnyObject),
+        (Sample::Int, Sample::VarF, Sample::AnyObject),
         (Sample::VarF, Sample::IntE, Sample::VarE),
         (Sample::IntE, Sample::VarF, Sample::AnyObject),
         (Sample::IntE, Sample::ListE, Sample::VarE),
@@ -39,6 +42,22 @@ fn upper_bounds(rt: HostRuntime) -> Result<(), Fail> {
         let formed = upper(alloc, &rows, &s, &t)?;
         assert!(rt; formed.is_same(&expected));
     }
+    Ok(())
+}
+
+// A variable at the end of a long chain gives way to all before it, on either side.
+#[test]
+fn long_chains_of_variables(rt: HostRuntime) -> Result<(), Fail> {
+    let alloc = rt.alloc();
+    let count = 40_000;
+    let rows = chain_rows(alloc, count)?;
+    let last = plain(TypeNode::Var(in_chain(count - 1)));
+    let int = type_of(alloc, Sample::Int)?;
+    let expected = type_of(alloc, Sample::AnyObject)?;
+    let left = upper(alloc, &rows, &last, &int)?;
+    assert!(rt; left.is_same(&expected));
+    let right = upper(alloc, &rows, &int, &last)?;
+    assert!(rt; right.is_same(&expected));
     Ok(())
 }
 

@@ -1,8 +1,8 @@
 //! A few classes and type variables, and types over them, for the tests.
 
 use dart_types::{
-    CORE, ClassId, ClassRow, DartType, FUNCTION, FunctionType, NamedTypes, OBJECT, Rows, TypeList,
-    TypeNode, VarId, VarList, VarRow,
+    CORE, ClassId, ClassRow, DartType, FUNCTION, FunctionType, LibId, NamedTypes, OBJECT, Rows,
+    TypeList, TypeNode, VarId, VarList, VarRow,
 };
 use std::alloc::{AllocError, Global};
 use std::test::Fail;
@@ -279,6 +279,39 @@ fn vars(alloc: Global) -> Result<Vec<VarRow>, AllocError> {
 pub(crate) fn sample_rows(alloc: Global) -> Result<Rows, Fail> {
     let classes = classes(alloc)?;
     let vars = vars(alloc)?;
+    if !Rows::are_well_formed(&classes, &vars) {
+        return Err("rows that aren't well formed".into());
+    }
+    match Rows::new(alloc, classes, vars) {
+        Ok(rows) => Ok(rows),
+        Err(_) => Err("no rows".into()),
+    }
+}
+
+// A variable of a long chain, by its place.
+pub(crate) fn in_chain(index: u32) -> VarId {
+    VarId {
+        lib: LibId(1),
+        index,
+    }
+}
+
+// The same classes, and a chain of so many variables, of which each is the bound of the next; the
+// first has the bound `Object?`.
+pub(crate) fn chain_rows(alloc: Global, count: u32) -> Result<Rows, Fail> {
+    let classes = classes(alloc)?;
+    let mut vars = Vec::new(alloc);
+    vars.push(VarRow {
+        var: in_chain(0),
+        bound: type_of(alloc, Sample::AnyObject)?,
+    })?;
+    for index in 1..count {
+        let before = in_chain(index.saturating_sub(1));
+        vars.push(VarRow {
+            var: in_chain(index),
+            bound: plain(TypeNode::Var(before)),
+        })?;
+    }
     if !Rows::are_well_formed(&classes, &vars) {
         return Err("rows that aren't well formed".into());
     }

@@ -98,7 +98,7 @@ pub upper_bare-returns-then-is_promoted_from : goal.upper_bare-returns-then-is_p
 upper_bare-returns-then-is_promoted_from t c = (
   variable c.in-Promoted.var,
   chain_left c.args.rows.now.table c.last_of_chain-last.ensures c.requires.apart c.requires.right
-  (at_promoted_twice c.args.rows.now.table c.args.t.now c.in-Promoted.var c.in-Promoted.to.value (sym c.last.view_is ∙ ap type_of c.in-Promoted.is) (sym c.is_promoted_from.ensures ∙ c.if-is_promoted_from.true)),
+      (at_promoted_twice c.args.rows.now.table c.args.t.now c.in-Promoted.var c.in-Promoted.to.value (sym c.last.view_is ∙ ap type_of c.in-Promoted.is) (sym c.is_promoted_from.ensures ∙ c.if-is_promoted_from.true)),
   c.small.ensures,
 )
 
