@@ -1,6 +1,6 @@
 -- Lists that grow, in the order of classes.
 use Rattle.std.proofs.Common.{◌≡◌, ℕ, zero, suc, ◌+◌, ◌-◌, ◌<◌, ◌≤◌, Bool, true, false, List, [], ◌∷◌, length, take, drop, get_or, refl, sym, ◌∙◌, ap, subst, cond, arith, inl, inr}
-use Rattle.std.specs.Prelude.{◌⊎◌, ◌&&◌, ◌||◌, nat_lt, nat_eq, Contains, All, Result, Ok, Err, OnOk, IfErr, IsErrAnd}
+use Rattle.std.specs.Prelude.{◌≢◌, AllPairs, ◌⊎◌, ◌&&◌, ◌||◌, nat_lt, nat_eq, Contains, All, Result, Ok, Err, OnOk, IfErr, IsErrAnd}
 use Rattle.std.proofs.lemmas.Bool.Decides.{nat_tests}
 use Rattle.std.specs.List.{AllWithin, filter, insert}
 use Rattle.std.specs.List.Sorted.{IsPartitionPoint}
@@ -12,7 +12,7 @@ use Rattle.dart_types.specs.Ty.{Ty}
 use Rattle.dart_types.specs.Sizes.{size_of}
 use Rattle.dart_types.specs.Superinterfaces.{interface_of}
 use Rattle.dart_types.specs.WellFormed.{class_before}
-use Rattle.dart_types.specs.Gathering.{Adds, AreOrdered, IsCauseAmong}
+use Rattle.dart_types.specs.Gathering.{Adds, AreOrdered, StandOnce, IsCauseAmong}
 use Rattle.dart_types.specs.declared.ids.ClassId.{ClassId}
 use Rattle.dart_types.specs.declared.superinterfaces.Superinterface.{Superinterface}
 use Rattle.dart_types.specs.declared.refusal.TheConstants.{NODE_LIMIT}
@@ -76,16 +76,16 @@ class_asym c d h = at (class_before d c) refl
     at true k = absurd (not_before_itself c.lib.0 c.index (before_trans c.lib.0 c.index d.lib.0 d.index c.lib.0 c.index h k))
     at false k = refl
 
--- what is put in behind all that don't come after it leaves the order
-pub ordered_insert : (xs : List Superinterface) (at : ℕ) (x : Superinterface) → at ≤ length xs → AllWithin (λ (s : Superinterface). class_before x.class s.class ≡ false) xs 0 at → AllWithin (λ (s : Superinterface). class_before x.class s.class ≡ true) xs at (length xs) → AreOrdered xs → AreOrdered (insert xs at x)
-ordered_insert xs at x le low high order i j d lt within =
+-- what stands in a relation to all before its place, and those behind it to it, leaves the relation between all
+pairs_insert : (R : Superinterface → Superinterface → Type 0) (xs : List Superinterface) (at : ℕ) (x : Superinterface) → at ≤ length xs → AllWithin (λ (s : Superinterface). R s x) xs 0 at → AllWithin (λ (s : Superinterface). R x s) xs at (length xs) → AllPairs R xs → AllPairs R (insert xs at x)
+pairs_insert R xs at x le low high all i j d lt within =
     let size = length-insert xs at x le in
-    elim (cases_lt j at) as (λ _. class_before (get_or (insert xs at x) j d).class (get_or (insert xs at x) i d).class ≡ false) [
+    elim (cases_lt j at) as (λ _. R (get_or (insert xs at x) i d) (get_or (insert xs at x) j d)) [
       | inl below ↦
           let a = get_or-insert_below xs at x d i (omega arith) le in
           let b = get_or-insert_below xs at x d j below le in
-          moved (sym a) (sym b) (order i j d lt (omega arith))
-      | inr from ↦ elim (cases_lt at j) as (λ _. class_before (get_or (insert xs at x) j d).class (get_or (insert xs at x) i d).class ≡ false) [
+          moved (sym a) (sym b) (all i j d lt (omega arith))
+      | inr from ↦ elim (cases_lt at j) as (λ _. R (get_or (insert xs at x) i d) (get_or (insert xs at x) j d)) [
         | inl above ↦ beyond size (j - 1) (omega arith) above
         | inr here ↦
             let e : at ≡ j = omega arith in
@@ -95,29 +95,41 @@ ordered_insert xs at x le low high order i j d lt within =
       ]
     ]
   where
-    moved : {s t s' t' : Superinterface} → s ≡ s' → t ≡ t' → class_before t.class s.class ≡ false → class_before t'.class s'.class ≡ false
-    moved {s} {t} {s'} {t'} e f h =
-        subst (λ (y : Superinterface). class_before y.class s'.class ≡ false) f (subst (λ (y : Superinterface). class_before t.class y.class ≡ false) e h)
+    moved : {s t s' t' : Superinterface} → s ≡ s' → t ≡ t' → R s t → R s' t'
+    moved {s} {t} {s'} {t'} e f h = subst (λ (y : Superinterface). R s' y) f (subst (λ (y : Superinterface). R y t) e h)
 
     behind : (k : ℕ) → j ≡ k + 1 → at ≤ k → get_or xs k d ≡ get_or (insert xs at x) j d
     behind k e above = subst (λ (m : ℕ). get_or xs k d ≡ get_or (insert xs at x) m d) (sym e) (sym (get_or-insert_above xs at x d k above le))
 
-    beyond : length (insert xs at x) ≡ length xs + 1 → (k : ℕ) → j ≡ k + 1 → at < j → class_before (get_or (insert xs at x) j d).class (get_or (insert xs at x) i d).class ≡ false
+    beyond : length (insert xs at x) ≡ length xs + 1 → (k : ℕ) → j ≡ k + 1 → at < j → R (get_or (insert xs at x) i d) (get_or (insert xs at x) j d)
     beyond size k e above =
         let b = behind k e (omega arith) in
-        elim (cases_lt i at) as (λ _. class_before (get_or (insert xs at x) j d).class (get_or (insert xs at x) i d).class ≡ false) [
-          | inl below ↦ moved (sym (get_or-insert_below xs at x d i below le)) b (order i k d (omega arith) (omega arith))
-          | inr from ↦ elim (cases_lt at i) as (λ _. class_before (get_or (insert xs at x) j d).class (get_or (insert xs at x) i d).class ≡ false) [
+        elim (cases_lt i at) as (λ _. R (get_or (insert xs at x) i d) (get_or (insert xs at x) j d)) [
+          | inl below ↦ moved (sym (get_or-insert_below xs at x d i below le)) b (all i k d (omega arith) (omega arith))
+          | inr from ↦ elim (cases_lt at i) as (λ _. R (get_or (insert xs at x) i d) (get_or (insert xs at x) j d)) [
             | inl over ↦
                 let f : i ≡ (i - 1) + 1 = omega arith in
                 let a : get_or xs (i - 1) d ≡ get_or (insert xs at x) i d = subst (λ (m : ℕ). get_or xs (i - 1) d ≡ get_or (insert xs at x) m d) (sym f) (sym (get_or-insert_above xs at x d (i - 1) (omega arith) le)) in
-                moved a b (order (i - 1) k d (omega arith) (omega arith))
+                moved a b (all (i - 1) k d (omega arith) (omega arith))
             | inr here ↦
                 let f : at ≡ i = omega arith in
                 let a : x ≡ get_or (insert xs at x) i d = subst (λ (m : ℕ). x ≡ get_or (insert xs at x) m d) f (sym (get_or-insert_at xs at x d le)) in
-                moved a b (class_asym x.class (get_or xs k d).class (high k d (omega arith) (omega arith)))
+                moved a b (high k d (omega arith) (omega arith))
           ]
         ]
+
+-- what is put in behind all that don't come after it leaves the order
+ordered_insert : (xs : List Superinterface) (at : ℕ) (x : Superinterface) → at ≤ length xs → AllWithin (λ (s : Superinterface). class_before x.class s.class ≡ false) xs 0 at → AllWithin (λ (s : Superinterface). class_before x.class s.class ≡ true) xs at (length xs) → AreOrdered xs → AreOrdered (insert xs at x)
+ordered_insert xs at x le low high order =
+    pairs_insert (λ (a b : Superinterface). class_before b.class a.class ≡ false) xs at x le low
+    (λ k d from to. class_asym x.class (get_or xs k d).class (high k d from to)) order
+
+-- and what doesn't stand there yet stands there once then
+once_insert : (xs : List Superinterface) (at : ℕ) (x : Superinterface) → at ≤ length xs → (Contains xs x → ⊥) → StandOnce xs → StandOnce (insert xs at x)
+once_insert xs at x le new once =
+    pairs_insert (λ (a b : Superinterface). a ≢ b) xs at x le
+    (λ k d from to e. new (k, omega (arith, to, le), get_or_default xs k x d (omega (arith, to, le)) ∙ e))
+    (λ k d from to e. new (k, to, get_or_default xs k x d to ∙ sym e)) once
 
 -- a superinterface that stands in the list needn't be put in
 pub adds_known : (xs : List Superinterface) (x : Superinterface) → Contains xs x → Adds (λ t. t ≡ interface_of x) xs xs
@@ -126,16 +138,18 @@ adds_known xs x i = record {
   added = λ t e. (x, i, sym e);
   no_other = λ s k. inl k;
   in_order = λ o. o;
+  once = λ o. o;
   fitting = λ f. f;
 }
 
 -- one that is put in is what is added
-pub adds_inserted : (xs : List Superinterface) (at : ℕ) (x : Superinterface) → at ≤ length xs → AllWithin (λ (s : Superinterface). class_before x.class s.class ≡ false) xs 0 at → AllWithin (λ (s : Superinterface). class_before x.class s.class ≡ true) xs at (length xs) → size_of (interface_of x) ≤ NODE_LIMIT → Adds (λ t. t ≡ interface_of x) xs (insert xs at x)
-adds_inserted xs at x le low high fits = record {
+pub adds_inserted : (xs : List Superinterface) (at : ℕ) (x : Superinterface) → at ≤ length xs → AllWithin (λ (s : Superinterface). class_before x.class s.class ≡ false) xs 0 at → AllWithin (λ (s : Superinterface). class_before x.class s.class ≡ true) xs at (length xs) → size_of (interface_of x) ≤ NODE_LIMIT → (Contains xs x → ⊥) → Adds (λ t. t ≡ interface_of x) xs (insert xs at x)
+adds_inserted xs at x le low high fits new = record {
   kept = kept_in xs at x;
   added = λ t e. (x, inserted_in xs at x, sym e);
   no_other = λ s i. elim (only_in xs at x s i) as (λ _. Contains xs s ⊎ (interface_of s ≡ interface_of x)) [ inl k ↦ inl k | inr e ↦ inr (ap interface_of (sym e)) ];
   in_order = λ order. ordered_insert xs at x le low high order;
+  once = λ o. once_insert xs at x le new o;
   fitting = λ f. all_from Fits (insert xs at x) (λ s i. elim (only_in xs at x s i) as (λ _. Fits s) [ inl k ↦ All-contains Fits xs s f k | inr e ↦ subst Fits e fits ]);
 }
   where
@@ -149,6 +163,7 @@ adds_nothing P xs none = record {
   added = λ t h. absurd (none t h);
   no_other = λ s i. inl i;
   in_order = λ o. o;
+  once = λ o. o;
   fitting = λ f. f;
 }
 
@@ -162,6 +177,7 @@ adds_both P Q R a b c f g split join = record {
     | inr q ↦ inr (join (interface_of s) (inr q))
   ];
   in_order = λ o. g.in_order (f.in_order o);
+  once = λ o. g.once (f.once o);
   fitting = λ o. g.fitting (f.fitting o);
 }
 
@@ -172,6 +188,7 @@ adds_same P Q a b f to from = record {
   added = λ t h. f.added t (to t h);
   no_other = λ s i. elim (f.no_other s i) as (λ _. Contains a s ⊎ Q (interface_of s)) [ inl k ↦ inl k | inr p ↦ inr (from (interface_of s) p) ];
   in_order = f.in_order;
+  once = f.once;
   fitting = f.fitting;
 }
 

@@ -117,6 +117,7 @@ module _ (table : Table) (wf : IsWellFormed table) (row : ClassRow) (r : class_o
       | inr g ↦ (g.2.0, giving table wf row r g.1 g.2.1, g.2.2)
     ];
     in_order = adds.in_order (λ i j d lt within. absurd (omega arith));
+    once = adds.once (λ i j d lt within. absurd (omega arith));
     within_limit = adds.fitting (All-nil (λ (s : Superinterface). size_of (interface_of s) ≤ NODE_LIMIT));
   }
 

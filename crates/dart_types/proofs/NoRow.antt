@@ -19,5 +19,6 @@ module _ (table : Table) (c : ClassId) (e : class_of table c ≡ None) where
     every = λ v h. absurd (none_above h);
     no_other = λ s i. absurd (omega (arith, i.1));
     in_order = λ i j d lt within. absurd (omega arith);
+    once = λ i j d lt within. absurd (omega arith);
     within_limit = All-nil (λ (s : Superinterface). size_of (interface_of s) ≤ NODE_LIMIT);
   }

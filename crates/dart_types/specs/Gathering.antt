@@ -1,5 +1,5 @@
 -- Superinterfaces that are gathered in a list.
-use Rattle.std.specs.Prelude.{◌≡◌, ◌<◌, ◌≤◌, ◌⊎◌, ℕ, List, take, Some, Contains, All, AllPairs, false}
+use Rattle.std.specs.Prelude.{◌≡◌, ◌≢◌, ◌<◌, ◌≤◌, ◌⊎◌, ℕ, List, take, Some, Contains, All, AllPairs, false}
 use Rattle.dart_types.specs.Ty.{Ty, Types, interface}
 use Rattle.dart_types.specs.Sizes.{size_of, held}
 use Rattle.dart_types.specs.Substitution.{put, by_params}
@@ -28,12 +28,17 @@ AreOrdered list = AllPairs (λ (a b : Superinterface). class_before b.class a.cl
 abbrev pub AreFitting : List Superinterface → Type 0
 AreFitting list = All (λ (s : Superinterface). size_of (interface_of s) ≤ NODE_LIMIT) list
 
--- the later list has those of the earlier one and these types, and no others; it keeps the order and the limit
+-- each stands in the list once
+abbrev pub StandOnce : List Superinterface → Type 0
+StandOnce list = AllPairs (λ (a b : Superinterface). a ≢ b) list
+
+-- the later list has those of the earlier one and these types, and no others; it keeps the order and the limit, and that each stands there once
 pub record Adds (wanted : Ty → Type 0) (before after : List Superinterface) : Type 0 where
   pub kept : (s : Superinterface) → Contains before s → Contains after s
   pub added : (t : Ty) → wanted t → (s : Superinterface) × Contains after s × (interface_of s ≡ t)
   pub no_other : (s : Superinterface) → Contains after s → Contains before s ⊎ wanted (interface_of s)
   pub in_order : AreOrdered before → AreOrdered after
+  pub once : StandOnce before → StandOnce after
   pub fitting : AreFitting before → AreFitting after
 
 -- a refusal names the class, and one of these types has more nodes than a type may have, and so many; only want of memory is free

@@ -24,7 +24,7 @@ required_in no_named ts = true
 required_in (more_named n r t rest) ts = (if r then is_required ts n else true) && required_in rest ts
 
 mutual
-  -- s is a subtype of t. Of the invalid type only those rules speak that speak of all types
+  -- s is a subtype of t. Only the rules that speak of every type speak of the invalid type
   pub data Sub (table : Table) : Ty → Ty → Type 0 where
     -- reflexivity: a type is a subtype of itself
     reflexivity : {t : Ty} → Sub table t t

@@ -1,6 +1,6 @@
 //! Superinterfaces that are gathered in a list, in the order of their classes.
 
-ghost use Rattle.std.specs.Prelude.{◌≡◌, ◌≤◌, IfOk, IfErr, OnOk, IsTrue, Contains};
+ghost use Rattle.std.specs.Prelude.{◌≡◌, ◌≤◌, ◌↔◌, IfOk, IfErr, OnOk, IsTrue, Contains};
 ghost use Rattle.dart_types.specs.Ty.{interface, types_of};
 ghost use Rattle.dart_types.specs.Sizes.{size_of};
 ghost use Rattle.dart_types.specs.Superinterfaces.{interface_of};
@@ -56,7 +56,7 @@ pub(crate) fn add(list: &mut Vec<Superinterface>, found: Superinterface) -> Resu
 // Whether a superinterface stands in the list.
 fn stands_in(list: &[Superinterface], found: &Superinterface) -> bool
     requires { AreOrdered list.now }
-    ensures { IsTrue result → Contains list.now found.now }
+    ensures { IsTrue result ↔ Contains list.now found.now }
 {
     for known in superinterfaces_of_class(list, found.class) {
         if known.args.is_same(&found.args) {

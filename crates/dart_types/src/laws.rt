@@ -1,4 +1,4 @@
-//! Laws of subtyping and of substitution, for every well-formed rows and all types.
+//! Laws of subtyping and of substitution, for all well-formed rows and all types.
 
 ghost use Rattle.std.specs.Prelude.{◌≡◌, ◌↔◌, IsTrue};
 ghost use Rattle.dart_types.specs.Ty.{Ty};
