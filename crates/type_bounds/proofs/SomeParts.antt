@@ -1,11 +1,12 @@
 -- From what is some type, as far as it is formed, by one rule to what is so by another.
-use Rattle.std.proofs.Common.{◌≡◌, List, Result, subst}
+use Rattle.std.proofs.Common.{◌≡◌, Bool, List, Result, subst}
 use Rattle.std.specs.Result.{IfOk}
 use Rattle.std.proofs.lemmas.Result.{IfOk-weaker}
 use Rattle.dart_types.specs.Ty.{Ty, Types, Named, function, types_of}
 use Rattle.dart_types.specs.Named.{named_of}
 use Rattle.dart_types.specs.Normal.{nullable_of}
 use Rattle.dart_types.specs.declared.types.NamedType.{NamedType}
+use Rattle.type_bounds.specs.Chains.{marked_by}
 use Rattle.type_bounds.specs.PartsView.{IsPart, AreParts, IsSomePart, AreSomeParts}
 use Rattle.type_bounds.specs.NamedView.{AreNamedParts, AreSomeNamed}
 use Rattle.type_bounds.specs.declared.parts.Part.{Part}
@@ -26,6 +27,12 @@ module _ {E : Type 0} (other : Ty → Type 0) (r : Result Part E) where
   some_marked so part f a h =
       IfOk-weaker r (λ marked. (t : Ty) → IsPart part t → IsPart marked (nullable_of t)) (IsSomePart other)
       (λ marked p. (nullable_of a.0, f a.0 a.1, p a.0 a.2)) h
+
+  -- that with `?` where there is a mark
+  pub some_marked_by : (so : Ty → Type 0) (part : Part) (marked : Bool) → ((t : Ty) → so t → other (marked_by marked t)) → IsSomePart so part → IfOk r (λ done. (t : Ty) → IsPart part t → IsPart done (marked_by marked t)) → IfOk r (IsSomePart other)
+  some_marked_by so part marked f a h =
+      IfOk-weaker r (λ done. (t : Ty) → IsPart part t → IsPart done (marked_by marked t)) (IsSomePart other)
+      (λ done p. (marked_by marked a.0, f a.0 a.1, p a.0 a.2)) h
 
   -- the type itself with `?`
   pub marked_type : (t : Ty) (part : Part) → other (nullable_of t) → IsPart part t → IfOk r (λ marked. (t : Ty) → IsPart part t → IsPart marked (nullable_of t)) → IfOk r (IsSomePart other)

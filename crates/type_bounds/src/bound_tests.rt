@@ -45,19 +45,27 @@ fn upper_bounds(rt: HostRuntime) -> Result<(), Fail> {
     Ok(())
 }
 
-// A variable at the end of a long chain gives way to all before it, on either side.
+// A variable at the end of a long chain gives way to all before it, on either side, and a `?` on the
+// way stays.
 #[test]
 fn long_chains_of_variables(rt: HostRuntime) -> Result<(), Fail> {
     let alloc = rt.alloc();
     let count = 40_000;
-    let rows = chain_rows(alloc, count)?;
     let last = plain(TypeNode::Var(in_chain(count - 1)));
-    let int = type_of(alloc, Sample::Int)?;
-    let expected = type_of(alloc, Sample::AnyObject)?;
-    let left = upper(alloc, &rows, &last, &int)?;
-    assert!(rt; left.is_same(&expected));
-    let right = upper(alloc, &rows, &int, &last)?;
-    assert!(rt; right.is_same(&expected));
+    let cases = [
+        (false, Sample::IntFunction, Sample::Object),
+        (true, Sample::IntFunction, Sample::AnyObject),
+        (true, Sample::Int, Sample::AnyInt),
+    ];
+    for (with_marks, t, expected) in cases.iter() {
+        let rows = chain_rows(alloc, count, *with_marks)?;
+        let t = type_of(alloc, *t)?;
+        let expected = type_of(alloc, *expected)?;
+        let left = upper(alloc, &rows, &last, &t)?;
+        assert!(rt; left.is_same(&expected));
+        let right = upper(alloc, &rows, &t, &last)?;
+        assert!(rt; right.is_same(&expected));
+    }
     Ok(())
 }
 

@@ -6,6 +6,7 @@ ghost use Rattle.dart_types.specs.Sizes.{size_of};
 ghost use Rattle.dart_types.specs.Normal.{nullable_of};
 ghost use Rattle.dart_types.specs.Formed.{Forms};
 ghost use Rattle.dart_types.specs.declared.refusal.TheConstants.{NODE_LIMIT};
+ghost use Rattle.type_bounds.specs.Chains.{marked_by};
 ghost use Rattle.type_bounds.specs.PartsView.{IsPart, AreParts, IsInterfaceWithin};
 
 use crate::counts::Count;
@@ -82,6 +83,17 @@ impl Part {
             count,
             formed: Some(formed),
         })
+    }
+
+    /// The normal form of `T?`, from T, or T where there is no mark.
+    pub(crate) fn with_mark(self, alloc: Global, marked: bool) -> Result<Part, AllocError>
+        ensures { IfOk result (λ part. (t : Ty) → IsPart self t → IsPart part (marked_by marked t)) }
+    {
+        if marked {
+            self.nullable(alloc)
+        } else {
+            Ok(self)
+        }
     }
 
     /// The type, or how many types stand in it where it is too large.

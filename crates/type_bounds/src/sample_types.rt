@@ -296,20 +296,25 @@ pub(crate) fn in_chain(index: u32) -> VarId {
     }
 }
 
-// The same classes, and a chain of so many variables, of which each is the bound of the next; the
-// first has the bound `Object?`.
-pub(crate) fn chain_rows(alloc: Global, count: u32) -> Result<Rows, Fail> {
+// The same classes, and a chain of so many variables, of which each, with a `?` or without, is the
+// bound of the next; the first has the bound `int`.
+pub(crate) fn chain_rows(alloc: Global, count: u32, with_marks: bool) -> Result<Rows, Fail> {
     let classes = classes(alloc)?;
     let mut vars = Vec::new(alloc);
     vars.push(VarRow {
         var: in_chain(0),
-        bound: type_of(alloc, Sample::AnyObject)?,
+        bound: type_of(alloc, Sample::Int)?,
     })?;
     for index in 1..count {
-        let before = in_chain(index.saturating_sub(1));
+        let before = plain(TypeNode::Var(in_chain(index.saturating_sub(1))));
+        let bound = if with_marks {
+            marked(alloc, before)?
+        } else {
+            before
+        };
         vars.push(VarRow {
             var: in_chain(index),
-            bound: plain(TypeNode::Var(before)),
+            bound,
         })?;
     }
     if !Rows::are_well_formed(&classes, &vars) {

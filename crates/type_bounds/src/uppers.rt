@@ -10,7 +10,7 @@ ghost use Rattle.type_bounds.specs.FormsSome.{FormsSome};
 ghost use Rattle.type_bounds.specs.PartsView.{IsPart, IsSomePart, AreSomeParts};
 ghost use Rattle.type_bounds.specs.NamedView.{AreSomeNamed};
 
-use crate::chains::last_of_chain;
+use crate::chains::chain_from;
 use crate::function_parts::function_part;
 use crate::named_parts::NamedParts;
 use crate::parts::{Part, Parts};
@@ -114,8 +114,20 @@ fn upper_bare(alloc: Global, rows: &Rows, s: &DartType, t: &DartType) -> Result<
     requires right { is_bare t.now ≡ true }
     ensures { IfOk result (IsSomePart (UpperApart rows.now.table s.now t.now)) }
 {
-    let last = last_of_chain(rows, s, t);
-    match &last.node {
+    let chain = chain_from(rows, s, t);
+    let part = upper_left(alloc, rows, chain.last, t)?;
+    part.with_mark(alloc, chain.marked)
+}
+
+// The upper bound where the left type is the last of a chain of variables.
+#[cycle(bounds)]
+fn upper_left(alloc: Global, rows: &Rows, s: &DartType, t: &DartType) -> Result<Part, AllocError>
+    requires apart { AreApart rows.now.table s.now t.now }
+    requires left { is_bare s.now ≡ true }
+    requires right { is_bare t.now ≡ true }
+    ensures { IfOk result (IsSomePart (UpperApart rows.now.table s.now t.now)) }
+{
+    match &s.node {
         TypeNode::Var(var) => match rows.bound(*var) {
             None => Ok(no_bound()),
             Some(bound) => upper_part(alloc, rows, bound, t),
@@ -128,11 +140,16 @@ fn upper_bare(alloc: Global, rows: &Rows, s: &DartType, t: &DartType) -> Result<
             }
             upper_part(alloc, rows, to, t)
         }
-        _ => upper_right(alloc, rows, last, t),
+        _ => {
+            let chain = chain_from(rows, t, s);
+            let part = upper_right(alloc, rows, s, chain.last)?;
+            part.with_mark(alloc, chain.marked)
+        }
     }
 }
 
-// The upper bound where variables on the right give way.
+// The upper bound where the right type is the last of a chain of variables, and the left one no
+// variable.
 #[cycle(bounds)]
 fn upper_right(alloc: Global, rows: &Rows, s: &DartType, t: &DartType) -> Result<Part, AllocError>
     requires apart { AreApart rows.now.table s.now t.now }
@@ -140,14 +157,13 @@ fn upper_right(alloc: Global, rows: &Rows, s: &DartType, t: &DartType) -> Result
     requires right { is_bare t.now ≡ true }
     ensures { IfOk result (IsSomePart (UpperApart rows.now.table s.now t.now)) }
 {
-    let last = last_of_chain(rows, t, s);
-    match &last.node {
+    match &t.node {
         TypeNode::Var(var) => match rows.bound(*var) {
             None => Ok(no_bound()),
             Some(bound) => upper_part(alloc, rows, s, bound),
         },
         TypeNode::Promoted { to, .. } => upper_part(alloc, rows, s, to),
-        _ => upper_settled(alloc, rows, s, last),
+        _ => upper_settled(alloc, rows, s, t),
     }
 }
 

@@ -15,7 +15,7 @@ use Rattle.type_bounds.specs.Bounds.{is_nullable, Upper, right_above, left_above
 use Rattle.type_bounds.specs.NamedView.{join_named, AreSomeNamed}
 use Rattle.type_bounds.proofs.NonNulls.{bound_weighs, promoted_weighs}
 use Rattle.type_bounds.proofs.BoundFalls.{arguments_fall, required_fall, optional_fall, named_fall, results_fall, marked_fall, type_weighs, param_weighs, name_weighs}
-use Rattle.type_bounds.proofs.SomeParts.{some_type, some_by, some_marked, marked_type, some_function, moved, moved_types, moved_named}
+use Rattle.type_bounds.proofs.SomeParts.{some_type, some_by, some_marked, some_marked_by, marked_type, some_function, moved, moved_types, moved_named}
 use Rattle.type_bounds.proofs.Rests.{completed, completed_named, one_more, one_more_named, uppers_end, lowers_end, lowers_end_right, uppers_step, lowers_step, upper_names_end, lower_names_end, upper_names_step, lower_names_step, other_names_step}
 use Rattle.type_bounds.proofs.NamesBefore.{IsEachBefore, NamedSoFar, before_formed, before_later, before_with}
 use Rattle.type_bounds.proofs.SignatureTests.{type_none, type_some, have_lower_counts, same_named_lists, same_length, names_at}
@@ -73,111 +73,114 @@ upper_apart-returns-then-is_nullable t c =
     c.in_ok-upper_part.ensures
     c.nullable-then-is_nullable.ensures
 
--- variables on the left
-pub upper_bare-upper_part-requires : goal.upper_bare-upper_part-requires
-upper_bare-upper_part-requires t c =
-    let is : c.last_of_chain-last.result.now ≡ variable c.in-Var.var = sym c.last.view_is ∙ ap type_of c.in-Var.is in
-    let fall = bound_weighs c.args.rows.now.table c.args.rows.now.formed c.in-Var.var c.in-Some.bound.now (sym c.in-Some.ensures) in
-    let chain = last_no_heavier c.args.rows.now.table c.args.rows.now.formed c.last_of_chain-last.ensures in
-    (omega (arith, fall, chain, ap (weight_of c.args.rows.now.table) is, c.decreases), tt)
+-- chains of variables on the left
+pub upper_bare-upper_left-requires : goal.upper_bare-upper_left-requires
+upper_bare-upper_left-requires t c =
+    let table = c.args.rows.now.table in
+    let chain = c.chain_from-chain.ensures in
+    (omega (arith, last_no_heavier table c.args.rows.now.formed chain, c.decreases), (last_apart table chain c.requires.apart, (last_bare table chain c.requires.left, c.requires.right)))
 
-pub upper_bare-returns-in-None : goal.upper_bare-returns-in-None
-upper_bare-returns-in-None t c = (
+pub upper_bare-returns : goal.upper_bare-returns
+upper_bare-returns t c =
+    let table = c.args.rows.now.table in
+    some_marked_by (UpperApart table c.args.s.now c.args.t.now) c.with_mark.result (UpperApart table c.chain_from-chain.result.last.now c.args.t.now) c.in_ok-part.part c.chain_from-chain.result.marked
+    (λ u a. chain_left table c.chain_from-chain.ensures c.requires.apart c.requires.right a)
+    c.in_ok-part.ensures
+    c.with_mark.ensures
+
+-- variables on the left
+pub upper_left-upper_part-requires : goal.upper_left-upper_part-requires
+upper_left-upper_part-requires t c =
+    let is : c.args.s.now ≡ variable c.in-Var.var = sym c.s.view_is ∙ ap type_of c.in-Var.is in
+    let fall = bound_weighs c.args.rows.now.table c.args.rows.now.formed c.in-Var.var c.in-Some.bound.now (sym c.in-Some.ensures) in
+    (omega (arith, fall, ap (weight_of c.args.rows.now.table) is, c.decreases), tt)
+
+pub upper_left-returns-in-None : goal.upper_left-returns-in-None
+upper_left-returns-in-None t c = (
   invalid,
-  chain_left c.args.rows.now.table c.last_of_chain-last.ensures c.requires.apart c.requires.right (at_unbound_left c.args.rows.now.table c.in-Var.var (sym c.last.view_is ∙ ap type_of c.in-Var.is) c.requires.right (sym c.in-None.ensures)),
+  at_unbound_left c.args.rows.now.table c.in-Var.var (sym c.s.view_is ∙ ap type_of c.in-Var.is) c.requires.right (sym c.in-None.ensures),
   c.no_bound.ensures,
 )
 
-pub upper_bare-returns-in-Some : goal.upper_bare-returns-in-Some
-upper_bare-returns-in-Some t c =
+pub upper_left-returns-in-Some : goal.upper_left-returns-in-Some
+upper_left-returns-in-Some t c =
     some_by (UpperApart c.args.rows.now.table c.args.s.now c.args.t.now) c.upper_part.result (Upper c.args.rows.now.table c.in-Some.bound.now c.args.t.now)
-    (λ u a. chain_left c.args.rows.now.table c.last_of_chain-last.ensures c.requires.apart c.requires.right (at_variable_left c.args.rows.now.table c.in-Var.var (sym c.last.view_is ∙ ap type_of c.in-Var.is) c.requires.right (sym c.in-Some.ensures) a))
+    (λ u a. at_variable_left c.args.rows.now.table c.in-Var.var (sym c.s.view_is ∙ ap type_of c.in-Var.is) c.requires.right (sym c.in-Some.ensures) a)
     c.upper_part.ensures
 
-pub upper_bare-returns-then-is_promoted_from : goal.upper_bare-returns-then-is_promoted_from
-upper_bare-returns-then-is_promoted_from t c = (
+pub upper_left-returns-then-is_promoted_from : goal.upper_left-returns-then-is_promoted_from
+upper_left-returns-then-is_promoted_from t c = (
   variable c.in-Promoted.var,
-  chain_left c.args.rows.now.table c.last_of_chain-last.ensures c.requires.apart c.requires.right
-      (at_promoted_twice c.args.rows.now.table c.args.t.now c.in-Promoted.var c.in-Promoted.to.value (sym c.last.view_is ∙ ap type_of c.in-Promoted.is) (sym c.is_promoted_from.ensures ∙ c.if-is_promoted_from.true)),
+  at_promoted_twice c.args.rows.now.table c.args.t.now c.in-Promoted.var c.in-Promoted.to.value (sym c.s.view_is ∙ ap type_of c.in-Promoted.is) (sym c.is_promoted_from.ensures ∙ c.if-is_promoted_from.true),
   c.small.ensures,
 )
 
-pub upper_bare-upper_part-requires-in-Promoted : goal.upper_bare-upper_part-requires-in-Promoted
-upper_bare-upper_part-requires-in-Promoted t c =
-    let is : c.last_of_chain-last.result.now ≡ promoted c.in-Promoted.var c.deref.result.now = sym c.last.view_is ∙ ap type_of c.in-Promoted.is ∙ ap (promoted c.in-Promoted.var) (sym c.deref.ensures) in
+pub upper_left-upper_part-requires-in-Promoted : goal.upper_left-upper_part-requires-in-Promoted
+upper_left-upper_part-requires-in-Promoted t c =
+    let is : c.args.s.now ≡ promoted c.in-Promoted.var c.deref.result.now = sym c.s.view_is ∙ ap type_of c.in-Promoted.is ∙ ap (promoted c.in-Promoted.var) (sym c.deref.ensures) in
     let fall = promoted_weighs c.args.rows.now.table c.in-Promoted.var c.deref.result.now in
-    let chain = last_no_heavier c.args.rows.now.table c.args.rows.now.formed c.last_of_chain-last.ensures in
-    (omega (arith, fall, chain, ap (weight_of c.args.rows.now.table) is, c.decreases), tt)
+    (omega (arith, fall, ap (weight_of c.args.rows.now.table) is, c.decreases), tt)
 
-pub upper_bare-returns-else-is_promoted_from : goal.upper_bare-returns-else-is_promoted_from
-upper_bare-returns-else-is_promoted_from t c =
+pub upper_left-returns-else-is_promoted_from : goal.upper_left-returns-else-is_promoted_from
+upper_left-returns-else-is_promoted_from t c =
     some_by (UpperApart c.args.rows.now.table c.args.s.now c.args.t.now) c.upper_part-in-Promoted.result (Upper c.args.rows.now.table c.deref.result.now c.args.t.now)
     (λ u a.
-    chain_left c.args.rows.now.table c.last_of_chain-last.ensures c.requires.apart c.requires.right
-    (at_promoted_left c.args.rows.now.table c.in-Promoted.var c.deref.result.now (sym c.last.view_is ∙ ap type_of c.in-Promoted.is ∙ ap (promoted c.in-Promoted.var) (sym c.deref.ensures)) c.requires.right (sym c.is_promoted_from.ensures ∙ c.if-is_promoted_from.false) a))
+    at_promoted_left c.args.rows.now.table c.in-Promoted.var c.deref.result.now (sym c.s.view_is ∙ ap type_of c.in-Promoted.is ∙ ap (promoted c.in-Promoted.var) (sym c.deref.ensures)) c.requires.right (sym c.is_promoted_from.ensures ∙ c.if-is_promoted_from.false) a)
     c.upper_part-in-Promoted.ensures
 
-pub upper_bare-upper_right-requires : goal.upper_bare-upper_right-requires
-upper_bare-upper_right-requires t c =
-    let chain = c.last_of_chain-last.ensures in
+-- chains of variables on the right
+pub upper_left-upper_right-requires : goal.upper_left-upper_right-requires
+upper_left-upper_right-requires t c =
     let table = c.args.rows.now.table in
-    let settled = settled_node c.last.inside.node c.last.view_is c.in_default.not-Var c.in_default.not-Promoted (last_bare table chain c.requires.left) in
-    (omega (arith, last_no_heavier table c.args.rows.now.formed chain, c.decreases), (last_apart table chain c.requires.apart, (settled, c.requires.right)))
+    let chain = c.chain_from-chain.ensures in
+    let settled = settled_node c.s.inside.node c.s.view_is c.in_default.not-Var c.in_default.not-Promoted c.requires.left in
+    (omega (arith, last_no_heavier table c.args.rows.now.formed chain, c.decreases), (last_apart_right table chain c.requires.apart, (settled, last_bare table chain c.requires.right)))
 
-pub upper_bare-returns-in_default : goal.upper_bare-returns-in_default
-upper_bare-returns-in_default t c =
-    some_by (UpperApart c.args.rows.now.table c.args.s.now c.args.t.now) c.upper_right.result (UpperApart c.args.rows.now.table c.last_of_chain-last.result.now c.args.t.now)
-    (λ u a. chain_left c.args.rows.now.table c.last_of_chain-last.ensures c.requires.apart c.requires.right a)
-    c.upper_right.ensures
+pub upper_left-returns-in_ok-part-in_default : goal.upper_left-returns-in_ok-part-in_default
+upper_left-returns-in_ok-part-in_default t c =
+    let table = c.args.rows.now.table in
+    let settled = settled_node c.s.inside.node c.s.view_is c.in_default.not-Var c.in_default.not-Promoted c.requires.left in
+    some_marked_by (UpperApart table c.args.s.now c.args.t.now) c.with_mark.result (UpperApart table c.args.s.now c.chain_from-chain.result.last.now) c.in_ok-part-in_default.part c.chain_from-chain.result.marked
+    (λ u a. chain_right table c.chain_from-chain.ensures c.requires.apart settled a)
+    c.in_ok-part-in_default.ensures
+    c.with_mark.ensures
 
 -- variables on the right
 pub upper_right-upper_part-requires : goal.upper_right-upper_part-requires
 upper_right-upper_part-requires t c =
-    let is : c.last_of_chain-last.result.now ≡ variable c.in-Var.var = sym c.last.view_is ∙ ap type_of c.in-Var.is in
+    let is : c.args.t.now ≡ variable c.in-Var.var = sym c.t.view_is ∙ ap type_of c.in-Var.is in
     let fall = bound_weighs c.args.rows.now.table c.args.rows.now.formed c.in-Var.var c.in-Some.bound.now (sym c.in-Some.ensures) in
-    let chain = last_no_heavier c.args.rows.now.table c.args.rows.now.formed c.last_of_chain-last.ensures in
-    (omega (arith, fall, chain, ap (weight_of c.args.rows.now.table) is, c.decreases), tt)
+    (omega (arith, fall, ap (weight_of c.args.rows.now.table) is, c.decreases), tt)
 
 pub upper_right-upper_part-requires-in-Promoted : goal.upper_right-upper_part-requires-in-Promoted
 upper_right-upper_part-requires-in-Promoted t c =
-    let is : c.last_of_chain-last.result.now ≡ promoted c.in-Promoted.var c.deref.result.now = sym c.last.view_is ∙ ap type_of c.in-Promoted.is ∙ ap (promoted c.in-Promoted.var) (sym c.deref.ensures) in
+    let is : c.args.t.now ≡ promoted c.in-Promoted.var c.deref.result.now = sym c.t.view_is ∙ ap type_of c.in-Promoted.is ∙ ap (promoted c.in-Promoted.var) (sym c.deref.ensures) in
     let fall = promoted_weighs c.args.rows.now.table c.in-Promoted.var c.deref.result.now in
-    let chain = last_no_heavier c.args.rows.now.table c.args.rows.now.formed c.last_of_chain-last.ensures in
-    (omega (arith, fall, chain, ap (weight_of c.args.rows.now.table) is, c.decreases), tt)
+    (omega (arith, fall, ap (weight_of c.args.rows.now.table) is, c.decreases), tt)
 
 pub upper_right-returns-in-None : goal.upper_right-returns-in-None
 upper_right-returns-in-None t c = (
   invalid,
-  chain_right c.args.rows.now.table c.last_of_chain-last.ensures c.requires.apart c.requires.left (at_unbound_right c.args.rows.now.table c.in-Var.var (sym c.last.view_is ∙ ap type_of c.in-Var.is) c.requires.left (sym c.in-None.ensures)),
+  at_unbound_right c.args.rows.now.table c.in-Var.var (sym c.t.view_is ∙ ap type_of c.in-Var.is) c.requires.left (sym c.in-None.ensures),
   c.no_bound.ensures,
 )
 
 pub upper_right-returns-in-Some : goal.upper_right-returns-in-Some
 upper_right-returns-in-Some t c =
     some_by (UpperApart c.args.rows.now.table c.args.s.now c.args.t.now) c.upper_part.result (Upper c.args.rows.now.table c.args.s.now c.in-Some.bound.now)
-    (λ u a. chain_right c.args.rows.now.table c.last_of_chain-last.ensures c.requires.apart c.requires.left (at_variable_right c.args.rows.now.table c.in-Var.var (sym c.last.view_is ∙ ap type_of c.in-Var.is) c.requires.left (sym c.in-Some.ensures) a))
+    (λ u a. at_variable_right c.args.rows.now.table c.in-Var.var (sym c.t.view_is ∙ ap type_of c.in-Var.is) c.requires.left (sym c.in-Some.ensures) a)
     c.upper_part.ensures
 
 pub upper_right-returns-in-Promoted : goal.upper_right-returns-in-Promoted
 upper_right-returns-in-Promoted t c =
     some_by (UpperApart c.args.rows.now.table c.args.s.now c.args.t.now) c.upper_part-in-Promoted.result (Upper c.args.rows.now.table c.args.s.now c.deref.result.now)
-    (λ u a.
-    chain_right c.args.rows.now.table c.last_of_chain-last.ensures c.requires.apart c.requires.left
-    (at_promoted_right c.args.rows.now.table c.in-Promoted.var c.deref.result.now (sym c.last.view_is ∙ ap type_of c.in-Promoted.is ∙ ap (promoted c.in-Promoted.var) (sym c.deref.ensures)) c.requires.left a))
+    (λ u a. at_promoted_right c.args.rows.now.table c.in-Promoted.var c.deref.result.now (sym c.t.view_is ∙ ap type_of c.in-Promoted.is ∙ ap (promoted c.in-Promoted.var) (sym c.deref.ensures)) c.requires.left a)
     c.upper_part-in-Promoted.ensures
 
 pub upper_right-upper_settled-requires : goal.upper_right-upper_settled-requires
 upper_right-upper_settled-requires t c =
-    let chain = c.last_of_chain-last.ensures in
-    let table = c.args.rows.now.table in
-    let settled = settled_node c.last.inside.node c.last.view_is c.in_default.not-Var c.in_default.not-Promoted (last_bare table chain c.requires.right) in
-    (omega (arith, last_no_heavier table c.args.rows.now.formed chain, c.decreases), (last_apart_right table chain c.requires.apart, (c.requires.left, settled)))
-
-pub upper_right-returns-in_default : goal.upper_right-returns-in_default
-upper_right-returns-in_default t c =
-    some_by (UpperApart c.args.rows.now.table c.args.s.now c.args.t.now) c.upper_settled.result (UpperApart c.args.rows.now.table c.args.s.now c.last_of_chain-last.result.now)
-    (λ u a. chain_right c.args.rows.now.table c.last_of_chain-last.ensures c.requires.apart c.requires.left a)
-    c.upper_settled.ensures
+    let settled = settled_node c.t.inside.node c.t.view_is c.in_default.not-Var c.in_default.not-Promoted c.requires.right in
+    (omega (arith, c.decreases), (c.requires.apart, (c.requires.left, settled)))
 
 -- types that are no variables
 pub upper_settled-returns-in_default : goal.upper_settled-returns-in_default
