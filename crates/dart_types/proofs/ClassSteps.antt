@@ -8,7 +8,7 @@ use Rattle.dart_types.specs.Substitution.{put, put_all, put_named, argument_of, 
 use Rattle.dart_types.specs.Scopes.{in_scope, stands_for, close_all, Frames}
 use Rattle.dart_types.specs.Normal.{normal, normal_all}
 use Rattle.dart_types.specs.Tables.{Table, class_of, depth_of, head_depth}
-use Rattle.dart_types.specs.Targets.{is_bare}
+use Rattle.dart_types.specs.Targets.{is_bare_target}
 use Rattle.dart_types.specs.WellFormed.{IsSupertype, IsWellFormed}
 use Rattle.dart_types.specs.Measure.{measure, weight, deep, heavy, of_var, heaviest_of, deepness_of}
 use Rattle.dart_types.specs.Superinterfaces.{IsSuperinterface, direct, further, AreSuperinterfaces, interface_of}
@@ -127,7 +127,7 @@ module _ (table : Table) (wf : IsWellFormed table) where
   object_form (promoted x t) o = cc
   object_form (nullable t) o = cc
 
-  interface_above : {c : ClassId} {ss : Types} {t : Ty} → Sub table (interface c ss) t → is_bare t ≡ true → (d : ClassId) × (ts : Types) × (t ≡ interface d ts)
+  interface_above : {c : ClassId} {ss : Types} {t : Ty} → Sub table (interface c ss) t → is_bare_target t ≡ true → (d : ClassId) × (ts : Types) × (t ≡ interface d ts)
   interface_above {c} {ss} reflexivity h = (c, ss, refl)
   interface_above {t = t} (right_top e) h = absurd (bare_not_top t h e)
   interface_above {t = t} (right_object e p) h = object_form t e
@@ -155,7 +155,7 @@ module _ (table : Table) (wf : IsWellFormed table) where
   interface_form (Promoted x u) e h = cc
   interface_form (Nullable u) e h = cc
 
-  pub below_no_interface : {c : ClassId} {ss : Types} (f : Form) → is_bare (form_of f) ≡ true → ((class : ClassId) (args : SeenList) → f ≡ Interface class args → ⊥) → IsTrue false ↔ Sub table (interface c ss) (form_of f)
+  pub below_no_interface : {c : ClassId} {ss : Types} (f : Form) → is_bare_target (form_of f) ≡ true → ((class : ClassId) (args : SeenList) → f ≡ Interface class args → ⊥) → IsTrue false ↔ Sub table (interface c ss) (form_of f)
   below_no_interface f bare h = no (λ a. let k = interface_above a bare in interface_form f k.2 h)
 
   -- `Object` on the right

@@ -1,18 +1,20 @@
 -- Superinterfaces that are put beside one class after another.
-use Rattle.std.proofs.Common.{◌≡◌, ℕ, ◌+◌, ◌<◌, ◌≤◌, true, false, List, length, take, set, map, get_or, Some, sym, ◌∙◌, ap, subst, arith, inl, inr}
-use Rattle.std.specs.Prelude.{◌⊎◌, All, AllPairs, find, Result, Ok, Err, OnOk}
+use Rattle.std.proofs.Common.{◌≡◌, ℕ, ◌+◌, ◌<◌, ◌≤◌, true, false, List, length, take, set, map, get_or, Option, Some, sym, ◌∙◌, ap, subst, arith, inl, inr}
+use Rattle.std.specs.Prelude.{◌⊎◌, All, AllPairs, Contains, find, Result, Ok, Err, OnOk}
+use Rattle.std.specs.Option.{option_map_or}
 use Rattle.std.specs.List.{AllWithin}
 use Rattle.std.proofs.Math.Seq.{map-set_same}
 use Rattle.std.proofs.lemmas.Bool.{cases_eq, cases_lt}
 use Rattle.std.proofs.lemmas.List.Elements.{All-contains}
 use Rattle.std.proofs.lemmas.List.{get_or_default, get_or-map, length-map, get_or-set_same, get_or-set_other, length-set, get_or-take, length-take}
 use Rattle.dart_types.specs.Same.{same_class}
-use Rattle.dart_types.specs.Tables.{Table, class_of}
+use Rattle.dart_types.specs.Tables.{Table, class_of, depth_of}
 use Rattle.dart_types.specs.WellFormed.{IsWellFormed, class_before}
 use Rattle.dart_types.specs.Ty.{Ty}
 use Rattle.dart_types.specs.Sizes.{size_of}
 use Rattle.dart_types.specs.Normal.{normal}
 use Rattle.dart_types.specs.Superinterfaces.{IsSuperinterface, direct, further, interface_of, AreSuperinterfaces}
+use Rattle.dart_types.specs.RowsCause.{FitBelow}
 use Rattle.dart_types.specs.FormedProp.{IsWellFormed-prop}
 use Rattle.dart_types.specs.FormedTable.{FormedTable}
 use Rattle.dart_types.specs.Entries.{table_of, HaveSuperinterfaces}
@@ -163,17 +165,29 @@ has_row : {table : Table} {c : ClassId} {v : Ty} → IsSuperinterface table c v 
 has_row (direct {row = row} r i) = (row, r)
 has_row (further h r i) = has_row h
 
--- superinterfaces that stand beside their class are within the limit
-pub within_limit : (entries : List ClassEntry) (vars : List VarRow) → HaveSuperinterfaces entries vars → (c : ClassId) (v : Ty) → IsSuperinterface (table_of entries vars) c v → size_of (normal v) ≤ NODE_LIMIT
-within_limit entries vars have c v h =
+-- what stands beside a class has all its superinterfaces, within the limit
+fits_beside : (entries : List ClassEntry) (vars : List VarRow) (c : ClassId) (v : Ty) → IsSuperinterface (table_of entries vars) c v → ((entry : ClassEntry) → Contains entries entry → depth_of (table_of entries vars) c ≡ entry.row.depth → AreSuperinterfaces (table_of entries vars) entry.row.id entry.superinterfaces.items) → size_of (normal v) ≤ NODE_LIMIT
+fits_beside entries vars c v h beside =
     let table = table_of entries vars in
     let row = has_row h in
     let found = from_mapped row_of (find (λ (e : ClassEntry). same_class e.row.id c) entries) row.0 (sym (find-map row_of (λ (r : ClassRow). same_class r.id c) entries) ∙ row.1) in
     let there = found_in (λ (e : ClassEntry). same_class e.row.id c) entries found.0 found.1 in
     let is : found.0.row.id ≡ c = equal_from_same_class found.0.row.id c there.1 in
-    let beside = subst (λ (d : ClassId). AreSuperinterfaces table d found.0.superinterfaces.items) is (All-contains (IsBeside table) entries found.0 have there.0) in
-    let s = beside.every v h in
-    subst (λ (t : Ty). size_of t ≤ NODE_LIMIT) s.2 (All-contains (λ (k : Superinterface). size_of (interface_of k) ≤ NODE_LIMIT) found.0.superinterfaces.items s.0 beside.within_limit s.1)
+    let depth : depth_of table c ≡ found.0.row.depth = ap (λ (o : Option ClassRow). option_map_or (λ (r : ClassRow). r.depth) o 0) row.1 ∙ ap (λ (r : ClassRow). r.depth) (sym found.2) in
+    let known = subst (λ (d : ClassId). AreSuperinterfaces table d found.0.superinterfaces.items) is (beside found.0 there.0 depth) in
+    let s = known.every v h in
+    subst (λ (t : Ty). size_of t ≤ NODE_LIMIT) s.2 (All-contains (λ (k : Superinterface). size_of (interface_of k) ≤ NODE_LIMIT) found.0.superinterfaces.items s.0 known.within_limit s.1)
+
+-- superinterfaces of classes that are known are within the limit
+pub known_fit : (depth : ℕ) (entries : List ClassEntry) (vars : List VarRow) → AreKnownBelow depth entries vars → FitBelow (table_of entries vars) depth
+known_fit depth entries vars known c v h lt =
+    let table = table_of entries vars in
+    fits_beside entries vars c v h
+    (λ entry there e. All-contains (λ (k : ClassEntry). k.row.depth < depth → AreSuperinterfaces table k.row.id k.superinterfaces.items) entries entry known there (omega (arith, lt, e)))
+
+-- and so are all where all are known
+pub within_limit : (entries : List ClassEntry) (vars : List VarRow) → HaveSuperinterfaces entries vars → (c : ClassId) (v : Ty) → IsSuperinterface (table_of entries vars) c v → size_of (normal v) ≤ NODE_LIMIT
+within_limit entries vars have c v h = fits_beside entries vars c v h (λ entry there e. All-contains (IsBeside (table_of entries vars)) entries entry have there)
 
 abbrev list_of_entry : ClassEntry → List Superinterface
 list_of_entry entry = entry.superinterfaces.items

@@ -10,9 +10,9 @@ use Rattle.std.proofs.lemmas.List.Edits.{get_or-insert_at, get_or-insert_below, 
 use Rattle.std.proofs.lemmas.List.Elements.{All-contains, Contains-append_left, Contains-append_right, Contains-append_cases}
 use Rattle.dart_types.specs.Ty.{Ty}
 use Rattle.dart_types.specs.Sizes.{size_of}
-use Rattle.dart_types.specs.Superinterfaces.{interface_of}
+use Rattle.dart_types.specs.Superinterfaces.{interface_of, AreOrdered}
 use Rattle.dart_types.specs.WellFormed.{class_before}
-use Rattle.dart_types.specs.Gathering.{Adds, AreOrdered, StandOnce, IsCauseAmong}
+use Rattle.dart_types.specs.Gathering.{Adds, StandOnce, IsCauseAmong}
 use Rattle.dart_types.specs.declared.ids.ClassId.{ClassId}
 use Rattle.dart_types.specs.declared.superinterfaces.Superinterface.{Superinterface}
 use Rattle.dart_types.specs.declared.refusal.TheConstants.{NODE_LIMIT}

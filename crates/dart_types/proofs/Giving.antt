@@ -12,7 +12,7 @@ use Rattle.dart_types.specs.Tables.{Table, class_of, depth_of}
 use Rattle.dart_types.specs.WellFormed.{IsSupertype, IsWellFormed}
 use Rattle.dart_types.specs.Entries.{table_of}
 use Rattle.dart_types.specs.Superinterfaces.{IsSuperinterface, AreSuperinterfaces, interface_of}
-use Rattle.dart_types.specs.RowsCause.{IsCauseIn}
+use Rattle.dart_types.specs.RowsCause.{FitBelow, IsCauseIn}
 use Rattle.dart_types.specs.Replacements.{replaced}
 use Rattle.dart_types.specs.Gathering.{Adds, IsAbove, itself, beyond, IsGivenBy, IsGiven, IsPut, IsCauseAmong, AreKnownBelow}
 use Rattle.dart_types.specs.Node.{type_of}
@@ -122,15 +122,17 @@ module _ (table : Table) (wf : IsWellFormed table) (row : ClassRow) (r : class_o
   }
 
   -- and too large is a superinterface
-  pub given_cause : (refusal : RowsRefusal) → IsCauseAmong (IsGiven table row.supers) row.id refusal → IsCauseIn table refusal
-  given_cause (TooLarge class nodes) h =
+  pub given_cause : FitBelow table row.depth → (refusal : RowsRefusal) → IsCauseAmong (IsGiven table row.supers) row.id refusal → IsCauseIn table refusal
+  given_cause below (TooLarge class nodes) h =
       let t = h.1.0 in
       let g = h.1.1 in
       let w = g.2.0 in
-      let e : t ≡ normal w = g.2.2 in (
+      let e : t ≡ normal w = g.2.2 in
+      let here : depth_of table row.id ≡ row.depth = rw r refl in (
         w,
         subst (λ (c : ClassId). IsSuperinterface table c w) (sym h.0) (giving table wf row r g.1 g.2.1),
         subst (λ (x : Ty). NODE_LIMIT < size_of x) e h.1.2,
         subst (λ (x : Ty). nodes ≡ held (size_of x)) e h.1.3,
+        subst (λ (c : ClassId). FitBelow table (depth_of table c)) (sym h.0) (subst (FitBelow table) (sym here) below),
       )
-  given_cause Memory h = tt
+  given_cause below Memory h = tt

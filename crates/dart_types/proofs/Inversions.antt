@@ -5,7 +5,7 @@ use Rattle.dart_types.specs.Ty.{Ty, Types, invalid, never, void, null, interface
 use Rattle.dart_types.specs.Heads.{object, is_object, is_top, is_plain}
 use Rattle.dart_types.specs.Substitution.{put, by_params}
 use Rattle.dart_types.specs.Tables.{Table, bound_of}
-use Rattle.dart_types.specs.Targets.{is_bare, or_nullable}
+use Rattle.dart_types.specs.Targets.{is_bare_target, or_nullable}
 use Rattle.dart_types.specs.WellFormed.{IsSupertype, IsWellFormed}
 use Rattle.dart_types.specs.Sub.{Sub, reflexivity, right_top, left_bottom, left_null, right_object, left_nullable, right_nullable, left_promoted_variable, left_promoted_type, right_promoted, left_variable_bound, interface_arguments, super_interface, function_class, left_top}
 use Rattle.dart_types.specs.declared.ids.ClassId.{ClassId}
@@ -15,7 +15,7 @@ use Rattle.dart_types.proofs.Above.{nullable_bare, nullable_null, void_top, obje
 use Rattle.dart_types.proofs.Transitive.{trans}
 
 -- a type that is bare is no top type
-pub bare_not_top : (t : Ty) → is_bare t ≡ true → is_top t ≡ true → ⊥
+pub bare_not_top : (t : Ty) → is_bare_target t ≡ true → is_top t ≡ true → ⊥
 bare_not_top invalid h k = cc
 bare_not_top never h k = cc
 bare_not_top void h k = cc
@@ -47,7 +47,7 @@ module _ (table : Table) where
   nullable_parts a = (nullable_bare table a, nullable_null table a)
 
   -- Null on the left, and a bare type on the right
-  null_bare : {t : Ty} → Sub table null t → is_bare t ≡ true → t ≡ null
+  null_bare : {t : Ty} → Sub table null t → is_bare_target t ≡ true → t ≡ null
   null_bare reflexivity h = refl
   null_bare {t} (right_top e) h = absurd (bare_not_top t h e)
   null_bare left_null h = cc
@@ -55,7 +55,7 @@ module _ (table : Table) where
   null_bare (right_nullable a) h = cc
   null_bare (right_promoted a b) h = cc
 
-  pub null_target : (q : Bool) (t : Ty) → is_bare t ≡ true → Sub table null (or_nullable q t) → (q ≡ true) ⊎ (t ≡ null)
+  pub null_target : (q : Bool) (t : Ty) → is_bare_target t ≡ true → Sub table null (or_nullable q t) → (q ≡ true) ⊎ (t ≡ null)
   null_target true t h a = inl refl
   null_target false t h a = inr (null_bare a h)
 
@@ -71,24 +71,24 @@ module _ (table : Table) where
   into_target false a = a
 
   -- the invalid type on the left
-  invalid_bare : {t : Ty} → Sub table invalid t → is_bare t ≡ true → t ≡ invalid
+  invalid_bare : {t : Ty} → Sub table invalid t → is_bare_target t ≡ true → t ≡ invalid
   invalid_bare reflexivity h = refl
   invalid_bare {t} (right_top e) h = absurd (bare_not_top t h e)
   invalid_bare (right_object e p) h = cc
   invalid_bare (right_nullable a) h = cc
   invalid_bare (right_promoted a b) h = cc
 
-  pub invalid_target : (q : Bool) (t : Ty) → is_bare t ≡ true → (q ≡ true → is_object t ≡ true → ⊥) → Sub table invalid (or_nullable q t) → t ≡ invalid
+  pub invalid_target : (q : Bool) (t : Ty) → is_bare_target t ≡ true → (q ≡ true → is_object t ≡ true → ⊥) → Sub table invalid (or_nullable q t) → t ≡ invalid
   invalid_target true t h no_top a = under a h (no_top refl)
     where
-      under : {u : Ty} → Sub table invalid (nullable u) → is_bare u ≡ true → (is_object u ≡ true → ⊥) → u ≡ invalid
+      under : {u : Ty} → Sub table invalid (nullable u) → is_bare_target u ≡ true → (is_object u ≡ true → ⊥) → u ≡ invalid
       under (right_top e) k n = absurd (n e)
       under (right_object e p) k n = cc
       under (right_nullable b) k n = invalid_bare b k
   invalid_target false t h no_top a = invalid_bare a h
 
   -- a type variable on the left
-  var_bare : {x : VarId} {t : Ty} → Sub table (variable x) t → is_bare t ≡ true → (t ≡ variable x) ⊎ ((b : Ty) × (bound_of table x ≡ Some b) × Sub table b t)
+  var_bare : {x : VarId} {t : Ty} → Sub table (variable x) t → is_bare_target t ≡ true → (t ≡ variable x) ⊎ ((b : Ty) × (bound_of table x ≡ Some b) × Sub table b t)
   var_bare reflexivity h = inl refl
   var_bare {t = t} (right_top e) h = absurd (bare_not_top t h e)
   var_bare (right_object e p) h = cc
@@ -96,14 +96,14 @@ module _ (table : Table) where
   var_bare (right_promoted a b) h = cc
   var_bare (left_variable_bound b e a) h = inr (b, e, a)
 
-  pub var_target : (q : Bool) (x : VarId) (t : Ty) → is_bare t ≡ true → (q ≡ true → is_object t ≡ true → ⊥) → Sub table (variable x) (or_nullable q t) → (t ≡ variable x) ⊎ ((b : Ty) × (bound_of table x ≡ Some b) × Sub table b (or_nullable q t))
+  pub var_target : (q : Bool) (x : VarId) (t : Ty) → is_bare_target t ≡ true → (q ≡ true → is_object t ≡ true → ⊥) → Sub table (variable x) (or_nullable q t) → (t ≡ variable x) ⊎ ((b : Ty) × (bound_of table x ≡ Some b) × Sub table b (or_nullable q t))
   var_target true x t h no_top a = under a h (no_top refl)
     where
       up : {u : Ty} → (u ≡ variable x) ⊎ ((b : Ty) × (bound_of table x ≡ Some b) × Sub table b u) → (u ≡ variable x) ⊎ ((b : Ty) × (bound_of table x ≡ Some b) × Sub table b (nullable u))
       up (inl e) = inl e
       up (inr k) = inr (k.0, k.1, right_nullable k.2)
 
-      under : {u : Ty} → Sub table (variable x) (nullable u) → is_bare u ≡ true → (is_object u ≡ true → ⊥) → (u ≡ variable x) ⊎ ((b : Ty) × (bound_of table x ≡ Some b) × Sub table b (nullable u))
+      under : {u : Ty} → Sub table (variable x) (nullable u) → is_bare_target u ≡ true → (is_object u ≡ true → ⊥) → (u ≡ variable x) ⊎ ((b : Ty) × (bound_of table x ≡ Some b) × Sub table b (nullable u))
       under (right_top e) k n = absurd (n e)
       under (right_object e p) k n = cc
       under (right_nullable b) k n = up (var_bare b k)
@@ -111,7 +111,7 @@ module _ (table : Table) where
   var_target false x t h no_top a = var_bare a h
 
   -- a promoted variable on the left
-  promoted_bare : {x : VarId} {w t : Ty} → Sub table (promoted x w) t → is_bare t ≡ true → Sub table (variable x) t ⊎ Sub table w t
+  promoted_bare : {x : VarId} {w t : Ty} → Sub table (promoted x w) t → is_bare_target t ≡ true → Sub table (variable x) t ⊎ Sub table w t
   promoted_bare reflexivity h = cc
   promoted_bare {t = t} (right_top e) h = absurd (bare_not_top t h e)
   promoted_bare (right_object e p) h = cc
@@ -120,14 +120,14 @@ module _ (table : Table) where
   promoted_bare (left_promoted_type a) h = inr a
   promoted_bare (right_promoted a b) h = cc
 
-  pub promoted_target : (q : Bool) (x : VarId) (w t : Ty) → is_bare t ≡ true → (q ≡ true → is_object t ≡ true → ⊥) → Sub table (promoted x w) (or_nullable q t) → Sub table (variable x) (or_nullable q t) ⊎ Sub table w (or_nullable q t)
+  pub promoted_target : (q : Bool) (x : VarId) (w t : Ty) → is_bare_target t ≡ true → (q ≡ true → is_object t ≡ true → ⊥) → Sub table (promoted x w) (or_nullable q t) → Sub table (variable x) (or_nullable q t) ⊎ Sub table w (or_nullable q t)
   promoted_target true x w t h no_top a = under a h (no_top refl)
     where
       up : {u : Ty} → Sub table (variable x) u ⊎ Sub table w u → Sub table (variable x) (nullable u) ⊎ Sub table w (nullable u)
       up (inl b) = inl (right_nullable b)
       up (inr b) = inr (right_nullable b)
 
-      under : {u : Ty} → Sub table (promoted x w) (nullable u) → is_bare u ≡ true → (is_object u ≡ true → ⊥) → Sub table (variable x) (nullable u) ⊎ Sub table w (nullable u)
+      under : {u : Ty} → Sub table (promoted x w) (nullable u) → is_bare_target u ≡ true → (is_object u ≡ true → ⊥) → Sub table (variable x) (nullable u) ⊎ Sub table w (nullable u)
       under (right_top e) k n = absurd (n e)
       under (right_object e p) k n = cc
       under (right_nullable b) k n = up (promoted_bare b k)
@@ -217,7 +217,7 @@ module _ (table : Table) where
     plain_nullable_promoted p a = plain_var (promoted_parts (plain_nullable a p)).0 p
 
     -- of the bare types only `Object` lies above `Object`
-    object_only : {c : ClassId} {ss : Types} {u : Ty} → Sub table (interface c ss) u → is_object (interface c ss) ≡ true → is_bare u ≡ true → is_object u ≡ true
+    object_only : {c : ClassId} {ss : Types} {u : Ty} → Sub table (interface c ss) u → is_object (interface c ss) ≡ true → is_bare_target u ≡ true → is_object u ≡ true
     object_only reflexivity o h = o
     object_only {u = u} (right_top e) o h = absurd (bare_not_top u h e)
     object_only (right_object e p) o h = e
@@ -227,14 +227,14 @@ module _ (table : Table) where
     object_only (super_interface {c = c} {ss = ss} row r v i k a) o h = absurd (object_has_none table wf c row v r (class_of_object c ss o) i)
 
     -- void on the left
-    object_bare : {t : Ty} → Sub table (nullable object) t → is_bare t ≡ true → ⊥
+    object_bare : {t : Ty} → Sub table (nullable object) t → is_bare_target t ≡ true → ⊥
     object_bare {t} a h =
         let is : t ≡ null = null_bare (nullable_null table a) h in
         let k : is_object t ≡ true = object_only (nullable_bare table a) refl h in
         let l : is_object null ≡ true = subst (λ (u : Ty). is_object u ≡ true) is k in
         cc
 
-    pub void_target : (q : Bool) (t : Ty) → is_bare t ≡ true → (q ≡ true → is_object t ≡ true → ⊥) → Sub table void (or_nullable q t) → ⊥
+    pub void_target : (q : Bool) (t : Ty) → is_bare_target t ≡ true → (q ≡ true → is_object t ≡ true → ⊥) → Sub table void (or_nullable q t) → ⊥
     void_target true t h no_top a = no_top refl (object_only (plain_nullable (nullable_bare table (void_top table a)) refl) refl h)
     void_target false t h no_top a = object_bare (void_top table a) h
 

@@ -6,7 +6,7 @@ use Rattle.dart_types.specs.Heads.{is_object, is_plain}
 use Rattle.dart_types.specs.Substitution.{put, put_all, put_named}
 use Rattle.dart_types.specs.Scopes.{Frames, close}
 use Rattle.dart_types.specs.Tables.{Table, bound_of}
-use Rattle.dart_types.specs.Targets.{is_bare, or_nullable}
+use Rattle.dart_types.specs.Targets.{is_bare_target, or_nullable}
 use Rattle.dart_types.specs.WellFormed.{IsWellFormed}
 use Rattle.dart_types.specs.Measure.{measure, deepness_of}
 use Rattle.dart_types.specs.Sub.{Sub, reflexivity, right_top, left_bottom, left_null, left_nullable, right_nullable, left_promoted_variable, left_promoted_type, right_promoted, left_variable_bound}
@@ -145,7 +145,7 @@ module _ (table : Table) (wf : IsWellFormed table) where
         p
 
   -- a bare type on the right, with `?` or without
-  module _ (q : Bool) (t : Ty) (bare : is_bare t ≡ true) where
+  module _ (q : Bool) (t : Ty) (bare : is_bare_target t ≡ true) where
     abbrev Goal : Ty
     Goal = or_nullable q t
 

@@ -1,12 +1,11 @@
 -- Superinterfaces that are gathered in a list.
-use Rattle.std.specs.Prelude.{◌≡◌, ◌≢◌, ◌<◌, ◌≤◌, ◌⊎◌, ℕ, List, take, Some, Contains, All, AllPairs, false}
+use Rattle.std.specs.Prelude.{◌≡◌, ◌≢◌, ◌<◌, ◌≤◌, ◌⊎◌, ℕ, List, take, Some, Contains, All, AllPairs}
 use Rattle.dart_types.specs.Ty.{Ty, Types, interface}
 use Rattle.dart_types.specs.Sizes.{size_of, held}
 use Rattle.dart_types.specs.Substitution.{put, by_params}
 use Rattle.dart_types.specs.Normal.{normal}
 use Rattle.dart_types.specs.Tables.{Table, class_of}
-use Rattle.dart_types.specs.WellFormed.{class_before}
-use Rattle.dart_types.specs.Superinterfaces.{IsSuperinterface, interface_of, AreSuperinterfaces}
+use Rattle.dart_types.specs.Superinterfaces.{IsSuperinterface, interface_of, AreOrdered, AreSuperinterfaces}
 use Rattle.dart_types.specs.Entries.{table_of}
 use Rattle.dart_types.specs.Replacements.{replaced}
 use Rattle.dart_types.specs.declared.ids.ClassId.{ClassId}
@@ -19,10 +18,6 @@ use Rattle.dart_types.specs.declared.superinterfaces.Superinterface.{Superinterf
 use Rattle.dart_types.specs.declared.refusal.TheConstants.{NODE_LIMIT}
 use Rattle.dart_types.specs.declared.refusal.RowsRefusal.{RowsRefusal}
 use Rattle.dart_types.specs.declared.refusal.RowsRefusal.TheVariants.{TooLarge, Memory}
-
--- the superinterfaces stand in the order of their classes
-abbrev pub AreOrdered : List Superinterface → Type 0
-AreOrdered list = AllPairs (λ (a b : Superinterface). class_before b.class a.class ≡ false) list
 
 -- none has more nodes than a type may have
 abbrev pub AreFitting : List Superinterface → Type 0

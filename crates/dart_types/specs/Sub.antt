@@ -48,13 +48,13 @@ mutual
     right_promoted : {x : VarId} {s u : Ty} → Sub table s (variable x) → Sub table s u → Sub table s (promoted x u)
     -- a type variable on the left, by its bound
     left_variable_bound : {x : VarId} {t : Ty} → (b : Ty) → bound_of table x ≡ Some b → Sub table b t → Sub table (variable x) t
-    -- one class on both sides: the arguments are subtypes, pair by pair
+    -- interface compositionality, one class on both sides: the arguments are subtypes, pair by pair
     interface_arguments : {c : ClassId} {ss ts : Types} → Subs table ss ts → Sub table (interface c ss) (interface c ts)
-    -- an interface on the left, by a direct supertype of its class, with the arguments put in
+    -- super-interface, an interface on the left: by a direct supertype of its class, which has as many parameters, with the arguments put in
     super_interface : {c : ClassId} {ss : Types} {t : Ty} → (row : ClassRow) → class_of table c ≡ Some row → (v : Ty) → Contains row.supers v → count ss ≡ length row.params → Sub table (put (by_params row.params ss) v) t → Sub table (interface c ss) t
     -- a function type on the left, and `Function` on the right
     function_class : {r o : Types} {n : Named} {e t : Ty} → is_function_class t ≡ true → Sub table (function r o n e) t
-    -- function types on both sides: the left one requires no more positional parameters and takes at least as many, has each named one of the right, and requires none that the right doesn't require; its parameters are supertypes, and its result is a subtype
+    -- positional and named function types, on both sides: the left one requires no more positional parameters and takes at least as many, has each named one of the right, and requires none that the right doesn't require; its parameters are supertypes, and its result is a subtype
     function_types : {r o r' o' : Types} {n n' : Named} {e e' : Ty} → count r ≤ count r' → SubParams table (join r' o') (join r o) → SubNamed table n' n → required_in n n' ≡ true → Sub table e e' → Sub table (function r o n e) (function r' o' n' e')
     -- the top type `void` on the left: `Object?` is a subtype
     left_top : {t : Ty} → Sub table (nullable object) t → Sub table void t

@@ -1,5 +1,5 @@
 -- Subtyping as a test, for definitions that compute.
-use Rattle.std.specs.Prelude.{ℕ, Bool, true, false, ◌&&◌, ◌||◌, nat_eq, nat_le, List, length, not, bytes_eq}
+use Rattle.std.specs.Prelude.{ℕ, Bool, true, false, ◌&&◌, ◌||◌, nat_eq, nat_le, List, length, bytes_eq}
 use Rattle.std.specs.List.{list_any}
 use Rattle.std.specs.Option.{option_map_or}
 use Rattle.std.proofs.Common.{zero, suc}
@@ -77,7 +77,7 @@ by_left table below (variable x) t = option_map_or (λ b. below b t) (bound_of t
 by_left table below (promoted x u) t = below (variable x) t || below u t
 by_left table below (nullable u) t = below u t && below null t
 
--- whether the left type is Null
+-- whether the type is Null
 abbrev pub is_null : Ty → Bool
 is_null invalid = false
 is_null never = false
@@ -109,7 +109,3 @@ derives table (suc n) s t = same_type s t || by_left table (derives table n) s t
 -- whether s is a subtype of t
 unfoldable pub sub : Table → Ty → Ty → Bool
 sub table s t = derives table (suc (measure table s t)) s t
-
--- whether s is a subtype of t and another type
-abbrev pub proper_sub : Table → Ty → Ty → Bool
-proper_sub table s t = sub table s t && not (same_type s t)

@@ -25,11 +25,15 @@ interface_of s = interface s.class (types_of s.args)
 abbrev pub interface_with : Arguments → Superinterface → Ty
 interface_with a s = normal (put (by_params a.params.now (types_of a.args.now)) (interface_of s))
 
+-- the superinterfaces stand in the order of their classes
+abbrev pub AreOrdered : List Superinterface → Type 0
+AreOrdered list = AllPairs (λ (a b : Superinterface). class_before b.class a.class ≡ false) list
+
 -- the list has the normal forms of a class's superinterfaces and no other types, each once, in the order of their classes; none has more nodes than a type may have
 pub record AreSuperinterfaces (table : Table) (c : ClassId) (list : List Superinterface) : Type 0 where
   pub every : (v : Ty) → IsSuperinterface table c v → (s : Superinterface) × Contains list s × (interface_of s ≡ normal v)
   pub no_other : (s : Superinterface) → Contains list s → (v : Ty) × IsSuperinterface table c v × (interface_of s ≡ normal v)
-  pub in_order : AllPairs (λ (a b : Superinterface). class_before b.class a.class ≡ false) list
+  pub in_order : AreOrdered list
   pub once : AllPairs (λ (a b : Superinterface). a ≢ b) list
   pub within_limit : All (λ (s : Superinterface). size_of (interface_of s) ≤ NODE_LIMIT) list
 

@@ -3,9 +3,9 @@
 ghost use Rattle.std.specs.Prelude.{◌≡◌, ◌≤◌, ◌↔◌, IfOk, IfErr, OnOk, IsTrue, Contains};
 ghost use Rattle.dart_types.specs.Ty.{interface, types_of};
 ghost use Rattle.dart_types.specs.Sizes.{size_of};
-ghost use Rattle.dart_types.specs.Superinterfaces.{interface_of};
+ghost use Rattle.dart_types.specs.Superinterfaces.{interface_of, AreOrdered};
 ghost use Rattle.dart_types.specs.Replacements.{replaced};
-ghost use Rattle.dart_types.specs.Gathering.{AreOrdered, Adds, IsCauseAmong, IsReplaced};
+ghost use Rattle.dart_types.specs.Gathering.{Adds, IsCauseAmong, IsReplaced};
 ghost use Rattle.dart_types.specs.declared.refusal.TheConstants.{NODE_LIMIT};
 
 use crate::ids::ClassId;

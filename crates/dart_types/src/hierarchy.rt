@@ -6,9 +6,9 @@ ghost use Rattle.dart_types.specs.Normal.{normal};
 ghost use Rattle.dart_types.specs.Tables.{class_of};
 ghost use Rattle.dart_types.specs.WellFormed.{IsWellFormed, IsSupertype};
 ghost use Rattle.dart_types.specs.Entries.{table_of};
-ghost use Rattle.dart_types.specs.Superinterfaces.{AreSuperinterfaces};
+ghost use Rattle.dart_types.specs.Superinterfaces.{AreSuperinterfaces, AreOrdered};
 ghost use Rattle.dart_types.specs.RowsCause.{IsCauseIn};
-ghost use Rattle.dart_types.specs.Gathering.{AreOrdered, Adds, IsCauseAmong, IsGiven, IsGivenBy, IsPut, AreKnownBelow};
+ghost use Rattle.dart_types.specs.Gathering.{Adds, IsCauseAmong, IsGiven, IsGivenBy, IsPut, AreKnownBelow};
 
 use crate::class_rows::{ClassRow, VarRow};
 use crate::entries::{ClassEntry, find_entry};

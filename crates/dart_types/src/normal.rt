@@ -1,19 +1,31 @@
 //! Normal forms.
 
 ghost use Rattle.std.specs.Prelude.{◌≡◌, IfOk};
-ghost use Rattle.dart_types.specs.Ty.{variable, types_of};
+ghost use Rattle.dart_types.specs.Ty.{variable, interface, no_more, types_of};
 ghost use Rattle.dart_types.specs.Named.{named_of};
 ghost use Rattle.dart_types.specs.Node.{function_type};
 ghost use Rattle.dart_types.specs.Normal.{nullable_of};
 ghost use Rattle.dart_types.specs.Replacements.{replaced, replaced_all, replaced_named};
 
-use crate::ids::VarId;
+use crate::ids::{ClassId, VarId};
 use crate::pairs::find_replacement;
 use crate::replacements::Replacement;
 use crate::types::{DartType, FunctionType, NamedType, NamedTypes, TypeList, TypeNode};
 use std::alloc::{AllocError, Global};
 
 impl DartType {
+    /// A class without arguments, as `Object`. It takes no memory.
+    pub fn class(alloc: Global, class: ClassId) -> DartType
+        ensures { result ≡ interface class no_more }
+    {
+        DartType {
+            node: TypeNode::Interface {
+                class,
+                args: TypeList::new(alloc),
+            },
+        }
+    }
+
     /// The normal form of `bare?`, of a type in normal form: a second `?` adds nothing, neither does
     /// one after `void`, and `Null?` and `Never?` are `Null`.
     pub fn nullable(alloc: Global, bare: DartType) -> Result<DartType, AllocError>

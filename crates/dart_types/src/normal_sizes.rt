@@ -53,8 +53,9 @@ impl DartType {
         }
     }
 
-    // Whether a `?` stays after the type, which is in normal form.
-    fn takes_mark(&self) -> bool
+    /// Whether a `?` after the type, which is in normal form, stays in the normal form: not after
+    /// `Never`, `Null`, `void` or another `?`.
+    pub fn takes_mark(&self) -> bool
         ensures { result ≡ takes_mark self.now }
     {
         match &self.node {

@@ -57,7 +57,8 @@ impl Rows {
 
     /// The rows of these classes and type variables, with the superinterfaces of each class. Both
     /// lists are in the order of their ids. `TooLarge` comes exactly where some class has a
-    /// superinterface, in its own parameters, in which more than `NODE_LIMIT` types stand.
+    /// superinterface, in its own parameters, in which more than `NODE_LIMIT` types stand; it names
+    /// one such class of the least depth.
     pub fn new(
         alloc: Global,
         classes: Vec<ClassRow>,

@@ -4,7 +4,7 @@ ghost use Rattle.std.specs.Prelude.{◌≡◌, ◌≢◌, ◌≤◌, true, false
 ghost use Rattle.dart_types.specs.Ty.{variable, nullable, promoted, interface, null, invalid};
 ghost use Rattle.dart_types.specs.Heads.{is_object};
 ghost use Rattle.dart_types.specs.Forms.{form_of, seen_types, seen_function, seen_params, seen_named};
-ghost use Rattle.dart_types.specs.Targets.{is_bare, or_nullable};
+ghost use Rattle.dart_types.specs.Targets.{is_bare_target, or_nullable};
 ghost use Rattle.dart_types.specs.Sub.{Sub, Subs, SubParams, SubNamed};
 ghost use Rattle.dart_types.specs.SubTest.{sub};
 ghost use Rattle.dart_types.specs.BoundVars.{IsBoundVar};
@@ -140,7 +140,7 @@ fn is_var_below_nullable_promoted(rows: &Rows, x: VarId, var: VarId, t: &Form) -
 // and without `?`.
 #[cycle(subtyping)]
 fn is_below_bare(rows: &Rows, s: &Form, t: &Form, or_null: bool) -> bool
-    requires { is_bare (form_of t.now) ≡ true }
+    requires { is_bare_target (form_of t.now) ≡ true }
     ensures { IsTrue result ↔ Sub rows.now.table (form_of s.now) (or_nullable or_null (form_of t.now)) }
 {
     if is_top(t, or_null) {
@@ -174,7 +174,7 @@ fn is_below_bare(rows: &Rows, s: &Form, t: &Form, or_null: bool) -> bool
 // by step.
 #[cycle(subtyping)]
 fn is_var_below_bare(rows: &Rows, x: VarId, t: &Form, or_null: bool) -> bool
-    requires bare { is_bare (form_of t.now) ≡ true }
+    requires bare { is_bare_target (form_of t.now) ≡ true }
     requires no_top { or_null ≡ true → is_object (form_of t.now) ≡ true → ⊥ }
     ensures { IsTrue result ↔ Sub rows.now.table (variable x) (or_nullable or_null (form_of t.now)) }
 {
@@ -284,7 +284,7 @@ fn is_var_form(t: &Form, var: VarId) -> bool
 // Whether a class with these arguments is a subtype of t.
 #[cycle(subtyping)]
 fn is_interface_below(rows: &Rows, class: ClassId, args: &SeenList, t: &Form) -> bool
-    requires { is_bare (form_of t.now) ≡ true }
+    requires { is_bare_target (form_of t.now) ≡ true }
     ensures { IsTrue result ↔ Sub rows.now.table (interface class (seen_types args.now)) (form_of t.now) }
 {
     match *t {
@@ -359,7 +359,7 @@ fn are_arguments_below(rows: &Rows, _class: ClassId, args: &SeenList, others: &S
 // Whether a function type is a subtype of t.
 #[cycle(subtyping)]
 fn is_function_below(rows: &Rows, function: &SeenFunction, t: &Form) -> bool
-    requires { is_bare (form_of t.now) ≡ true }
+    requires { is_bare_target (form_of t.now) ≡ true }
     ensures { IsTrue result ↔ Sub rows.now.table (seen_function function.now) (form_of t.now) }
 {
     match *t {

@@ -1,9 +1,10 @@
 //! A superinterface of a class, as its row keeps it.
 
-ghost use Rattle.std.specs.Prelude.{◌≡◌, ◌≤◌, AllPairs, true, false, length, filter, IfOk};
+ghost use Rattle.std.specs.Prelude.{◌≡◌, ◌≤◌, true, false, length, filter, IfOk};
 ghost use Rattle.std.specs.List.Sorted.{IsPartitionPoint};
 ghost use Rattle.dart_types.specs.Same.{same_class};
 ghost use Rattle.dart_types.specs.WellFormed.{class_before};
+ghost use Rattle.dart_types.specs.Superinterfaces.{AreOrdered};
 
 use crate::ids::ClassId;
 use crate::types::TypeList;
@@ -37,7 +38,7 @@ pub fn superinterfaces_of_class(
     superinterfaces: &[Superinterface],
     class: ClassId,
 ) -> &[Superinterface]
-    requires { AllPairs (λ a b. class_before b.class a.class ≡ false) superinterfaces.now }
+    requires { AreOrdered superinterfaces.now }
     ensures { result.now ≡ filter (λ s. same_class s.class class) superinterfaces.now }
 {
     let from = first_of_class(superinterfaces, class);
@@ -47,7 +48,7 @@ pub fn superinterfaces_of_class(
 
 // How many superinterfaces are of classes with smaller ids.
 fn first_of_class(superinterfaces: &[Superinterface], class: ClassId) -> usize
-    requires { AllPairs (λ a b. class_before b.class a.class ≡ false) superinterfaces.now }
+    requires { AreOrdered superinterfaces.now }
     ensures bound { result ≤ length superinterfaces.now }
     ensures parts { IsPartitionPoint (λ s. class_before s.class class ≡ true) (λ s. class_before s.class class ≡ false) superinterfaces.now result }
 {
@@ -56,7 +57,7 @@ fn first_of_class(superinterfaces: &[Superinterface], class: ClassId) -> usize
 
 // How many superinterfaces are of classes with smaller ids or of the class itself.
 pub(crate) fn end_of_class(superinterfaces: &[Superinterface], class: ClassId) -> usize
-    requires { AllPairs (λ a b. class_before b.class a.class ≡ false) superinterfaces.now }
+    requires { AreOrdered superinterfaces.now }
     ensures bound { result ≤ length superinterfaces.now }
     ensures parts { IsPartitionPoint (λ s. class_before class s.class ≡ false) (λ s. class_before class s.class ≡ true) superinterfaces.now result }
 {

@@ -169,13 +169,6 @@ impl TypeList {
         self.items.push(t)?;
         Ok(())
     }
-
-    /// Leaves no types. It takes no memory.
-    pub fn clear(&mut self)
-        ensures { self.new ≡ [] }
-    {
-        self.items.clear();
-    }
 }
 
 impl NamedTypes {

@@ -9,7 +9,8 @@ use Rattle.dart_types.specs.Measure.{weight, weights, weights_named, of_var, wei
 use Rattle.dart_types.specs.declared.ids.ClassId.{ClassId}
 use Rattle.dart_types.specs.declared.types.FunctionType.{FunctionType}
 use Rattle.dart_types.specs.declared.types.NamedType.{NamedType}
-use Rattle.type_bounds.specs.Bounds.{bare_of, is_nullable}
+use Rattle.dart_types.specs.Marks.{is_marked}
+use Rattle.type_bounds.specs.Bounds.{bare_of}
 use Rattle.type_bounds.specs.Signatures.{type_named}
 use Rattle.type_bounds.proofs.NonNulls.{bare_weighs}
 
@@ -66,7 +67,7 @@ module _ (table : Table) where
     results_fall = omega (arith, parts_weigh f, parts_weigh g)
 
   -- a type weighs more than without its `?`
-  marked_weighs : (t : Ty) → is_nullable t ≡ true → weight_of table (bare_of t) < weight_of table t
+  marked_weighs : (t : Ty) → is_marked t ≡ true → weight_of table (bare_of t) < weight_of table t
   marked_weighs invalid h = cc
   marked_weighs never h = cc
   marked_weighs void h = cc
@@ -88,10 +89,10 @@ module _ (table : Table) where
   bare_no_heavier (promoted x t) = omega arith
   bare_no_heavier (nullable t) = omega (arith, bare_weighs table t)
 
-  pub marked_fall : (s t : Ty) → (is_nullable s || is_nullable t) ≡ true → weight_of table (bare_of s) + weight_of table (bare_of t) < weight_of table s + weight_of table t
-  marked_fall s t h = at (is_nullable s) refl h
+  pub marked_fall : (s t : Ty) → (is_marked s || is_marked t) ≡ true → weight_of table (bare_of s) + weight_of table (bare_of t) < weight_of table s + weight_of table t
+  marked_fall s t h = at (is_marked s) refl h
     where
-      at : (b : Bool) → is_nullable s ≡ b → (b || is_nullable t) ≡ true → weight_of table (bare_of s) + weight_of table (bare_of t) < weight_of table s + weight_of table t
+      at : (b : Bool) → is_marked s ≡ b → (b || is_marked t) ≡ true → weight_of table (bare_of s) + weight_of table (bare_of t) < weight_of table s + weight_of table t
       at true e k = omega (arith, marked_weighs s e, bare_no_heavier t)
       at false e k = omega (arith, bare_no_heavier s, marked_weighs t k)
 

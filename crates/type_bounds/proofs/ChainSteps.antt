@@ -14,7 +14,8 @@ use Rattle.dart_types.specs.SubTest.{is_null}
 use Rattle.dart_types.specs.Tables.{Table, bound_of}
 use Rattle.dart_types.specs.WellFormed.{IsWellFormed}
 use Rattle.dart_types.proofs.MeasureBounds.{bound_deepness}
-use Rattle.type_bounds.specs.Bounds.{AreApart, is_bare, is_nullable, is_settled, bare_of, upper_apart, Upper, UpperApart, marked_either, variable_left, variable_right}
+use Rattle.dart_types.specs.Marks.{is_marked}
+use Rattle.type_bounds.specs.Bounds.{AreApart, is_bare, is_settled, bare_of, upper_apart, Upper, UpperApart, marked_either, variable_left, variable_right}
 use Rattle.type_bounds.specs.Chains.{LeadsTo, ends, goes_on, goes_on_marked, IsNext, marked_by}
 use Rattle.type_bounds.proofs.NonNulls.{bound_weighs, bare_weighs}
 
@@ -105,17 +106,17 @@ module _ (table : Table) where
       let f = ap (deepness_of table) is in
       omega (arith, fall, bare_deepness bound, e, f)
 
-  pub next_leads : (t s bound next : Ty) → IsNext table s bound → next ≡ bare_of bound → (Sub table t bound → ⊥) → (is_nullable bound ≡ true → Sub table next t → ⊥) → (m : Bool) (end : Ty) → LeadsTo table t next m end → LeadsTo table t s (is_nullable bound || m) end
-  next_leads t s bound next n is not below m end a = subst (λ (u : Ty). LeadsTo table t u (is_nullable bound || m) end) (sym n.2) (step n.4)
+  pub next_leads : (t s bound next : Ty) → IsNext table s bound → next ≡ bare_of bound → (Sub table t bound → ⊥) → (is_marked bound ≡ true → Sub table next t → ⊥) → (m : Bool) (end : Ty) → LeadsTo table t next m end → LeadsTo table t s (is_marked bound || m) end
+  next_leads t s bound next n is not below m end a = subst (λ (u : Ty). LeadsTo table t u (is_marked bound || m) end) (sym n.2) (step n.4)
     where
-      step : (bound ≡ variable n.1) ⊎ (bound ≡ nullable (variable n.1)) → LeadsTo table t (variable n.0) (is_nullable bound || m) end
+      step : (bound ≡ variable n.1) ⊎ (bound ≡ nullable (variable n.1)) → LeadsTo table t (variable n.0) (is_marked bound || m) end
       step (inl e) =
-          subst (λ (b : Ty). LeadsTo table t (variable n.0) (is_nullable b || m) end) (sym e)
+          subst (λ (b : Ty). LeadsTo table t (variable n.0) (is_marked b || m) end) (sym e)
           (goes_on (n.3 ∙ ap Some e) (subst (λ (b : Ty). Sub table t b → ⊥) e not) (subst (λ (u : Ty). LeadsTo table t u m end) (is ∙ ap bare_of e) a))
       step (inr e) =
-          subst (λ (b : Ty). LeadsTo table t (variable n.0) (is_nullable b || m) end) (sym e)
+          subst (λ (b : Ty). LeadsTo table t (variable n.0) (is_marked b || m) end) (sym e)
           (goes_on_marked (n.3 ∙ ap Some e) (subst (λ (b : Ty). Sub table t b → ⊥) e not)
-          (λ b. below (ap is_nullable e) (subst (λ (u : Ty). Sub table u t) (sym (is ∙ ap bare_of e)) b))
+          (λ b. below (ap is_marked e) (subst (λ (u : Ty). Sub table u t) (sym (is ∙ ap bare_of e)) b))
           (subst (λ (u : Ty). LeadsTo table t u m end) (is ∙ ap bare_of e) a))
 
   -- how marks add up on the way
@@ -177,7 +178,7 @@ module _ (table : Table) where
       let over : AreApart table s (nullable (variable y)) = (not, λ c. a.1 (left_variable_bound (nullable (variable y)) e c)) in
       let apart : AreApart table s (variable y) = (λ c. not (right_nullable c), below) in
       let bare : Upper table (bare_of s) (variable y) (marked_by m u) = subst (λ (v : Ty). Upper table v (variable y) (marked_by m u)) (sym same.0) (upper_apart apart (chain_right rest apart h b)) in
-      let marked : (is_nullable s || true) ≡ true = either_true (is_nullable s) in
+      let marked : (is_marked s || true) ≡ true = either_true (is_marked s) in
       subst (λ (v : Ty). UpperApart table s (variable x) v) (marked_twice m u) (variable_right h e (upper_apart over (marked_either same.1 refl marked bare)))
     where
       either_true : (b : Bool) → (b || true) ≡ true

@@ -9,11 +9,12 @@ use Rattle.dart_types.specs.Tables.{Table}
 use Rattle.dart_types.specs.declared.types.FunctionType.{FunctionType}
 use Rattle.dart_types.specs.declared.types.TypeNode.{TypeNode}
 use Rattle.dart_types.specs.declared.types.TypeNode.TheVariants.{Invalid, Never, Void, Null, Interface, Function, Var, Promoted, Nullable}
-use Rattle.type_bounds.specs.Bounds.{bare_of, is_nullable, are_functions, Lower, LowerApart, marked_both, lower_of_others, nothing_below}
+use Rattle.dart_types.specs.Marks.{is_marked}
+use Rattle.type_bounds.specs.Bounds.{bare_of, are_functions, Lower, LowerApart, marked_both, lower_of_others, nothing_below}
 use Rattle.type_bounds.specs.Signatures.{have_lower}
 
 -- a `?` after the type without it gives the type, if it has one
-marked_form : (P : Ty → Type 0) (t : Ty) → is_nullable t ≡ true → P (nullable (bare_of t)) → P t
+marked_form : (P : Ty → Type 0) (t : Ty) → is_marked t ≡ true → P (nullable (bare_of t)) → P t
 marked_form P invalid h p = cc
 marked_form P never h p = cc
 marked_form P void h p = cc
@@ -29,13 +30,13 @@ either_holds true b h = refl
 either_holds false b h = cc
 
 module _ (table : Table) where
-  pub at_both_marks : (s t u : Ty) → is_nullable s ≡ true → is_nullable t ≡ true → Lower table (bare_of s) (bare_of t) u → LowerApart table s t (nullable_of u)
+  pub at_both_marks : (s t u : Ty) → is_marked s ≡ true → is_marked t ≡ true → Lower table (bare_of s) (bare_of t) u → LowerApart table s t (nullable_of u)
   at_both_marks s t u h k a =
       marked_form (λ (v : Ty). LowerApart table v t (nullable_of u)) s h
       (marked_form (λ (v : Ty). LowerApart table (nullable (bare_of s)) v (nullable_of u)) t k (marked_both a))
 
   -- what is no function type on the left
-  pub at_no_function_left : (n : TypeNode) {s : Ty} (t : Ty) → type_of n ≡ s → ((f : Box FunctionType Global) → n ≡ Function f → ⊥) → (is_nullable s || is_nullable t) ≡ false → LowerApart table s t never
+  pub at_no_function_left : (n : TypeNode) {s : Ty} (t : Ty) → type_of n ≡ s → ((f : Box FunctionType Global) → n ≡ Function f → ⊥) → (is_marked s || is_marked t) ≡ false → LowerApart table s t never
   at_no_function_left n {s} t e f h = nothing_below h (subst (λ (v : Ty). are_functions v t ≡ false) e (at n f))
     where
       at : (n : TypeNode) → ((f : Box FunctionType Global) → n ≡ Function f → ⊥) → are_functions (type_of n) t ≡ false
@@ -50,7 +51,7 @@ module _ (table : Table) where
       at (Nullable bare) f = refl
 
   -- and on the right
-  pub at_no_function_right : (g : FunctionType) (n : TypeNode) {t : Ty} → type_of n ≡ t → ((f : Box FunctionType Global) → n ≡ Function f → ⊥) → is_nullable t ≡ false → LowerApart table (function_type g) t never
+  pub at_no_function_right : (g : FunctionType) (n : TypeNode) {t : Ty} → type_of n ≡ t → ((f : Box FunctionType Global) → n ≡ Function f → ⊥) → is_marked t ≡ false → LowerApart table (function_type g) t never
   at_no_function_right g n e f h = nothing_below h (subst (λ (v : Ty). are_functions (function_type g) v ≡ false) e (at n f))
     where
       at : (n : TypeNode) → ((f : Box FunctionType Global) → n ≡ Function f → ⊥) → are_functions (function_type g) (type_of n) ≡ false

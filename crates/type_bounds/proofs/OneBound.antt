@@ -10,13 +10,14 @@ use Rattle.dart_types.specs.declared.ids.ClassId.{ClassId}
 use Rattle.dart_types.specs.declared.ids.VarId.{VarId}
 use Rattle.dart_types.specs.declared.class_rows.ClassRow.{ClassRow}
 use Rattle.type_bounds.specs.Common.{IsAbove, IsDeepest}
-use Rattle.type_bounds.specs.Bounds.{is_nullable, is_bare, is_settled, Upper, right_above, left_above, upper_apart, UpperApart, null_left, null_right, marked_either, promoted_twice, variable_left, promoted_left, variable_right, promoted_right, upper_functions, upper_of_others, function_and_class, class_and_function, one_class, two_classes, unbound_left, unbound_right, invalid_left, invalid_right, other_arguments, unknown_class, Uppers, no_upper, one_upper, UpperNamed, no_upper_name, upper_name, Lower, left_below, right_below, lower_apart, LowerApart, marked_both, marked_once, lower_functions, lower_of_others, nothing_below, LowerParams, left_ends, right_ends, one_lower, LowerNamed, no_lower_name, lower_name, other_name}
+use Rattle.dart_types.specs.Marks.{is_marked}
+use Rattle.type_bounds.specs.Bounds.{is_bare, is_settled, Upper, right_above, left_above, upper_apart, UpperApart, null_left, null_right, marked_either, promoted_twice, variable_left, promoted_left, variable_right, promoted_right, upper_functions, upper_of_others, function_and_class, class_and_function, one_class, two_classes, unbound_left, unbound_right, invalid_left, invalid_right, other_arguments, unknown_class, Uppers, no_upper, one_upper, UpperNamed, no_upper_name, upper_name, Lower, left_below, right_below, lower_apart, LowerApart, marked_both, marked_once, lower_functions, lower_of_others, nothing_below, LowerParams, left_ends, right_ends, one_lower, LowerNamed, no_lower_name, lower_name, other_name}
 
 pub clash : {A : Type 0} (b : Bool) → b ≡ true → b ≡ false → A
 clash true p q = cc
 clash false p q = cc
 
-pub bare_unmarked : {A : Type 0} (t : Ty) → is_bare t ≡ true → is_nullable t ≡ true → A
+pub bare_unmarked : {A : Type 0} (t : Ty) → is_bare t ≡ true → is_marked t ≡ true → A
 bare_unmarked invalid p q = cc
 bare_unmarked never p q = cc
 bare_unmarked void p q = cc
@@ -27,7 +28,7 @@ bare_unmarked (variable x) p q = cc
 bare_unmarked (promoted x t) p q = cc
 bare_unmarked (nullable t) p q = cc
 
-pub settled_unmarked : {A : Type 0} (s : Ty) → is_settled s ≡ true → (is_nullable s || false) ≡ true → A
+pub settled_unmarked : {A : Type 0} (s : Ty) → is_settled s ≡ true → (is_marked s || false) ≡ true → A
 settled_unmarked invalid p q = cc
 settled_unmarked never p q = cc
 settled_unmarked void p q = cc
@@ -269,7 +270,7 @@ module _ (table : Table) where
     one_lower_apart (marked_once p q a) (marked_once p' q' b) = one_lower_bound a b
     one_lower_apart (marked_once p q a) (lower_functions k rs os ns b) = cc
     one_lower_apart (marked_once p q a) (lower_of_others k) = cc
-    one_lower_apart (marked_once {s = s} {t = t} p q a) (nothing_below k l) = clash (is_nullable s || is_nullable t) q k
+    one_lower_apart (marked_once {s = s} {t = t} p q a) (nothing_below k l) = clash (is_marked s || is_marked t) q k
     one_lower_apart (lower_functions k rs os ns a) (marked_once p q b) = cc
     one_lower_apart (lower_functions k rs os ns a) (lower_functions k' rs' os' ns' b) =
         let r = one_uppers rs rs' in
@@ -284,7 +285,7 @@ module _ (table : Table) where
     one_lower_apart (lower_of_others k) (lower_of_others k') = refl
     one_lower_apart (lower_of_others k) (nothing_below p q) = cc
     one_lower_apart (nothing_below k l) (marked_both b) = cc
-    one_lower_apart (nothing_below {s = s} {t = t} k l) (marked_once p q b) = clash (is_nullable s || is_nullable t) q k
+    one_lower_apart (nothing_below {s = s} {t = t} k l) (marked_once p q b) = clash (is_marked s || is_marked t) q k
     one_lower_apart (nothing_below k l) (lower_functions k' rs os ns b) = cc
     one_lower_apart (nothing_below k l) (lower_of_others k') = cc
     one_lower_apart (nothing_below k l) (nothing_below k' l') = refl

@@ -1,9 +1,8 @@
 -- The superinterfaces of two classes with arguments, as they are looked for.
-use Rattle.std.specs.Prelude.{ℕ, ◌≡◌, ◌<◌, ◌≤◌, List, length, Option, Some, None, Contains, All, AllPairs, false}
+use Rattle.std.specs.Prelude.{ℕ, ◌≡◌, ◌<◌, ◌≤◌, List, length, Option, Some, None, Contains, All}
 use Rattle.dart_types.specs.Ty.{Ty, types_of, count}
 use Rattle.dart_types.specs.Superinterfaces.{interface_with, AreSuperinterfaces}
 use Rattle.dart_types.specs.Tables.{Table, class_of, depth_of}
-use Rattle.dart_types.specs.WellFormed.{class_before}
 use Rattle.dart_types.specs.declared.ids.ClassId.{ClassId}
 use Rattle.dart_types.specs.declared.class_rows.ClassRow.{ClassRow}
 use Rattle.dart_types.specs.declared.superinterfaces.Superinterface.{Superinterface}
@@ -17,10 +16,6 @@ type_above a s = interface_with a.arguments s
 -- the type is one of these superinterfaces
 abbrev pub IsIn : Above → Ty → Type 0
 IsIn a u = (s : Superinterface) × Contains a.superinterfaces.now s × (type_above a s ≡ u)
-
--- the superinterfaces stand in the order of their classes
-abbrev pub AreInOrder : List Superinterface → Type 0
-AreInOrder list = AllPairs (λ (s t : Superinterface). class_before t.class s.class ≡ false) list
 
 -- they are those of the class with these arguments, which has a row with as many parameters
 pub record AreOf (table : Table) (c : ClassId) (ts : List Ty) (a : Above) : Type 0 where

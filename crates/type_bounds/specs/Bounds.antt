@@ -2,6 +2,7 @@
 use Rattle.std.specs.Prelude.{◌≡◌, ◌≢◌, ℕ, Bool, true, false, ◌&&◌, ◌||◌, List, Some, None, bytes_eq}
 use Rattle.dart_types.specs.Ty.{Ty, Types, Named, invalid, never, void, null, interface, function, variable, promoted, nullable, no_more, more, no_named, more_named, count}
 use Rattle.dart_types.specs.Heads.{object}
+use Rattle.dart_types.specs.Marks.{is_marked}
 use Rattle.dart_types.specs.Normal.{nullable_of}
 use Rattle.dart_types.specs.Same.{same_class, same_var}
 use Rattle.dart_types.specs.Sub.{Sub, is_required}
@@ -29,18 +30,6 @@ bare_of (function r o n e) = function r o n e
 bare_of (variable x) = variable x
 bare_of (promoted x t) = promoted x t
 bare_of (nullable t) = t
-
--- the type has a `?`
-abbrev pub is_nullable : Ty → Bool
-is_nullable invalid = false
-is_nullable never = false
-is_nullable void = false
-is_nullable null = false
-is_nullable (interface c ts) = false
-is_nullable (function r o n e) = false
-is_nullable (variable x) = false
-is_nullable (promoted x t) = false
-is_nullable (nullable t) = true
 
 -- the type is neither `Null` nor one with `?`
 abbrev pub is_bare : Ty → Bool
@@ -99,7 +88,7 @@ mutual
     null_left : {t : Ty} → UpperApart table null t (nullable_of t)
     null_right : {s : Ty} → UpperApart table s null (nullable_of s)
     -- a `?` on either side: the bound of the bare types with `?`
-    marked_either : {s t u : Ty} → is_null s ≡ false → is_null t ≡ false → (is_nullable s || is_nullable t) ≡ true → Upper table (bare_of s) (bare_of t) u → UpperApart table s t (nullable_of u)
+    marked_either : {s t u : Ty} → is_null s ≡ false → is_null t ≡ false → (is_marked s || is_marked t) ≡ true → Upper table (bare_of s) (bare_of t) u → UpperApart table s t (nullable_of u)
     -- a variable that is promoted to two types: the variable
     promoted_twice : {x y : VarId} {u v : Ty} → same_var x y ≡ true → UpperApart table (promoted x u) (promoted y v) (variable x)
     -- a variable gives way to its bound, a promoted one to the type that it is promoted to, on the left side first
@@ -151,14 +140,14 @@ mutual
     -- two with `?`: the bound of the bare types with `?`
     marked_both : {s t u : Ty} → Lower table s t u → LowerApart table (nullable s) (nullable t) (nullable_of u)
     -- one with `?`: the bound of the bare types
-    marked_once : {s t u : Ty} → (is_nullable s && is_nullable t) ≡ false → (is_nullable s || is_nullable t) ≡ true → Lower table (bare_of s) (bare_of t) u → LowerApart table s t u
+    marked_once : {s t u : Ty} → (is_marked s && is_marked t) ≡ false → (is_marked s || is_marked t) ≡ true → Lower table (bare_of s) (bare_of t) u → LowerApart table s t u
     -- two function types that have one as their bound: the upper bounds of the parameters, and the lower bound of the results
     lower_functions : {r o r' o' : Types} {n n' : Named} {e e' : Ty} {r'' o'' : Types} {n'' : Named} {e'' : Ty} → have_lower r o n r' o' n' ≡ true →
         Uppers table r r' r'' → Uppers table o o' o'' → UpperNamed table n n' n'' → Lower table e e' e'' → LowerApart table (function r o n e) (function r' o' n' e') (function r'' o'' n'' e'')
     -- other function types: `Never`
     lower_of_others : {r o r' o' : Types} {n n' : Named} {e e' : Ty} → have_lower r o n r' o' n' ≡ false → LowerApart table (function r o n e) (function r' o' n' e') never
     -- and so all else
-    nothing_below : {s t : Ty} → (is_nullable s || is_nullable t) ≡ false → are_functions s t ≡ false → LowerApart table s t never
+    nothing_below : {s t : Ty} → (is_marked s || is_marked t) ≡ false → are_functions s t ≡ false → LowerApart table s t never
 
   -- the lower bounds of types at the same places of two lists, as far as both go
   pub data LowerParams (table : Table) : (ss ts us : Types) → Type 0 where

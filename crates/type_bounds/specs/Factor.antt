@@ -1,4 +1,4 @@
--- What is left of a type where a value of it hasn't another type.
+-- What is left of a type where a value of it hasn't another type, the `factor` of Dart.
 use Rattle.std.specs.Prelude.{if◌then◌else◌}
 use Rattle.dart_types.specs.Ty.{Ty, invalid, never, void, null, interface, function, variable, promoted, nullable}
 use Rattle.dart_types.specs.Normal.{nullable_of}

@@ -1,4 +1,4 @@
--- A type without null.
+-- A type without null, the `NonNull` of Dart.
 use Rattle.std.specs.Prelude.{ℕ, Option, None, Some, if◌then◌else◌}
 use Rattle.std.proofs.Common.{zero, suc}
 use Rattle.dart_types.specs.Ty.{Ty, invalid, never, void, null, interface, function, variable, promoted, nullable}

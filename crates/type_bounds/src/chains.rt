@@ -3,7 +3,7 @@
 ghost use Rattle.std.specs.Prelude.{MatchOption};
 ghost use Rattle.type_bounds.specs.Chains.{LeadsTo, IsNext};
 
-use crate::type_forms::{bare, is_nullable};
+use crate::type_forms::{bare, is_marked};
 use dart_types::{DartType, Rows, TypeNode, is_subtype};
 
 /// Where a chain of variables leads.
@@ -28,7 +28,7 @@ pub(crate) fn chain_from<'a>(rows: &'a Rows, first: &'a DartType, other: &DartTy
             return Chain { last, marked };
         }
         let next = bare(bound);
-        if is_nullable(bound) {
+        if is_marked(bound) {
             if is_subtype(rows, next, other) {
                 return Chain { last, marked };
             }

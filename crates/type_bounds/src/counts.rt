@@ -3,10 +3,9 @@
 ghost use Rattle.std.specs.Prelude.{◌≡◌};
 ghost use Rattle.dart_types.specs.Ty.{Ty, never};
 ghost use Rattle.dart_types.specs.Normal.{nullable_of};
-ghost use Rattle.dart_types.specs.Marks.{takes_mark};
 ghost use Rattle.type_bounds.specs.Counts.{Counts};
 
-use dart_types::{DartType, TypeNode, size};
+use dart_types::{DartType, size};
 
 /// What is known of a type before it is formed.
 #[derive(Clone, Copy)]
@@ -24,7 +23,7 @@ impl Count {
     {
         Count {
             nodes: size(t),
-            takes_mark: takes_mark(t),
+            takes_mark: t.takes_mark(),
         }
     }
 
@@ -52,19 +51,5 @@ impl Count {
             nodes,
             takes_mark: false,
         }
-    }
-}
-
-// Whether a `?` after the type stays.
-fn takes_mark(t: &DartType) -> bool
-    ensures { result ≡ takes_mark t.now }
-{
-    match &t.node {
-        TypeNode::Never | TypeNode::Void | TypeNode::Null | TypeNode::Nullable(_) => false,
-        TypeNode::Invalid
-        | TypeNode::Interface { .. }
-        | TypeNode::Function(_)
-        | TypeNode::Var(_)
-        | TypeNode::Promoted { .. } => true,
     }
 }

@@ -1,7 +1,7 @@
-//! Named parameters, and function types, that are formed as far as they aren't too large.
+//! Named parameters that are formed as far as they aren't too large.
 
 ghost use Rattle.std.specs.Prelude.{◌≡◌, IfOk};
-ghost use Rattle.dart_types.specs.Ty.{Ty, Types, Named, no_named, more_named};
+ghost use Rattle.dart_types.specs.Ty.{Ty, Named, no_named, more_named};
 ghost use Rattle.type_bounds.specs.PartsView.{IsPart};
 ghost use Rattle.type_bounds.specs.NamedView.{AreNamedParts, AreBefore, join_named};
 
@@ -39,29 +39,20 @@ impl NamedParts {
         ensures { IfOk result (λ parts. (ns : Named) (t : Ty) → AreNamedParts self ns → IsPart part t → AreNamedParts parts (join_named ns (more_named name.now required t no_named))) }
     {
         let nodes = self.nodes.saturating_add(part.count.nodes);
+        let unformed = NamedParts {
+            nodes,
+            formed: None,
+        };
         let mut named = match self.formed {
-            None => {
-                return Ok(NamedParts {
-                    nodes,
-                    formed: None,
-                });
-            }
+            None => return Ok(unformed),
             Some(named) => named,
         };
         let ty = match part.formed {
-            None => {
-                return Ok(NamedParts {
-                    nodes,
-                    formed: None,
-                });
-            }
+            None => return Ok(unformed),
             Some(ty) => ty,
         };
         if nodes > NODE_LIMIT {
-            return Ok(NamedParts {
-                nodes,
-                formed: None,
-            });
+            return Ok(unformed);
         }
         named.push(NamedType {
             name: name.copy()?,

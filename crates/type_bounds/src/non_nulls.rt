@@ -12,7 +12,7 @@ ghost use Rattle.type_bounds.specs.NonNull.{non_null_of, non_null_within};
 ghost use Rattle.type_bounds.specs.NonNullSteps.{IsWithoutNull};
 
 use dart_types::{
-    DartType, NODE_LIMIT, OBJECT, Rows, TypeList, TypeNode, TypeRefusal, VarId, is_subtype, size,
+    DartType, NODE_LIMIT, OBJECT, Rows, TypeNode, TypeRefusal, VarId, is_subtype, size,
 };
 use std::alloc::{AllocError, Global};
 
@@ -80,13 +80,7 @@ fn var_without_null<'a>(alloc: Global, rows: &'a Rows, var: VarId) -> WithoutNul
 fn is_without_null(alloc: Global, rows: &Rows, t: &DartType) -> bool
     ensures { result ≡ sub rows.now.table t.now object }
 {
-    let object = DartType {
-        node: TypeNode::Interface {
-            class: OBJECT,
-            args: TypeList::new(alloc),
-        },
-    };
-    is_subtype(rows, t, &object)
+    is_subtype(rows, t, &DartType::class(alloc, OBJECT))
 }
 
 // How many types stand in the type without null, or 2^64 - 1 where there are more. A long chain of

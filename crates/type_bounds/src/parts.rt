@@ -1,7 +1,7 @@
 //! Types that are formed as far as they aren't too large.
 
 ghost use Rattle.std.specs.Prelude.{◌≡◌, ◌≤◌, IfOk};
-ghost use Rattle.dart_types.specs.Ty.{Ty, Types, interface, no_more, more, join};
+ghost use Rattle.dart_types.specs.Ty.{Ty, Types, invalid, never, interface, no_more, more, join};
 ghost use Rattle.dart_types.specs.Sizes.{size_of};
 ghost use Rattle.dart_types.specs.Normal.{nullable_of};
 ghost use Rattle.dart_types.specs.Formed.{Forms};
@@ -56,6 +56,31 @@ impl Part {
             count,
             formed: Some(t),
         }
+    }
+
+    /// The invalid type, which is the bound where the table has no row.
+    pub(crate) fn invalid() -> Part
+        ensures { IsPart result invalid }
+    {
+        Part::small(DartType {
+            node: TypeNode::Invalid,
+        })
+    }
+
+    /// `Never`.
+    pub(crate) fn never() -> Part
+        ensures { IsPart result never }
+    {
+        Part::small(DartType {
+            node: TypeNode::Never,
+        })
+    }
+
+    /// A class without arguments.
+    pub(crate) fn class(alloc: Global, class: ClassId) -> Part
+        ensures { IsPart result (interface class no_more) }
+    {
+        Part::small(DartType::class(alloc, class))
     }
 
     /// The normal form of `T?`, from T.
@@ -153,29 +178,20 @@ impl Parts {
         ensures { IfOk result (λ parts. (ts : Types) (t : Ty) → AreParts self ts → IsPart part t → AreParts parts (join ts (more t no_more))) }
     {
         let nodes = self.nodes.saturating_add(part.count.nodes);
+        let unformed = Parts {
+            nodes,
+            formed: None,
+        };
         let mut types = match self.formed {
-            None => {
-                return Ok(Parts {
-                    nodes,
-                    formed: None,
-                });
-            }
+            None => return Ok(unformed),
             Some(types) => types,
         };
         let formed = match part.formed {
-            None => {
-                return Ok(Parts {
-                    nodes,
-                    formed: None,
-                });
-            }
+            None => return Ok(unformed),
             Some(formed) => formed,
         };
         if nodes > NODE_LIMIT {
-            return Ok(Parts {
-                nodes,
-                formed: None,
-            });
+            return Ok(unformed);
         }
         types.push(formed)?;
         Ok(Parts {

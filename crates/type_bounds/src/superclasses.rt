@@ -1,20 +1,21 @@
 //! The deepest superinterface that two classes have in common.
 
 ghost use Rattle.std.specs.Prelude.{◌≡◌, ◌≤◌, ◌<◌, ◌↔◌, true, false, IfOk, IsTrue, MatchOption};
-ghost use Rattle.dart_types.specs.Ty.{Ty, invalid, interface, types_of};
+ghost use Rattle.dart_types.specs.Ty.{Ty, interface, types_of};
 ghost use Rattle.dart_types.specs.Same.{same_class};
 ghost use Rattle.dart_types.specs.Formed.{Forms};
 ghost use Rattle.dart_types.specs.Marks.{takes_mark};
+ghost use Rattle.dart_types.specs.Superinterfaces.{AreOrdered};
 ghost use Rattle.dart_types.specs.Tables.{class_of};
 ghost use Rattle.dart_types.specs.WellFormed.{HasArguments};
-ghost use Rattle.type_bounds.specs.Above.{type_above, depth_in, AreOf, AreInOrder, IsIn, IsShared, IsUnder, HasNoneUnder, IsTopUnder, IsAloneIn, HasNoneAlone, IsDeepestIn};
+ghost use Rattle.type_bounds.specs.Above.{type_above, depth_in, AreOf, IsIn, IsShared, IsUnder, HasNoneUnder, IsTopUnder, IsAloneIn, HasNoneAlone, IsDeepestIn};
 ghost use Rattle.type_bounds.specs.Bounds.{UpperApart, AreApart};
 ghost use Rattle.type_bounds.specs.PartsView.{IsPart, IsSomePart};
 
 use crate::counts::Count;
 use crate::parts::Part;
 use dart_types::{
-    Arguments, ClassId, DartType, Rows, Superinterface, TypeList, TypeNode, TypeRefusal,
+    Arguments, ClassId, DartType, Rows, Superinterface, TypeList, TypeRefusal,
     superinterfaces_of_class,
 };
 use std::alloc::{AllocError, Global};
@@ -48,11 +49,11 @@ pub(crate) fn upper_of_classes(
     ensures { IfOk result (IsSomePart (UpperApart rows.now.table (interface class (types_of args.now)) (interface other (types_of others.now)))) }
 {
     let left = match above_class(rows, class, args) {
-        None => return Ok(unknown()),
+        None => return Ok(Part::invalid()),
         Some(left) => left,
     };
     let right = match above_class(rows, other, others) {
-        None => return Ok(unknown()),
+        None => return Ok(Part::invalid()),
         Some(right) => right,
     };
     let pair = Pair { rows, left, right };
@@ -60,15 +61,6 @@ pub(crate) fn upper_of_classes(
         None => unreachable!(),
         Some(deepest) => part_of(deepest.with_arguments(alloc, &left.arguments)),
     }
-}
-
-// The invalid type, where a class isn't known.
-fn unknown() -> Part
-    ensures { IsPart result invalid }
-{
-    Part::small(DartType {
-        node: TypeNode::Invalid,
-    })
 }
 
 // A class that was formed, unless it is too large.
@@ -112,7 +104,7 @@ fn above_class<'a>(rows: &'a Rows, class: ClassId, args: &'a TypeList) -> Option
 impl<'a> Above<'a> {
     // Whether a superinterface of another class is one of this class too.
     fn has(&self, s: &Superinterface, of: &Above) -> bool
-        requires { AreInOrder self.now.superinterfaces.now }
+        requires { AreOrdered self.now.superinterfaces.now }
         ensures { IsTrue result ↔ IsIn self.now (type_above of.now s.now) }
     {
         for own in superinterfaces_of_class(self.superinterfaces, s.class) {
@@ -128,7 +120,7 @@ impl<'a> Pair<'a> {
     // The superinterface of both that is farthest from Object among those that are alone so far from
     // it.
     fn deepest(&self) -> Option<&'a Superinterface>
-        requires { AreInOrder self.now.right.superinterfaces.now }
+        requires { AreOrdered self.now.right.superinterfaces.now }
         ensures { MatchOption result (HasNoneAlone self.now) (λ s. IsDeepestIn self.now s.now) }
     {
         let mut top = match self.top_under(None) {
@@ -148,7 +140,7 @@ impl<'a> Pair<'a> {
     // The superinterface of both that is farthest from Object among those that are less far than the
     // limit; the first one where several are.
     fn top_under(&self, limit: Option<u64>) -> Option<&'a Superinterface>
-        requires { AreInOrder self.now.right.superinterfaces.now }
+        requires { AreOrdered self.now.right.superinterfaces.now }
         ensures { MatchOption result (HasNoneUnder self.now limit) (λ s. IsTopUnder self.now limit s.now) }
     {
         let mut top = None;
@@ -172,7 +164,7 @@ impl<'a> Pair<'a> {
     // Whether a superinterface of the left class is one of both that is at least so far from Object,
     // and less far than the limit.
     fn is_between(&self, s: &Superinterface, floor: u128, limit: Option<u64>) -> bool
-        requires { AreInOrder self.now.right.superinterfaces.now }
+        requires { AreOrdered self.now.right.superinterfaces.now }
         ensures { IsTrue result ↔ ((floor ≤ depth_in self.now s.now) × IsUnder limit (depth_in self.now s.now) × IsShared self.now s.now) }
     {
         let depth = self.depth(s);
@@ -187,7 +179,7 @@ impl<'a> Pair<'a> {
 
     // Whether the superinterfaces of both that are as far from Object are the same type.
     fn is_alone(&self, top: &Superinterface) -> bool
-        requires { AreInOrder self.now.right.superinterfaces.now }
+        requires { AreOrdered self.now.right.superinterfaces.now }
         ensures { IsTrue result ↔ IsAloneIn self.now top.now }
     {
         for s in self.superinterfaces() {
@@ -201,7 +193,7 @@ impl<'a> Pair<'a> {
     // Whether a superinterface of the left class is the same type as another, if it is one of both and
     // as far from Object.
     fn agrees(&self, s: &Superinterface, top: &Superinterface) -> bool
-        requires { AreInOrder self.now.right.superinterfaces.now }
+        requires { AreOrdered self.now.right.superinterfaces.now }
         ensures { IsTrue result ↔ (IsShared self.now s.now → depth_in self.now s.now ≡ depth_in self.now top.now → type_above self.now.left s.now ≡ type_above self.now.left top.now) }
     {
         if self.depth(s) != self.depth(top) {

@@ -1,8 +1,9 @@
 //! The forms of types that rows of the tables speak of.
 
 ghost use Rattle.std.specs.Prelude.{◌≡◌};
+ghost use Rattle.dart_types.specs.Marks.{is_marked};
 ghost use Rattle.dart_types.specs.SubTest.{is_null};
-ghost use Rattle.type_bounds.specs.Bounds.{bare_of, is_nullable, is_promoted_from};
+ghost use Rattle.type_bounds.specs.Bounds.{bare_of, is_promoted_from};
 
 use dart_types::{DartType, TypeNode, VarId};
 
@@ -24,8 +25,8 @@ pub(crate) fn is_null(t: &DartType) -> bool
 }
 
 /// Whether the type has a `?`.
-pub(crate) fn is_nullable(t: &DartType) -> bool
-    ensures { result ≡ is_nullable t.now }
+pub(crate) fn is_marked(t: &DartType) -> bool
+    ensures { result ≡ is_marked t.now }
 {
     match &t.node {
         TypeNode::Nullable(_) => true,

@@ -1,13 +1,14 @@
 //! Upper and lower bounds of types.
 
 ghost use Rattle.std.specs.Prelude.{◌≡◌, true, false, length, IfOk};
-ghost use Rattle.dart_types.specs.Ty.{invalid, never, interface, no_more, types_of};
+ghost use Rattle.dart_types.specs.Ty.{interface, types_of};
 ghost use Rattle.dart_types.specs.Named.{named_of, names_of, AreInOrder};
+ghost use Rattle.dart_types.specs.Marks.{is_marked};
 ghost use Rattle.dart_types.specs.Node.{function_type};
-ghost use Rattle.type_bounds.specs.Bounds.{Upper, UpperApart, Uppers, UpperNamed, Lower, LowerApart, LowerParams, LowerNamed, AreApart, is_bare, is_nullable, is_settled};
+ghost use Rattle.type_bounds.specs.Bounds.{Upper, UpperApart, Uppers, UpperNamed, Lower, LowerApart, LowerParams, LowerNamed, AreApart, is_bare, is_settled};
 ghost use Rattle.type_bounds.specs.Signatures.{have_upper, have_lower, same_names};
 ghost use Rattle.type_bounds.specs.FormsSome.{FormsSome};
-ghost use Rattle.type_bounds.specs.PartsView.{IsPart, IsSomePart, AreSomeParts};
+ghost use Rattle.type_bounds.specs.PartsView.{IsSomePart, AreSomeParts};
 ghost use Rattle.type_bounds.specs.NamedView.{AreSomeNamed};
 
 use crate::chains::chain_from;
@@ -16,7 +17,7 @@ use crate::named_parts::NamedParts;
 use crate::parts::{Part, Parts};
 use crate::signatures::{have_lower, have_upper};
 use crate::superclasses::upper_of_classes;
-use crate::type_forms::{bare, is_null, is_nullable, is_promoted_from};
+use crate::type_forms::{bare, is_marked, is_null, is_promoted_from};
 use dart_types::{
     ClassId, DartType, FUNCTION, FunctionType, NamedType, NamedTypes, OBJECT, Rows, TypeList,
     TypeNode, TypeRefusal, is_subtype,
@@ -52,27 +53,6 @@ pub fn lower(
     part.finish()
 }
 
-// The invalid type, which is the bound where the table has no row.
-fn no_bound() -> Part
-    ensures { IsPart result invalid }
-{
-    Part::small(DartType {
-        node: TypeNode::Invalid,
-    })
-}
-
-// A class without arguments.
-fn class_part(alloc: Global, class: ClassId) -> Part
-    ensures { IsPart result (interface class no_more) }
-{
-    Part::small(DartType {
-        node: TypeNode::Interface {
-            class,
-            args: TypeList::new(alloc),
-        },
-    })
-}
-
 // The upper bound of two types.
 #[cycle(bounds)]
 fn upper_part(alloc: Global, rows: &Rows, s: &DartType, t: &DartType) -> Result<Part, AllocError>
@@ -99,7 +79,7 @@ fn upper_apart(alloc: Global, rows: &Rows, s: &DartType, t: &DartType) -> Result
     if is_null(t) {
         return Part::of(alloc, s)?.nullable(alloc);
     }
-    if is_nullable(s) | is_nullable(t) {
+    if is_marked(s) | is_marked(t) {
         return upper_part(alloc, rows, bare(s), bare(t))?.nullable(alloc);
     }
     upper_bare(alloc, rows, s, t)
@@ -129,7 +109,7 @@ fn upper_left(alloc: Global, rows: &Rows, s: &DartType, t: &DartType) -> Result<
 {
     match &s.node {
         TypeNode::Var(var) => match rows.bound(*var) {
-            None => Ok(no_bound()),
+            None => Ok(Part::invalid()),
             Some(bound) => upper_part(alloc, rows, bound, t),
         },
         TypeNode::Promoted { var, to } => {
@@ -159,7 +139,7 @@ fn upper_right(alloc: Global, rows: &Rows, s: &DartType, t: &DartType) -> Result
 {
     match &t.node {
         TypeNode::Var(var) => match rows.bound(*var) {
-            None => Ok(no_bound()),
+            None => Ok(Part::invalid()),
             Some(bound) => upper_part(alloc, rows, s, bound),
         },
         TypeNode::Promoted { to, .. } => upper_part(alloc, rows, s, to),
@@ -178,7 +158,7 @@ fn upper_settled(alloc: Global, rows: &Rows, s: &DartType, t: &DartType) -> Resu
     match &s.node {
         TypeNode::Interface { class, args } => upper_of_class(alloc, rows, *class, args, t),
         TypeNode::Function(function) => upper_of_function(alloc, rows, function, t),
-        _ => Ok(no_bound()),
+        _ => Ok(Part::invalid()),
     }
 }
 
@@ -196,7 +176,7 @@ fn upper_of_class(
     ensures { IfOk result (IsSomePart (UpperApart rows.now.table (interface class (types_of args.now)) t.now)) }
 {
     match &t.node {
-        TypeNode::Function(_) => Ok(class_part(alloc, OBJECT)),
+        TypeNode::Function(_) => Ok(Part::class(alloc, OBJECT)),
         TypeNode::Interface {
             class: other,
             args: others,
@@ -205,12 +185,12 @@ fn upper_of_class(
                 return upper_of_classes(alloc, rows, class, args, *other, others);
             }
             if args.as_slice().len() != others.as_slice().len() {
-                return Ok(no_bound());
+                return Ok(Part::invalid());
             }
             let uppers = upper_all(alloc, rows, args.as_slice(), others.as_slice())?;
             Ok(Part::interface(class, uppers))
         }
-        _ => Ok(no_bound()),
+        _ => Ok(Part::invalid()),
     }
 }
 
@@ -229,12 +209,12 @@ fn upper_of_function(
     match &t.node {
         TypeNode::Function(other) => {
             if !have_upper(function, other) {
-                return Ok(class_part(alloc, FUNCTION));
+                return Ok(Part::class(alloc, FUNCTION));
             }
             upper_of_functions(alloc, rows, function, other)
         }
-        TypeNode::Interface { .. } => Ok(class_part(alloc, OBJECT)),
-        _ => Ok(no_bound()),
+        TypeNode::Interface { .. } => Ok(Part::class(alloc, OBJECT)),
+        _ => Ok(Part::invalid()),
     }
 }
 
@@ -372,25 +352,16 @@ fn lower_apart(alloc: Global, rows: &Rows, s: &DartType, t: &DartType) -> Result
     requires apart { AreApart rows.now.table s.now t.now }
     ensures { IfOk result (IsSomePart (LowerApart rows.now.table s.now t.now)) }
 {
-    if is_nullable(s) & is_nullable(t) {
+    if is_marked(s) & is_marked(t) {
         return lower_part(alloc, rows, bare(s), bare(t))?.nullable(alloc);
     }
-    if is_nullable(s) | is_nullable(t) {
+    if is_marked(s) | is_marked(t) {
         return lower_part(alloc, rows, bare(s), bare(t));
     }
     match &s.node {
         TypeNode::Function(function) => lower_of_function(alloc, rows, function, t),
-        _ => Ok(nothing()),
+        _ => Ok(Part::never()),
     }
-}
-
-// `Never`.
-fn nothing() -> Part
-    ensures { IsPart result never }
-{
-    Part::small(DartType {
-        node: TypeNode::Never,
-    })
 }
 
 // The lower bound of a function type and another type without `?`.
@@ -401,17 +372,17 @@ fn lower_of_function(
     function: &FunctionType,
     t: &DartType,
 ) -> Result<Part, AllocError>
-    requires { is_nullable t.now ≡ false }
+    requires { is_marked t.now ≡ false }
     ensures { IfOk result (IsSomePart (LowerApart rows.now.table (function_type function.now) t.now)) }
 {
     match &t.node {
         TypeNode::Function(other) => {
             if !have_lower(function, other) {
-                return Ok(nothing());
+                return Ok(Part::never());
             }
             lower_of_functions(alloc, rows, function, other)
         }
-        _ => Ok(nothing()),
+        _ => Ok(Part::never()),
     }
 }
 

@@ -10,7 +10,7 @@ ghost use Rattle.type_infer.specs.Bounded.{IsHeld, IsByBound};
 use crate::reading::read_type;
 use crate::refusal::InferRefusal;
 use dart_types::{
-    DartType, OBJECT, Rows, TypeList, TypeNode, TypeRefusal, VarId, is_subtype, substitute,
+    DartType, OBJECT, Rows, TypeNode, TypeRefusal, VarId, is_subtype, substitute,
 };
 use std::alloc::{AllocError, Global};
 
@@ -84,7 +84,7 @@ fn is_nullable_object(alloc: Global, t: &DartType) -> bool
     ensures { IsTrue result ↔ (t.now ≡ nullable object) }
 {
     match &t.node {
-        TypeNode::Nullable(bare) => bare.is_same(&object_type(alloc)),
+        TypeNode::Nullable(bare) => bare.is_same(&DartType::class(alloc, OBJECT)),
         _ => false,
     }
 }
@@ -93,20 +93,8 @@ fn is_nullable_object(alloc: Global, t: &DartType) -> bool
 fn nullable_object(alloc: Global) -> Result<DartType, AllocError>
     ensures { IfOk result (λ t. t ≡ nullable object) }
 {
-    let bare = Box::new(alloc, object_type(alloc))?;
+    let bare = Box::new(alloc, DartType::class(alloc, OBJECT))?;
     Ok(DartType {
         node: TypeNode::Nullable(bare),
     })
-}
-
-// `Object`. It takes no memory.
-fn object_type(alloc: Global) -> DartType
-    ensures { result ≡ object }
-{
-    DartType {
-        node: TypeNode::Interface {
-            class: OBJECT,
-            args: TypeList::new(alloc),
-        },
-    }
 }

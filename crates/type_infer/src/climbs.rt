@@ -1,8 +1,8 @@
 //! Superinterfaces of classes with arguments.
 
-ghost use Rattle.std.specs.Prelude.{◌≡◌, AllPairs, false, MatchOption};
+ghost use Rattle.std.specs.Prelude.{◌≡◌, MatchOption};
 ghost use Rattle.dart_types.specs.Ty.{types_of};
-ghost use Rattle.dart_types.specs.WellFormed.{class_before};
+ghost use Rattle.dart_types.specs.Superinterfaces.{AreOrdered};
 ghost use Rattle.dart_types.specs.declared.superinterfaces.Superinterface.{Superinterface};
 ghost use Rattle.type_infer.specs.Above.{FormsAbove, IsOnlyEntry, arguments_of};
 
@@ -48,7 +48,7 @@ fn only_entry<'a>(
     class: ClassId,
     arguments: Arguments,
 ) -> Option<&'a Superinterface>
-    requires { AllPairs (λ a b. class_before b.class a.class ≡ false) superinterfaces.now }
+    requires { AreOrdered superinterfaces.now }
     ensures { MatchOption result ((s : Superinterface) → IsOnlyEntry superinterfaces.now class arguments.entry s → ⊥) (λ s. IsOnlyEntry superinterfaces.now class arguments.entry s.now) }
 {
     let of_class = superinterfaces_of_class(superinterfaces, class);

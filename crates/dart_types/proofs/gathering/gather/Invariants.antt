@@ -1,7 +1,7 @@
 use Rattle.std.proofs.Common.{◌≡◌}
-use Rattle.dart_types.specs.Superinterfaces.{interface_of}
+use Rattle.dart_types.specs.Superinterfaces.{interface_of, AreOrdered}
 use Rattle.dart_types.specs.Replacements.{replaced}
-use Rattle.dart_types.specs.Gathering.{Adds, AreOrdered}
+use Rattle.dart_types.specs.Gathering.{Adds}
 use Rattle.dart_types.proofs.Gathered.{First}
 use Rattle.dart_types.proofs.gathering.gather.Given as goal
 

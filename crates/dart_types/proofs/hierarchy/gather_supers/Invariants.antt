@@ -1,5 +1,6 @@
 use Rattle.dart_types.specs.Entries.{table_of}
-use Rattle.dart_types.specs.Gathering.{Adds, AreOrdered, IsGivenBy}
+use Rattle.dart_types.specs.Superinterfaces.{AreOrdered}
+use Rattle.dart_types.specs.Gathering.{Adds, IsGivenBy}
 use Rattle.dart_types.proofs.Gathered.{First}
 use Rattle.dart_types.proofs.hierarchy.gather_supers.Given as goal
 

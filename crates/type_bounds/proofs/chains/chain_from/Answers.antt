@@ -20,12 +20,12 @@ loop-bound-smaller-else-is_subtype-2 c = next_falls c.args.rows.now.table c.args
 pub loop-bound-preserved-else-is_subtype-2 : goal.loop-bound-preserved-else-is_subtype-2
 loop-bound-preserved-else-is_subtype-2 c =
     let table = c.args.rows.now.table in
-    let marked = sym c.is_nullable.ensures ∙ c.if-is_nullable.true in
+    let marked = sym c.is_marked.ensures ∙ c.if-is_marked.true in
     λ m end a.
     marked_step table c.args.other.now c.args.first.now end c.loop-bound.marked m _ marked
     (c.loop-bound.invariant _ end
     (next_leads table c.args.other.now c.loop-bound.last.now c.in-Some.bound.now c.bare-next.result.now c.in-Some.ensures c.bare-next.ensures
-    (refused c.is_subtype.ensures.rules c.if-is_subtype.false) (λ e. refused c.is_subtype-then-is_nullable.ensures.rules c.if-is_subtype-2.false) m end a))
+    (refused c.is_subtype.ensures.rules c.if-is_subtype.false) (λ e. refused c.is_subtype-then-is_marked.ensures.rules c.if-is_subtype-2.false) m end a))
 
 -- past one without
 pub loop-bound-smaller : goal.loop-bound-smaller
@@ -34,7 +34,7 @@ loop-bound-smaller c = next_falls c.args.rows.now.table c.args.rows.now.formed c
 pub loop-bound-preserved : goal.loop-bound-preserved
 loop-bound-preserved c =
     let table = c.args.rows.now.table in
-    let unmarked = sym c.is_nullable.ensures ∙ c.if-is_nullable.false in
+    let unmarked = sym c.is_marked.ensures ∙ c.if-is_marked.false in
     λ m end a.
     unmarked_step table c.args.other.now c.args.first.now end c.loop-bound.marked m _ unmarked
     (c.loop-bound.invariant _ end

@@ -16,11 +16,11 @@ use Rattle.type_bounds.proofs.Rooted.{not_object}
 use Rattle.type_bounds.proofs.superclasses.upper_of_classes.Goals as goal
 
 pub returns-in-None : goal.returns-in-None
-returns-in-None c = (invalid, unknown_class c.requires.differ (λ left right. c.in-None.ensures left), c.unknown.ensures)
+returns-in-None c = (invalid, unknown_class c.requires.differ (λ left right. c.in-None.ensures left), c.invalid.ensures)
 
 pub returns-in-None-above_class : goal.returns-in-None-above_class
 returns-in-None-above_class c =
-    (invalid, unknown_class c.requires.differ (λ left right. c.in-None-above_class.ensures right), c.unknown-in-None-above_class.ensures)
+    (invalid, unknown_class c.requires.differ (λ left right. c.in-None-above_class.ensures right), c.invalid-in-None-above_class.ensures)
 
 -- both classes are below Object, which is alone at its depth
 pub unreachable-requires : goal.unreachable-requires

@@ -11,7 +11,8 @@ use Rattle.dart_types.specs.declared.ids.TheConstants.{FUNCTION}
 use Rattle.dart_types.proofs.SameIds.{both_true}
 use Rattle.dart_types.proofs.Steps.{granted, refused}
 use Rattle.dart_types.proofs.NamesFound.{required_found}
-use Rattle.type_bounds.specs.Bounds.{is_nullable, Upper, right_above, left_above, upper_apart, UpperApart, marked_either, upper_functions, Uppers, UpperNamed, Lower, left_below, right_below, lower_apart, LowerApart, marked_once, lower_functions, LowerParams, LowerNamed}
+use Rattle.dart_types.specs.Marks.{is_marked}
+use Rattle.type_bounds.specs.Bounds.{Upper, right_above, left_above, upper_apart, UpperApart, marked_either, upper_functions, Uppers, UpperNamed, Lower, left_below, right_below, lower_apart, LowerApart, marked_once, lower_functions, LowerParams, LowerNamed}
 use Rattle.type_bounds.specs.NamedView.{join_named, AreSomeNamed}
 use Rattle.type_bounds.proofs.NonNulls.{bound_weighs, promoted_weighs}
 use Rattle.type_bounds.proofs.BoundFalls.{arguments_fall, required_fall, optional_fall, named_fall, results_fall, marked_fall, type_weighs, param_weighs, name_weighs}
@@ -59,19 +60,19 @@ upper_apart-returns-then-is_null-2 t c =
 
 pub upper_apart-upper_part-requires : goal.upper_apart-upper_part-requires
 upper_apart-upper_part-requires t c =
-    let marked : (is_nullable c.args.s.now || is_nullable c.args.t.now) ≡ true = let e = c.is_nullable.ensures in let f = c.is_nullable-2.ensures in let g = c.if-is_nullable.true in cc in
+    let marked : (is_marked c.args.s.now || is_marked c.args.t.now) ≡ true = let e = c.is_marked.ensures in let f = c.is_marked-2.ensures in let g = c.if-is_marked.true in cc in
     let fall = marked_fall c.args.rows.now.table c.args.s.now c.args.t.now marked in
     let e = ap (weight_of c.args.rows.now.table) c.bare.ensures in
-    let f = ap (weight_of c.args.rows.now.table) c.bare-then-is_nullable.ensures in
+    let f = ap (weight_of c.args.rows.now.table) c.bare-then-is_marked.ensures in
     (omega (arith, fall, e, f, c.decreases), tt)
 
-pub upper_apart-returns-then-is_nullable : goal.upper_apart-returns-then-is_nullable
-upper_apart-returns-then-is_nullable t c =
-    let marked : (is_nullable c.args.s.now || is_nullable c.args.t.now) ≡ true = let e = c.is_nullable.ensures in let f = c.is_nullable-2.ensures in let g = c.if-is_nullable.true in cc in
-    some_marked (UpperApart c.args.rows.now.table c.args.s.now c.args.t.now) c.nullable-then-is_nullable.result (Upper c.args.rows.now.table c.bare.result.now c.bare-then-is_nullable.result.now) c.in_ok-upper_part.field-0
-    (λ u a. marked_either (sym c.is_null.ensures ∙ c.if-is_null.false) (sym c.is_null-2.ensures ∙ c.if-is_null-2.false) marked (moved (Upper c.args.rows.now.table) c.bare.ensures c.bare-then-is_nullable.ensures a))
+pub upper_apart-returns-then-is_marked : goal.upper_apart-returns-then-is_marked
+upper_apart-returns-then-is_marked t c =
+    let marked : (is_marked c.args.s.now || is_marked c.args.t.now) ≡ true = let e = c.is_marked.ensures in let f = c.is_marked-2.ensures in let g = c.if-is_marked.true in cc in
+    some_marked (UpperApart c.args.rows.now.table c.args.s.now c.args.t.now) c.nullable-then-is_marked.result (Upper c.args.rows.now.table c.bare.result.now c.bare-then-is_marked.result.now) c.in_ok-upper_part.field-0
+    (λ u a. marked_either (sym c.is_null.ensures ∙ c.if-is_null.false) (sym c.is_null-2.ensures ∙ c.if-is_null-2.false) marked (moved (Upper c.args.rows.now.table) c.bare.ensures c.bare-then-is_marked.ensures a))
     c.in_ok-upper_part.ensures
-    c.nullable-then-is_nullable.ensures
+    c.nullable-then-is_marked.ensures
 
 -- chains of variables on the left
 pub upper_bare-upper_left-requires : goal.upper_bare-upper_left-requires
@@ -99,7 +100,7 @@ pub upper_left-returns-in-None : goal.upper_left-returns-in-None
 upper_left-returns-in-None t c = (
   invalid,
   at_unbound_left c.args.rows.now.table c.in-Var.var (sym c.s.view_is ∙ ap type_of c.in-Var.is) c.requires.right (sym c.in-None.ensures),
-  c.no_bound.ensures,
+  c.invalid.ensures,
 )
 
 pub upper_left-returns-in-Some : goal.upper_left-returns-in-Some
@@ -162,7 +163,7 @@ pub upper_right-returns-in-None : goal.upper_right-returns-in-None
 upper_right-returns-in-None t c = (
   invalid,
   at_unbound_right c.args.rows.now.table c.in-Var.var (sym c.t.view_is ∙ ap type_of c.in-Var.is) c.requires.left (sym c.in-None.ensures),
-  c.no_bound.ensures,
+  c.invalid.ensures,
 )
 
 pub upper_right-returns-in-Some : goal.upper_right-returns-in-Some
@@ -185,14 +186,14 @@ upper_right-upper_settled-requires t c =
 -- types that are no variables
 pub upper_settled-returns-in_default : goal.upper_settled-returns-in_default
 upper_settled-returns-in_default t c =
-    (invalid, at_settled c.args.rows.now.table c.s.inside.node c.args.t.now c.s.view_is c.requires.apart c.requires.left c.requires.right c.in_default.not-Interface c.in_default.not-Function, c.no_bound.ensures)
+    (invalid, at_settled c.args.rows.now.table c.s.inside.node c.args.t.now c.s.view_is c.requires.apart c.requires.left c.requires.right c.in_default.not-Interface c.in_default.not-Function, c.invalid.ensures)
 
 pub upper_of_class-returns-then-as_slice : goal.upper_of_class-returns-then-as_slice
 upper_of_class-returns-then-as_slice t c = (
   invalid,
   at_other_arguments c.args.rows.now.table c.args.class c.in-Interface.other c.args.args.now c.in-Interface.others (sym c.t.view_is ∙ ap type_of c.in-Interface.is) (from_not c.if-ne.ensures)
       (λ e. c.if-as_slice.true (ap length c.as_slice.ensures ∙ e ∙ sym (ap length c.as_slice-in-Interface.ensures))),
-  c.no_bound.ensures,
+  c.invalid.ensures,
 )
 
 pub upper_of_class-upper_all-requires : goal.upper_of_class-upper_all-requires
@@ -206,7 +207,7 @@ upper_of_class-upper_all-requires t c =
 
 pub upper_of_class-returns-in-Function : goal.upper_of_class-returns-in-Function
 upper_of_class-returns-in-Function t c =
-    (object, at_class_and_function c.args.rows.now.table c.args.class (types_of c.args.args.now) c.in-Function.field-0.value (sym c.t.view_is ∙ ap type_of c.in-Function.is), c.class_part.ensures)
+    (object, at_class_and_function c.args.rows.now.table c.args.class (types_of c.args.args.now) c.in-Function.field-0.value (sym c.t.view_is ∙ ap type_of c.in-Function.is), c.class.ensures)
 
 pub upper_of_class-returns-in_ok-uppers-in-Interface :
     goal.upper_of_class-returns-in_ok-uppers-in-Interface
@@ -220,21 +221,21 @@ upper_of_class-returns-in_ok-uppers-in-Interface t c =
 
 pub upper_of_class-returns-in_default : goal.upper_of_class-returns-in_default
 upper_of_class-returns-in_default t c =
-    (invalid, at_settled_right c.args.rows.now.table (interface c.args.class (types_of c.args.args.now)) c.t.inside.node c.t.view_is c.requires.apart refl c.requires.right c.in_default.not-Interface c.in_default.not-Function, c.no_bound-in_default.ensures)
+    (invalid, at_settled_right c.args.rows.now.table (interface c.args.class (types_of c.args.args.now)) c.t.inside.node c.t.view_is c.requires.apart refl c.requires.right c.in_default.not-Interface c.in_default.not-Function, c.invalid-in_default.ensures)
 
 pub upper_of_function-returns-then-not-have_upper :
     goal.upper_of_function-returns-then-not-have_upper
 upper_of_function-returns-then-not-have_upper t c =
     let is : c.args.t.now ≡ function_type c.deref.result.now = sym c.t.view_is ∙ ap type_of c.in-Function.is ∙ ap function_type (sym c.deref.ensures) in
-    (interface FUNCTION no_more, at_other_functions c.args.rows.now.table c.args.function.now c.deref.result.now is (sym c.have_upper.ensures ∙ c.if-not-have_upper.true), c.class_part.ensures)
+    (interface FUNCTION no_more, at_other_functions c.args.rows.now.table c.args.function.now c.deref.result.now is (sym c.have_upper.ensures ∙ c.if-not-have_upper.true), c.class.ensures)
 
 pub upper_of_function-returns-in-Interface : goal.upper_of_function-returns-in-Interface
 upper_of_function-returns-in-Interface t c =
-    (object, at_function_and_class c.args.rows.now.table c.args.function.now c.in-Interface.class (types_of c.in-Interface.args) (sym c.t.view_is ∙ ap type_of c.in-Interface.is), c.class_part-in-Interface.ensures)
+    (object, at_function_and_class c.args.rows.now.table c.args.function.now c.in-Interface.class (types_of c.in-Interface.args) (sym c.t.view_is ∙ ap type_of c.in-Interface.is), c.class-in-Interface.ensures)
 
 pub upper_of_function-returns-in_default : goal.upper_of_function-returns-in_default
 upper_of_function-returns-in_default t c =
-    (invalid, at_settled_right c.args.rows.now.table (function_type c.args.function.now) c.t.inside.node c.t.view_is c.requires.apart refl c.requires.right c.in_default.not-Interface c.in_default.not-Function, c.no_bound.ensures)
+    (invalid, at_settled_right c.args.rows.now.table (function_type c.args.function.now) c.t.inside.node c.t.view_is c.requires.apart refl c.requires.right c.in_default.not-Interface c.in_default.not-Function, c.invalid.ensures)
 
 -- two function types
 pub upper_of_functions-lower_all-requires : goal.upper_of_functions-lower_all-requires
@@ -477,53 +478,53 @@ lower_part-returns t c =
 -- types with `?`
 pub lower_apart-lower_part-requires : goal.lower_apart-lower_part-requires
 lower_apart-lower_part-requires t c =
-    let marked : (is_nullable c.args.s.now && is_nullable c.args.t.now) ≡ true = let e = c.is_nullable.ensures in let f = c.is_nullable-2.ensures in let g = c.if-is_nullable.true in cc in
-    let fall = marked_fall c.args.rows.now.table c.args.s.now c.args.t.now (either_holds (is_nullable c.args.s.now) (is_nullable c.args.t.now) marked) in
+    let marked : (is_marked c.args.s.now && is_marked c.args.t.now) ≡ true = let e = c.is_marked.ensures in let f = c.is_marked-2.ensures in let g = c.if-is_marked.true in cc in
+    let fall = marked_fall c.args.rows.now.table c.args.s.now c.args.t.now (either_holds (is_marked c.args.s.now) (is_marked c.args.t.now) marked) in
     let e = ap (weight_of c.args.rows.now.table) c.bare.ensures in
-    let f = ap (weight_of c.args.rows.now.table) c.bare-then-is_nullable.ensures in
+    let f = ap (weight_of c.args.rows.now.table) c.bare-then-is_marked.ensures in
     (omega (arith, fall, e, f, c.decreases), tt)
 
-pub lower_apart-returns-then-is_nullable : goal.lower_apart-returns-then-is_nullable
-lower_apart-returns-then-is_nullable t c =
-    let marked : (is_nullable c.args.s.now && is_nullable c.args.t.now) ≡ true = let e = c.is_nullable.ensures in let f = c.is_nullable-2.ensures in let g = c.if-is_nullable.true in cc in
-    let both = both_true (is_nullable c.args.s.now) (is_nullable c.args.t.now) marked in
-    some_marked (LowerApart c.args.rows.now.table c.args.s.now c.args.t.now) c.nullable.result (Lower c.args.rows.now.table c.bare.result.now c.bare-then-is_nullable.result.now) c.in_ok-lower_part.field-0
-    (λ u a. at_both_marks c.args.rows.now.table c.args.s.now c.args.t.now u both.0 both.1 (moved (Lower c.args.rows.now.table) c.bare.ensures c.bare-then-is_nullable.ensures a))
+pub lower_apart-returns-then-is_marked : goal.lower_apart-returns-then-is_marked
+lower_apart-returns-then-is_marked t c =
+    let marked : (is_marked c.args.s.now && is_marked c.args.t.now) ≡ true = let e = c.is_marked.ensures in let f = c.is_marked-2.ensures in let g = c.if-is_marked.true in cc in
+    let both = both_true (is_marked c.args.s.now) (is_marked c.args.t.now) marked in
+    some_marked (LowerApart c.args.rows.now.table c.args.s.now c.args.t.now) c.nullable.result (Lower c.args.rows.now.table c.bare.result.now c.bare-then-is_marked.result.now) c.in_ok-lower_part.field-0
+    (λ u a. at_both_marks c.args.rows.now.table c.args.s.now c.args.t.now u both.0 both.1 (moved (Lower c.args.rows.now.table) c.bare.ensures c.bare-then-is_marked.ensures a))
     c.in_ok-lower_part.ensures
     c.nullable.ensures
 
-pub lower_apart-lower_part-requires-then-is_nullable-2 :
-    goal.lower_apart-lower_part-requires-then-is_nullable-2
-lower_apart-lower_part-requires-then-is_nullable-2 t c =
-    let marked : (is_nullable c.args.s.now || is_nullable c.args.t.now) ≡ true = let e = c.is_nullable-3.ensures in let f = c.is_nullable-4.ensures in let g = c.if-is_nullable-2.true in cc in
+pub lower_apart-lower_part-requires-then-is_marked-2 :
+    goal.lower_apart-lower_part-requires-then-is_marked-2
+lower_apart-lower_part-requires-then-is_marked-2 t c =
+    let marked : (is_marked c.args.s.now || is_marked c.args.t.now) ≡ true = let e = c.is_marked-3.ensures in let f = c.is_marked-4.ensures in let g = c.if-is_marked-2.true in cc in
     let fall = marked_fall c.args.rows.now.table c.args.s.now c.args.t.now marked in
-    let e = ap (weight_of c.args.rows.now.table) c.bare-then-is_nullable-2.ensures in
-    let f = ap (weight_of c.args.rows.now.table) c.bare-then-is_nullable-2-2.ensures in
+    let e = ap (weight_of c.args.rows.now.table) c.bare-then-is_marked-2.ensures in
+    let f = ap (weight_of c.args.rows.now.table) c.bare-then-is_marked-2-2.ensures in
     (omega (arith, fall, e, f, c.decreases), tt)
 
-pub lower_apart-returns-then-is_nullable-2 : goal.lower_apart-returns-then-is_nullable-2
-lower_apart-returns-then-is_nullable-2 t c =
-    let marked : (is_nullable c.args.s.now || is_nullable c.args.t.now) ≡ true = let e = c.is_nullable-3.ensures in let f = c.is_nullable-4.ensures in let g = c.if-is_nullable-2.true in cc in
-    let once : (is_nullable c.args.s.now && is_nullable c.args.t.now) ≡ false = let e = c.is_nullable.ensures in let f = c.is_nullable-2.ensures in let g = c.if-is_nullable.false in cc in
-    some_by (LowerApart c.args.rows.now.table c.args.s.now c.args.t.now) c.lower_part-then-is_nullable-2.result (Lower c.args.rows.now.table c.bare-then-is_nullable-2.result.now c.bare-then-is_nullable-2-2.result.now)
-    (λ u a. marked_once once marked (moved (Lower c.args.rows.now.table) c.bare-then-is_nullable-2.ensures c.bare-then-is_nullable-2-2.ensures a))
-    c.lower_part-then-is_nullable-2.ensures
+pub lower_apart-returns-then-is_marked-2 : goal.lower_apart-returns-then-is_marked-2
+lower_apart-returns-then-is_marked-2 t c =
+    let marked : (is_marked c.args.s.now || is_marked c.args.t.now) ≡ true = let e = c.is_marked-3.ensures in let f = c.is_marked-4.ensures in let g = c.if-is_marked-2.true in cc in
+    let once : (is_marked c.args.s.now && is_marked c.args.t.now) ≡ false = let e = c.is_marked.ensures in let f = c.is_marked-2.ensures in let g = c.if-is_marked.false in cc in
+    some_by (LowerApart c.args.rows.now.table c.args.s.now c.args.t.now) c.lower_part-then-is_marked-2.result (Lower c.args.rows.now.table c.bare-then-is_marked-2.result.now c.bare-then-is_marked-2-2.result.now)
+    (λ u a. marked_once once marked (moved (Lower c.args.rows.now.table) c.bare-then-is_marked-2.ensures c.bare-then-is_marked-2-2.ensures a))
+    c.lower_part-then-is_marked-2.ensures
 
 pub lower_apart-returns-in_default : goal.lower_apart-returns-in_default
 lower_apart-returns-in_default t c =
-    let unmarked : (is_nullable c.args.s.now || is_nullable c.args.t.now) ≡ false = let e = c.is_nullable-3.ensures in let f = c.is_nullable-4.ensures in let g = c.if-is_nullable-2.false in cc in
-    (never, at_no_function_left c.args.rows.now.table c.s.inside.node c.args.t.now c.s.view_is c.in_default.not-Function unmarked, c.nothing.ensures)
+    let unmarked : (is_marked c.args.s.now || is_marked c.args.t.now) ≡ false = let e = c.is_marked-3.ensures in let f = c.is_marked-4.ensures in let g = c.if-is_marked-2.false in cc in
+    (never, at_no_function_left c.args.rows.now.table c.s.inside.node c.args.t.now c.s.view_is c.in_default.not-Function unmarked, c.never.ensures)
 
 -- function types
 pub lower_of_function-returns-then-not-have_lower :
     goal.lower_of_function-returns-then-not-have_lower
 lower_of_function-returns-then-not-have_lower t c =
     let is : c.args.t.now ≡ function_type c.deref.result.now = sym c.t.view_is ∙ ap type_of c.in-Function.is ∙ ap function_type (sym c.deref.ensures) in
-    (never, at_lower_others c.args.rows.now.table c.args.function.now c.deref.result.now is (sym c.have_lower.ensures ∙ c.if-not-have_lower.true), c.nothing.ensures)
+    (never, at_lower_others c.args.rows.now.table c.args.function.now c.deref.result.now is (sym c.have_lower.ensures ∙ c.if-not-have_lower.true), c.never.ensures)
 
 pub lower_of_function-returns-in_default : goal.lower_of_function-returns-in_default
 lower_of_function-returns-in_default t c =
-    (never, at_no_function_right c.args.rows.now.table c.args.function.now c.t.inside.node c.t.view_is c.in_default.not-Function c.requires, c.nothing-in_default.ensures)
+    (never, at_no_function_right c.args.rows.now.table c.args.function.now c.t.inside.node c.t.view_is c.in_default.not-Function c.requires, c.never-in_default.ensures)
 
 pub lower_of_functions-upper_all-requires : goal.lower_of_functions-upper_all-requires
 lower_of_functions-upper_all-requires t c =
