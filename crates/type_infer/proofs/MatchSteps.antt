@@ -8,6 +8,7 @@ use Rattle.dart_types.specs.Forms.{params_of}
 use Rattle.dart_types.specs.Same.{same_class}
 use Rattle.dart_types.specs.Tables.{Table}
 use Rattle.dart_types.specs.Heads.{is_plain}
+use Rattle.dart_types.specs.Marks.{is_marked}
 use Rattle.dart_types.specs.declared.ids.ClassId.{ClassId}
 use Rattle.dart_types.specs.declared.ids.VarId.{VarId}
 use Rattle.dart_types.specs.declared.types.DartType.{DartType}
@@ -22,11 +23,11 @@ use Rattle.type_bounds.specs.Bounds.{is_bare}
 use Rattle.type_infer.specs.Above.{arguments_of, FormsAbove}
 use Rattle.type_infer.specs.Constraints.{opposite}
 use Rattle.type_infer.specs.Finds.{Finds}
-use Rattle.type_infer.specs.Matching.{End, mismatched, too_large, ended, is_on_side, is_built, is_as_it_stands, is_class, is_function, is_leaf, Match, fixed, faced, Face, MatchAll, constrained, open_there, null_at_mark, marked_both, marked_formal, marked_other, bound_of_other, unbound_other, promoted_other, one_class, other_climbs, formal_climbs, other_too_large, formal_too_large, other_elsewhere, formal_elsewhere, functions, other_signature, leaf}
+use Rattle.type_infer.specs.Matching.{End, mismatched, too_large, ended, is_on_side, is_built, is_as_it_stands, gives_way_at_mark, is_class, is_function, is_leaf, Match, fixed, faced, Face, MatchAll, constrained, open_there, null_at_mark, marked_both, marked_formal, marked_subtype, marked_other, bound_of_other, unbound_other, promoted_other, one_class, other_climbs, formal_climbs, other_too_large, formal_too_large, other_elsewhere, formal_elsewhere, functions, other_signature, leaf}
 use Rattle.type_infer.specs.Holding.{holds_param}
 use Rattle.type_infer.specs.Open.{is_open}
 use Rattle.type_infer.specs.Pairs.{Pair, pair, paired, paired_by_name, signatures_fit}
-use Rattle.type_infer.specs.Ways.{gives_way_at_mark, WayAtMark, GivesWay, stands, to_bound, to_nothing, to_promoted, to_bare}
+use Rattle.type_infer.specs.Ways.{WayAtMark, kept, to_none, to_last, past_mark, GivesWay, stands, to_bound, to_nothing, to_promoted, to_bare}
 use Rattle.type_infer.specs.declared.constraints.Constraint.{Constraint}
 use Rattle.type_infer.specs.declared.constraints.Side.{Side}
 use Rattle.type_infer.specs.declared.constraints.Side.TheVariants.{AtLeast, AtMost}
@@ -112,8 +113,8 @@ module _ (table : Table) (params : List VarId) (side : Side) where
   pub finds_null : (t s : Ty) (before : List Constraint) → s ≡ null → Finds (Fit (nullable t) s) before before (Ok true)
   finds_null t s before is = subst (λ (u : Ty). Finds (Fit (nullable t) u) before before (Ok true)) (sym is) (finds_nothing (Fit (nullable t) null) before null_at_mark)
 
-  pub finds_both_marked : (t s u : Ty) (before after : List Constraint) (r : Result Bool TypeRefusal) → s ≡ nullable u → Finds (Fit t u) before after r → Finds (Fit (nullable t) s) before after r
-  finds_both_marked t s u before after r is f = subst (λ (v : Ty). Finds (Fit (nullable t) v) before after r) (sym is) (finds_by (Fit t u) (Fit (nullable t) (nullable u)) before after r (λ cs end m. marked_both m) f)
+  pub finds_both_marked : (t s u : Ty) (before after : List Constraint) (r : Result Bool TypeRefusal) → gives_way_at_mark side t ≡ false → s ≡ nullable u → Finds (Fit t u) before after r → Finds (Fit (nullable t) s) before after r
+  finds_both_marked t s u before after r k is f = subst (λ (v : Ty). Finds (Fit (nullable t) v) before after r) (sym is) (finds_by (Fit t u) (Fit (nullable t) (nullable u)) before after r (λ cs end m. marked_both k m) f)
 
   pub finds_bare : (t s : Ty) (before after : List Constraint) (r : Result Bool TypeRefusal) → is_bare s ≡ true → (is_as_it_stands side s || not (is_plain t)) ≡ true → Finds (Fit t s) before after r → Finds (Fit (nullable t) s) before after r
   finds_bare t s before after r b k f = finds_by (Fit t s) (Fit (nullable t) s) before after r (λ cs end m. marked_formal b k m) f
@@ -178,34 +179,64 @@ module _ (table : Table) (params : List VarId) where
     abbrev Marked : Side → Ty → List Constraint → End → Type 0
     Marked side = Face table params side (nullable t)
 
+    mark_fits : is_plain t ≡ true → {x : Ty} {last : Option Ty} → WayAtMark table true x last → (u : Ty) → last ≡ Some u → (cs : List Constraint) (end : End) → Marked AtLeast u cs end → Marked AtLeast x cs end
+    mark_fits h (to_none g) u e cs end m = cc
+    mark_fits h (to_last g k) u e cs end m = way_fits table params (nullable t) h (λ i. cc) g u e cs end m
+    mark_fits h (past_mark {u = v} g w) u e cs end m = way_fits table params (nullable t) h (λ i. cc) g (nullable v) refl cs end (marked_subtype h (mark_fits h w u e cs end m))
+
+    mark_ends : is_plain t ≡ true → {x : Ty} {last : Option Ty} → WayAtMark table true x last → last ≡ None → Marked AtLeast x [] mismatched
+    mark_ends h (to_none g) e = way_ends table params (nullable t) h (λ i. cc) g refl
+    mark_ends h (to_last g k) e = cc
+    mark_ends h (past_mark {u = v} g w) e = way_fits table params (nullable t) h (λ i. cc) g (nullable v) refl [] mismatched (marked_subtype h (mark_ends h w e))
+
+    mark_stands : {x : Ty} {last : Option Ty} → WayAtMark table true x last → (u : Ty) → last ≡ Some u → (is_as_it_stands AtLeast u ≡ true) × (is_marked u ≡ false)
+    mark_stands (to_none g) u e = cc
+    mark_stands (to_last {last = v} g k) u e = let is : v ≡ u = cc in (way_stands table g u e, subst (λ (w : Ty). is_marked w ≡ false) is k)
+    mark_stands (past_mark g w) u e = mark_stands w u e
+
+    kept_same : (u : Ty) → WayAtMark table false s (Some u) → s ≡ u
+    kept_same u kept = refl
+
     pub finds_way_at_mark : (side : Side) (u : Ty) (before after : List Constraint) (r : Result Bool TypeRefusal) → WayAtMark table (gives_way_at_mark side t) s (Some u) → Finds (Marked side u) before after r → Finds (Marked side s) before after r
     finds_way_at_mark AtLeast u before after r w f = at (is_plain t) refl w
       where
         at : (k : Bool) → is_plain t ≡ k → WayAtMark table k s (Some u) → Finds (Marked AtLeast s) before after r
-        at true h g = finds_by (Marked AtLeast u) (Marked AtLeast s) before after r (way_fits table params (nullable t) h (λ e. cc) g u refl) f
-        at false h e = let is : u ≡ s = cc in subst (λ (v : Ty). Finds (Marked AtLeast v) before after r) is f
-    finds_way_at_mark AtMost u before after r w f = let is : u ≡ s = cc in subst (λ (v : Ty). Finds (Marked AtMost v) before after r) is f
+        at true h g = finds_by (Marked AtLeast u) (Marked AtLeast s) before after r (mark_fits h g u refl) f
+        at false h g = subst (λ (v : Ty). Finds (Marked AtLeast v) before after r) (sym (kept_same u g)) f
+    finds_way_at_mark AtMost u before after r w f = subst (λ (v : Ty). Finds (Marked AtMost v) before after r) (sym (kept_same u w)) f
+
+    none_kept : WayAtMark table false s None → ⊥
+    none_kept w = elim w [ ]
 
     pub finds_no_way_at_mark : (side : Side) (before : List Constraint) → WayAtMark table (gives_way_at_mark side t) s None → Finds (Marked side s) before before (Ok false)
     finds_no_way_at_mark AtLeast before w = at (is_plain t) refl w
       where
         at : (k : Bool) → is_plain t ≡ k → WayAtMark table k s None → Finds (Marked AtLeast s) before before (Ok false)
-        at true h g = finds_no_fit (Marked AtLeast s) before (way_ends table params (nullable t) h (λ e. cc) g refl)
-        at false h e = cc
-    finds_no_way_at_mark AtMost before w = cc
+        at true h g = finds_no_fit (Marked AtLeast s) before (mark_ends h g refl)
+        at false h g = absurd (none_kept g)
+    finds_no_way_at_mark AtMost before w = absurd (none_kept w)
 
     -- what is faced then is taken as it stands, or the formal is no class and no function type
     pub taken_at_mark : (side : Side) (u : Ty) → WayAtMark table (gives_way_at_mark side t) s (Some u) → is_bare u ≡ true → (is_as_it_stands side u || not (is_plain t)) ≡ true
     taken_at_mark AtLeast u w b = at (is_plain t) w
       where
         at : (k : Bool) → WayAtMark table k s (Some u) → (is_as_it_stands AtLeast u || not k) ≡ true
-        at true g = rw (way_stands table g u refl) refl
-        at false e = either (is_as_it_stands AtLeast u)
+        at true g = rw ((mark_stands g u refl).0) refl
+        at false g = either (is_as_it_stands AtLeast u)
           where
             either : (k : Bool) → (k || true) ≡ true
             either true = refl
             either false = refl
     taken_at_mark AtMost u w b = rw (bare_stands u b) refl
+
+    -- and where it has a `?`, the formal is none
+    pub marked_at_mark : (side : Side) (u : Ty) → WayAtMark table (gives_way_at_mark side t) s (Some (nullable u)) → gives_way_at_mark side t ≡ false
+    marked_at_mark AtLeast u w = at (is_plain t) w
+      where
+        at : (k : Bool) → WayAtMark table k s (Some (nullable u)) → k ≡ false
+        at true g = let m = (mark_stands g (nullable u) refl).1 in cc
+        at false g = refl
+    marked_at_mark AtMost u w = refl
 
   -- classes
   module _ (side : Side) (c d : ClassId) (ts ss : Types) (before after : List Constraint) where

@@ -10,7 +10,7 @@ use Rattle.dart_types.specs.declared.ids.ClassId.{ClassId}
 use Rattle.dart_types.specs.declared.ids.VarId.{VarId}
 use Rattle.dart_types.specs.declared.refusal.TheConstants.{NODE_LIMIT}
 use Rattle.type_bounds.proofs.OneBound.{clash}
-use Rattle.type_infer.specs.Matching.{End, too_large, is_built, is_as_it_stands, is_leaf, Match, fixed, faced, Face, MatchAll, constrained, open_there, null_at_mark, marked_both, marked_formal, marked_other, bound_of_other, unbound_other, promoted_other, one_class, other_climbs, formal_climbs, other_too_large, formal_too_large, other_elsewhere, formal_elsewhere, functions, other_signature, leaf, all_matched, open_part, part_matched, part_ended}
+use Rattle.type_infer.specs.Matching.{End, too_large, is_built, is_as_it_stands, is_leaf, Match, fixed, faced, Face, MatchAll, constrained, open_there, null_at_mark, marked_both, marked_formal, marked_subtype, marked_other, bound_of_other, unbound_other, promoted_other, one_class, other_climbs, formal_climbs, other_too_large, formal_too_large, other_elsewhere, formal_elsewhere, functions, other_signature, leaf, all_matched, open_part, part_matched, part_ended}
 use Rattle.type_infer.specs.Holding.{holds_param}
 use Rattle.type_infer.specs.Open.{is_open}
 use Rattle.type_infer.specs.Pairs.{Pair, paired, signatures_fit}
@@ -89,22 +89,28 @@ module _ (table : Table) (params : List VarId) where
     one_face null_at_mark null_at_mark = (refl, refl)
     one_face null_at_mark (marked_formal b i m) = cc
     one_face null_at_mark (leaf l) = cc
-    one_face (marked_both m) (marked_both n) = one_face m n
-    one_face (marked_both m) (marked_formal b j n) = cc
-    one_face (marked_both m) (marked_other b n) = cc
-    one_face (marked_both m) (leaf l) = cc
+    one_face (marked_both k m) (marked_both l n) = one_face m n
+    one_face (marked_both k m) (marked_formal b j n) = cc
+    one_face (marked_both {t = t} k m) (marked_subtype b n) = clash (is_plain t) b k
+    one_face (marked_both k m) (marked_other b n) = cc
+    one_face (marked_both k m) (leaf l) = cc
     one_face (marked_formal b i m) null_at_mark = cc
-    one_face (marked_formal b i m) (marked_both n) = cc
+    one_face (marked_formal b i m) (marked_both k n) = cc
     one_face (marked_formal b i m) (marked_formal k j n) = one_face m n
+    one_face (marked_formal b i m) (marked_subtype k n) = cc
     one_face (marked_formal b i m) (marked_other k n) = cc
     one_face (marked_formal {t = t} b i m) (bound_of_other k e n) = kept (is_plain t) k i
     one_face (marked_formal {t = t} b i m) (unbound_other k e) = kept (is_plain t) k i
     one_face (marked_formal {t = t} b i m) (promoted_other k n) = kept (is_plain t) k i
     one_face (marked_formal b i m) (leaf l) = cc
+    one_face (marked_subtype {t = t} b m) (marked_both k n) = clash (is_plain t) b k
+    one_face (marked_subtype b m) (marked_formal k j n) = cc
+    one_face (marked_subtype b m) (marked_subtype k n) = one_face m n
+    one_face (marked_subtype b m) (leaf l) = cc
     -- another type that gives way
     one_face (marked_other b m) (constrained o) = cc
     one_face (marked_other b m) (open_there o) = cc
-    one_face (marked_other b m) (marked_both n) = cc
+    one_face (marked_other b m) (marked_both k n) = cc
     one_face (marked_other b m) (marked_formal k j n) = cc
     one_face (marked_other b m) (marked_other k n) = one_face m n
     one_face (marked_other {t = t} {s = s} b m) (leaf l) = plain_no_leaf AtMost t (nullable s) b refl l
@@ -178,8 +184,9 @@ module _ (table : Table) (params : List VarId) where
     one_face (leaf l) (constrained o) = cc
     one_face (leaf l) (open_there o) = cc
     one_face (leaf l) null_at_mark = cc
-    one_face (leaf l) (marked_both n) = cc
+    one_face (leaf l) (marked_both k n) = cc
     one_face (leaf l) (marked_formal b j n) = cc
+    one_face (leaf l) (marked_subtype b n) = cc
     one_face (leaf {t = t} l) (marked_other {s = s} b n) = plain_no_leaf AtMost t (nullable s) b refl l
     one_face (leaf {t = t} l) (bound_of_other {y = y} b e n) = built_no_leaf AtLeast t (variable y) b refl l
     one_face (leaf {t = t} l) (unbound_other {y = y} b e) = built_no_leaf AtLeast t (variable y) b refl l

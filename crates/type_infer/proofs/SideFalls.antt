@@ -25,7 +25,8 @@ use Rattle.type_bounds.specs.Common.{IsAbove}
 use Rattle.type_bounds.specs.Signatures.{type_named}
 use Rattle.type_infer.specs.Constraints.{opposite}
 use Rattle.type_infer.specs.Pairs.{Pair, paired, paired_with, paired_by_name}
-use Rattle.type_infer.specs.Ways.{gives_way_at_mark, WayAtMark, GivesWay, stands, to_bound, to_nothing, to_promoted, to_bare}
+use Rattle.type_infer.specs.Matching.{gives_way_at_mark}
+use Rattle.type_infer.specs.Ways.{WayAtMark, kept, to_none, to_last, past_mark, GivesWay, stands, to_bound, to_nothing, to_promoted, to_bare}
 use Rattle.type_infer.specs.declared.constraints.Side.{Side}
 use Rattle.type_infer.specs.declared.constraints.Side.TheVariants.{AtLeast, AtMost}
 use Rattle.type_infer.proofs.NameTests.{join-types_of}
@@ -197,13 +198,21 @@ module _ (table : Table) where
     way_least t last (to_promoted {y = y} {u = v} g) u e = omega (arith, way_least t last g u e, (left_promoted_falls table wf y v t).1)
     way_least t last (to_bare {s = v} g) u e = omega (arith, way_least t last g u e, right_bare_falls table wf t v)
 
+    mark_least : {s : Ty} (t : Ty) {last : Option Ty} → WayAtMark table true s last → (u : Ty) → last ≡ Some u → M AtLeast t u ≤ M AtLeast t s
+    mark_least t (to_none g) u e = cc
+    mark_least t (to_last {last = v} g k) u e = way_least t (Some v) g u e
+    mark_least t (past_mark {u = v} g w) u e = omega (arith, mark_least t w u e, left_bare_falls table wf v t, way_least t (Some (nullable v)) g (nullable v) refl)
+
+    kept_least : (side : Side) (t s u : Ty) → WayAtMark table false s (Some u) → M side t u ≤ M side t s
+    kept_least side t s u kept = omega arith
+
     pub way_least_at_mark : (side : Side) (t s u : Ty) → WayAtMark table (gives_way_at_mark side t) s (Some u) → M side (nullable t) u ≤ M side (nullable t) s
     way_least_at_mark AtLeast t s u w = at (is_plain t) w
       where
         at : (k : Bool) → WayAtMark table k s (Some u) → M AtLeast (nullable t) u ≤ M AtLeast (nullable t) s
-        at true g = way_least (nullable t) (Some u) g u refl
-        at false e = let is : u ≡ s = cc in subst (λ (v : Ty). M AtLeast (nullable t) v ≤ M AtLeast (nullable t) s) (sym is) (omega arith)
-    way_least_at_mark AtMost t s u w = let is : u ≡ s = cc in subst (λ (v : Ty). M AtMost (nullable t) v ≤ M AtMost (nullable t) s) (sym is) (omega arith)
+        at true g = mark_least (nullable t) g u refl
+        at false g = kept_least AtLeast (nullable t) s u g
+    way_least_at_mark AtMost t s u w = kept_least AtMost (nullable t) s u w
 
     -- arguments of one class
     pub arguments_below : (side : Side) (c d : ClassId) (ts ss : Types) → Ms (paired side ts ss) ≤ M side (interface c ts) (interface d ss)

@@ -1,6 +1,6 @@
 -- The context in which an argument of a call is typed, where type arguments are left out.
 use Rattle.std.specs.Prelude.{◌<◌, ◌≤◌, ℕ, List, [], ◌∷◌, Result, Ok, Err}
-use Rattle.dart_types.specs.Ty.{Ty, invalid}
+use Rattle.dart_types.specs.Ty.{Ty, variable}
 use Rattle.dart_types.specs.Normal.{substituted}
 use Rattle.dart_types.specs.Sizes.{size_of, held}
 use Rattle.dart_types.specs.Tables.{Table}
@@ -12,14 +12,15 @@ use Rattle.type_infer.specs.Solutions.{Solution, IsFree}
 use Rattle.type_infer.specs.Inference.{Gathered}
 use Rattle.type_infer.specs.declared.constraints.Constraint.{Constraint}
 use Rattle.type_infer.specs.declared.contexts.Context.{Context}
+use Rattle.type_infer.specs.declared.contexts.TheConstants.{OPEN_PARAMETER}
 use Rattle.type_infer.specs.declared.refusal.InferRefusal.{InferRefusal}
 use Rattle.type_infer.specs.declared.refusal.InferRefusal.TheVariants.{NoSolution, Unconstrained, TooLarge, Memory}
 
--- what stands for each parameter in a context: its solution, in which `X & U` is read as X, where it is constrained, else `Invalid`, by which it is open; or the number of nodes of the first type on the way that has more than a type may have
+-- what stands for each parameter in a context: its solution, in which `X & U` is read as X, where it is constrained, else the mark of an open parameter; or the number of nodes of the first type on the way that has more than a type may have
 pub data Known (table : Table) (cs : List Constraint) : List VarId → Result (List (VarId × Ty)) ℕ → Type 0 where
   none_left : Known table cs [] (Ok [])
   one_solved : {x : VarId} {xs : List VarId} {t : Ty} {pairs : List (VarId × Ty)} → Solution table cs x (Ok t) → Known table cs xs (Ok pairs) → Known table cs (x ∷ xs) (Ok ((x, unpromoted t) ∷ pairs))
-  one_open : {x : VarId} {xs : List VarId} {pairs : List (VarId × Ty)} → IsFree cs x → Known table cs xs (Ok pairs) → Known table cs (x ∷ xs) (Ok ((x, invalid) ∷ pairs))
+  one_open : {x : VarId} {xs : List VarId} {pairs : List (VarId × Ty)} → IsFree cs x → Known table cs xs (Ok pairs) → Known table cs (x ∷ xs) (Ok ((x, variable OPEN_PARAMETER) ∷ pairs))
   large_here : {x : VarId} {xs : List VarId} {nodes : ℕ} → Solution table cs x (Err nodes) → Known table cs (x ∷ xs) (Err nodes)
   large_behind_solved : {x : VarId} {xs : List VarId} {t : Ty} {nodes : ℕ} → Solution table cs x (Ok t) → Known table cs xs (Err nodes) → Known table cs (x ∷ xs) (Err nodes)
   large_behind_open : {x : VarId} {xs : List VarId} {nodes : ℕ} → IsFree cs x → Known table cs xs (Err nodes) → Known table cs (x ∷ xs) (Err nodes)

@@ -61,6 +61,11 @@ is_as_it_stands AtMost (promoted x t) = true
 is_as_it_stands AtLeast (nullable t) = true
 is_as_it_stands AtMost (nullable t) = false
 
+-- whether a subtype's `?` goes while the formal keeps its own: that of a class or a function type
+abbrev pub gives_way_at_mark : Side → Ty → Bool
+gives_way_at_mark AtLeast t = is_plain t
+gives_way_at_mark AtMost t = false
+
 -- the type is a class
 abbrev pub is_class : Ty → Bool
 is_class invalid = false
@@ -112,9 +117,11 @@ mutual
     open_there : {side : Side} {x : VarId} {s : Ty} → is_open s ≡ true → Face table params side (variable x) s [] matched
     -- against `T?`, Null gives none, `U?` is matched as U, and any other type stands, or gives way first as it does to T
     null_at_mark : {side : Side} {t : Ty} → Face table params side (nullable t) null [] matched
-    marked_both : {side : Side} {t s : Ty} {cs : List Constraint} {end : End} → Face table params side t s cs end → Face table params side (nullable t) (nullable s) cs end
+    marked_both : {side : Side} {t s : Ty} {cs : List Constraint} {end : End} → gives_way_at_mark side t ≡ false → Face table params side t s cs end → Face table params side (nullable t) (nullable s) cs end
     marked_formal : {side : Side} {t s : Ty} {cs : List Constraint} {end : End} → is_bare s ≡ true → (is_as_it_stands side s || not (is_plain t)) ≡ true → Face table params side t s cs end → Face table params side (nullable t) s cs end
-    -- a class or a function type is a subtype of `U?` where it is one of U
+    -- a class or a function type with `?` is a supertype of `U?` where it is one of U
+    marked_subtype : {t s : Ty} {cs : List Constraint} {end : End} → is_plain t ≡ true → Face table params AtLeast (nullable t) s cs end → Face table params AtLeast (nullable t) (nullable s) cs end
+    -- without `?` it is a subtype of `U?` where it is one of U
     marked_other : {t s : Ty} {cs : List Constraint} {end : End} → is_plain t ≡ true → Face table params AtMost t s cs end → Face table params AtMost t (nullable s) cs end
     -- with `?` or without, it is a supertype of a variable where it is one of its bound, and of `X & U` where it is one of U
     bound_of_other : {y : VarId} {b t : Ty} {cs : List Constraint} {end : End} → is_built t ≡ true → bound_of table y ≡ Some b → Face table params AtLeast t b cs end → Face table params AtLeast t (variable y) cs end

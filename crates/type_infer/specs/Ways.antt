@@ -1,7 +1,7 @@
 -- What a type gives way to where it faces a class or a function type.
 use Rattle.std.specs.Prelude.{◌≡◌, ◌<◌, Bool, true, false, Option, Some, None}
 use Rattle.dart_types.specs.Ty.{Ty, variable, promoted, nullable}
-use Rattle.dart_types.specs.Heads.{is_plain}
+use Rattle.dart_types.specs.Marks.{is_marked}
 use Rattle.dart_types.specs.Tables.{Table, bound_of}
 use Rattle.dart_types.specs.Measure.{deepness_of}
 use Rattle.dart_types.specs.declared.ids.VarId.{VarId}
@@ -26,12 +26,9 @@ IsWay table side s Nothing = GivesWay table side s None
 IsWay table side s (Next next) =
     (deepness_of table next.now < deepness_of table s) × ((last : Option Ty) → GivesWay table side next.now last → GivesWay table side s last)
 
--- whether another type gives way while the formal keeps its `?`: a subtype of a class or a function type with `?` does
-abbrev pub gives_way_at_mark : Side → Ty → Bool
-gives_way_at_mark AtLeast t = is_plain t
-gives_way_at_mark AtMost t = false
-
--- what it gives way to then; else it stands
-abbrev pub WayAtMark : Table → Bool → Ty → Option Ty → Type 0
-WayAtMark table true s last = GivesWay table AtLeast s last
-WayAtMark table false s last = last ≡ Some s
+-- what a subtype gives way to where a class or a function type with `?` is to be its supertype: its own `?` goes too; where the formal is no such type, it stands
+pub data WayAtMark (table : Table) : Bool → Ty → Option Ty → Type 0 where
+  kept : {s : Ty} → WayAtMark table false s (Some s)
+  to_none : {s : Ty} → GivesWay table AtLeast s None → WayAtMark table true s None
+  to_last : {s last : Ty} → GivesWay table AtLeast s (Some last) → is_marked last ≡ false → WayAtMark table true s (Some last)
+  past_mark : {s u : Ty} {last : Option Ty} → GivesWay table AtLeast s (Some (nullable u)) → WayAtMark table true u last → WayAtMark table true s last

@@ -9,9 +9,7 @@ ghost use Rattle.type_infer.specs.Bounded.{IsHeld, IsByBound};
 
 use crate::reading::read_type;
 use crate::refusal::InferRefusal;
-use dart_types::{
-    DartType, OBJECT, Rows, TypeNode, TypeRefusal, VarId, is_subtype, substitute,
-};
+use dart_types::{DartType, OBJECT, Rows, TypeNode, TypeRefusal, VarId, is_subtype, substitute};
 use std::alloc::{AllocError, Global};
 
 /// The solution of a parameter as its argument, where it is within the bound.

@@ -2,8 +2,8 @@
 
 use crate::matching::match_types;
 use crate::matching_samples::{
-    BOUND_BY_VAR, Case, Expected, Finds, LEAST, MOST, Plain, Sample, T, TWINS, U, is_answered,
-    of_node, sample_rows, type_of,
+    BOUND_BY_VAR, Case, Expected, Finds, LEAST, MOST, OPEN, Plain, Sample, T, TWINS, U,
+    is_answered, of_node, sample_rows, type_of,
 };
 use dart_types::{DartType, TypeList, TypeNode, TypeRefusal};
 use std::alloc::{AllocError, Global};
@@ -64,7 +64,7 @@ const CASES: [Case; 15] = [
     (
         LEAST,
         Sample::Iterable(PART_T),
-        Sample::List(Plain::Open),
+        Sample::List(OPEN),
         true,
         Finds::None,
     ),

@@ -12,19 +12,26 @@ use crate::reading::read_type;
 use crate::refusal::InferRefusal;
 use crate::solving::solution;
 use crate::var_types::push_pair;
-use dart_types::{DartType, Rows, TypeNode, TypeRefusal, VarId, substitute};
+use dart_types::{DartType, LibId, Rows, TypeNode, TypeRefusal, VarId, substitute};
 use std::alloc::{AllocError, Global};
 
-/// The type that is asked of an expression by what stands around it. `Invalid` stands in it for each
-/// type parameter that is still open, so an open `T?` is `Invalid?`. A type in which it stands counts
-/// as none.
+/// What stands in a context for each type parameter that is open. It has the number of no library, so
+/// it stands in no type of a program.
+pub const OPEN_PARAMETER: VarId = VarId {
+    lib: LibId(18_446_744_073_709_551_615),
+    index: 4_294_967_295,
+};
+
+/// The type that is asked of an expression by what stands around it. `OPEN_PARAMETER` stands in it for
+/// each type parameter that is still open, with `?` where that has one. A part in which it stands
+/// counts as none.
 #[derive(Drop)]
 pub struct Context {
     ty: DartType,
 }
 
 impl Context {
-    /// The context of a type. A part of it that is `Invalid` counts as open.
+    /// The context of a type of a program, in which nothing is open.
     pub fn of(alloc: Global, t: &DartType) -> Result<Context, AllocError>
         ensures { IfOk result (λ context. context.ty ≡ t.now) }
     {
@@ -32,7 +39,7 @@ impl Context {
         Ok(Context { ty })
     }
 
-    /// The type, with `Invalid` for each type parameter that is open.
+    /// The type, with `OPEN_PARAMETER` for each type parameter that is open.
     pub fn as_type(&self) -> &DartType
         ensures { result.now ≡ self.now.ty }
     {
@@ -56,7 +63,8 @@ pub struct Call<'a> {
 /// The context of the argument after `done`, the types of those before it: its formal, in which each
 /// type parameter that the call's context and the arguments before constrain is replaced by its
 /// solution, and each other one is open. Constraints and solutions are those of `infer_arguments`,
-/// but no solution is held against its bound: `NoSolution` and `Unconstrained` never come.
+/// but no solution is held against its bound: `NoSolution` and `Unconstrained` never come, and
+/// `TooLarge` comes where a type on the way has too many nodes, also one that isn't in the formal.
 pub fn context_of(
     alloc: Global,
     rows: &Rows,
@@ -90,7 +98,7 @@ fn known_types(
     Ok(known)
 }
 
-// What stands for a parameter in a context: its solution, if it has one, else `Invalid`.
+// What stands for a parameter in a context: its solution, if it has one, else `OPEN_PARAMETER`.
 fn known_type(
     alloc: Global,
     rows: &Rows,
@@ -105,7 +113,7 @@ fn known_type(
             Ok(read)
         }
         None => Ok(DartType {
-            node: TypeNode::Invalid,
+            node: TypeNode::Var(OPEN_PARAMETER),
         }),
     }
 }

@@ -78,7 +78,13 @@ fn one_parameter(rt: HostRuntime) -> Result<(), Fail> {
             Sample::AnyInt,
         ),
         (Some(Sample::AnyInt), [t, None], [int, None], Sample::Int),
-        (Some(Sample::Invalid), [t, None], [int, None], Sample::Int),
+        (Some(Sample::Open), [t, None], [int, None], Sample::Int),
+        (
+            Some(Sample::Invalid),
+            [None, None],
+            [None, None],
+            Sample::Invalid,
+        ),
         (
             None,
             [t, None],
@@ -275,7 +281,13 @@ fn contexts_of_arguments(rt: HostRuntime) -> Result<(), Fail> {
     let int = Some(Sample::Int);
     let cases = [
         (None, [t, f], [int, None], Sample::IntOfOpen),
-        (None, [t, f], [None, None], Sample::Invalid),
+        (None, [t, f], [None, None], Sample::Open),
+        (
+            None,
+            [t, f],
+            [Some(Sample::Invalid), None],
+            Sample::InvalidOfOpen,
+        ),
         (None, [t, t], [Some(Sample::IntX), None], Sample::VarX),
         (int, [t, f], [None, None], Sample::Int),
         (Some(Sample::AnyInt), [t, f], [int, None], Sample::IntOfOpen),
@@ -292,7 +304,7 @@ fn contexts_of_arguments(rt: HostRuntime) -> Result<(), Fail> {
 #[test]
 fn context_of_a_type(rt: HostRuntime) -> Result<(), Fail> {
     let alloc = rt.alloc();
-    let t = type_of(alloc, Sample::IntOfOpen)?;
+    let t = type_of(alloc, Sample::IntOfInvalid)?;
     let context = Context::of(alloc, &t)?;
     assert!(rt; context.as_type().is_same(&t));
     Ok(())

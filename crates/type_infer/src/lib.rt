@@ -35,7 +35,7 @@ mod solving;
 mod var_types;
 mod ways;
 
-pub use contexts::{Call, Context, context_of};
+pub use contexts::{Call, Context, OPEN_PARAMETER, context_of};
 pub use inference::infer_arguments;
 pub use laws::{
     contexts_are_unique, inferred_arguments_are_unique, inferred_arguments_are_within_bounds,

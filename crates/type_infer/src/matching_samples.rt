@@ -1,6 +1,7 @@
 //! A few classes and type variables, and types over them, for the tests of matching.
 
 use crate::constraints::{Constraint, Side};
+use crate::contexts::OPEN_PARAMETER;
 use crate::matching::match_types;
 use dart_types::{
     CORE, ClassId, ClassRow, DartType, FunctionType, NamedType, NamedTypes, OBJECT, Rows, TypeList,
@@ -141,7 +142,6 @@ pub(crate) enum Sample {
 /// A part of a type.
 #[derive(Clone, Copy)]
 pub(crate) enum Plain {
-    Open,
     Nil,
     Number,
     Words,
@@ -162,13 +162,15 @@ pub(crate) struct Expected {
     pub(crate) ty: Sample,
 }
 
+/// The mark of an open parameter.
+pub(crate) const OPEN: Plain = Plain::Any(OPEN_PARAMETER);
+
 pub(crate) fn of_node(node: TypeNode) -> DartType {
     DartType { node }
 }
 
 fn part(alloc: Global, part: Plain) -> Result<DartType, AllocError> {
     match part {
-        Plain::Open => Ok(of_node(TypeNode::Invalid)),
         Plain::Nil => Ok(of_node(TypeNode::Null)),
         Plain::Number => Ok(class(alloc, INT)),
         Plain::Words => Ok(class(alloc, TEXT)),

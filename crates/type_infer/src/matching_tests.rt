@@ -1,8 +1,9 @@
 //! Formals and other types with the constraints that they set, worked out from the rules.
 
+use crate::contexts::OPEN_PARAMETER;
 use crate::matching_samples::{
     BOUND_BY_ANY, BOUND_BY_ANY_LIST, BOUND_BY_CLASS, BOUND_BY_VAR, Case, Expected, Finds, LEAST,
-    MOST, Plain, Sample, T, U, UNBOUND, is_answered, sample_rows,
+    MOST, OPEN, Plain, Sample, T, U, UNBOUND, is_answered, sample_rows,
 };
 use std::test::Fail;
 
@@ -46,8 +47,14 @@ const PART_T: Plain = Plain::Any(T);
 
 const PART_U: Plain = Plain::Any(U);
 
+const T_ABOVE_INVALID: Expected = Expected {
+    param: T,
+    side: LEAST,
+    ty: Sample::Invalid,
+};
+
 // Formals that are a parameter, or one with `?`, and formals without a part that faces another.
-const VARS_AND_LEAVES: [Case; 17] = [
+const VARS_AND_LEAVES: [Case; 18] = [
     (
         LEAST,
         Sample::Var(T),
@@ -69,14 +76,21 @@ const VARS_AND_LEAVES: [Case; 17] = [
         true,
         Finds::One(T_ABOVE_ANY_INT),
     ),
-    (LEAST, Sample::Var(T), Sample::Invalid, true, Finds::None),
     (
-        MOST,
+        LEAST,
         Sample::Var(T),
-        Sample::List(Plain::Open),
+        Sample::AnyVar(OPEN_PARAMETER),
         true,
         Finds::None,
     ),
+    (
+        LEAST,
+        Sample::Var(T),
+        Sample::Invalid,
+        true,
+        Finds::One(T_ABOVE_INVALID),
+    ),
+    (MOST, Sample::Var(T), Sample::List(OPEN), true, Finds::None),
     (LEAST, Sample::AnyVar(T), Sample::Null, true, Finds::None),
     (MOST, Sample::AnyVar(T), Sample::Null, true, Finds::None),
     (
@@ -158,7 +172,7 @@ const CLASSES: [Case; 16] = [
     (
         LEAST,
         Sample::List(PART_T),
-        Sample::List(Plain::Open),
+        Sample::List(OPEN),
         true,
         Finds::None,
     ),
@@ -262,7 +276,7 @@ const FUNCTIONS: [Case; 13] = [
     (
         LEAST,
         Sample::CallOf(PART_T, PART_U),
-        Sample::CallOf(Plain::Open, Plain::Words),
+        Sample::CallOf(OPEN, Plain::Words),
         true,
         Finds::One(U_BELOW_TEXT),
     ),
@@ -340,7 +354,7 @@ const FUNCTIONS: [Case; 13] = [
 
 // Formals in which no parameter stands, and formals with `?` that keep it while the other type gives
 // way.
-const FIXED_AND_MARKED: [Case; 9] = [
+const FIXED_AND_MARKED: [Case; 10] = [
     (
         LEAST,
         Sample::Pair(Plain::AnyObject, PART_T),
@@ -387,6 +401,13 @@ const FIXED_AND_MARKED: [Case; 9] = [
         LEAST,
         Sample::AnyList(PART_T),
         Sample::Var(BOUND_BY_VAR),
+        true,
+        Finds::One(T_ABOVE_INT),
+    ),
+    (
+        LEAST,
+        Sample::AnyList(PART_T),
+        Sample::AnyVar(BOUND_BY_ANY_LIST),
         true,
         Finds::One(T_ABOVE_INT),
     ),

@@ -5,19 +5,20 @@ ghost use Rattle.dart_types.specs.Ty.{types_of};
 ghost use Rattle.dart_types.specs.Named.{named_of};
 ghost use Rattle.type_infer.specs.Open.{is_open, are_open, are_open_named};
 
+use crate::contexts::OPEN_PARAMETER;
 use dart_types::{DartType, NamedType, TypeNode};
 
-/// Whether the type holds `Invalid`, which stands for what isn't known yet. It takes no memory.
+/// Whether `OPEN_PARAMETER` stands in the type. It takes no memory.
 #[cycle(openness)]
 pub(crate) fn is_open(t: &DartType) -> bool
     ensures { result ≡ is_open t.now }
 {
     match &t.node {
-        TypeNode::Invalid => true,
+        TypeNode::Invalid => false,
         TypeNode::Never => false,
         TypeNode::Void => false,
         TypeNode::Null => false,
-        TypeNode::Var(_) => false,
+        TypeNode::Var(var) => *var == OPEN_PARAMETER,
         TypeNode::Interface { args, .. } => are_open(args.as_slice()),
         TypeNode::Function(function) => {
             are_open(function.required.as_slice())
@@ -30,7 +31,7 @@ pub(crate) fn is_open(t: &DartType) -> bool
     }
 }
 
-// Whether one of the types does.
+// Whether it stands in one of the types.
 #[cycle(openness)]
 fn are_open(types: &[DartType]) -> bool
     ensures { result ≡ are_open (types_of types.now) }
@@ -43,7 +44,7 @@ fn are_open(types: &[DartType]) -> bool
     false
 }
 
-// Whether the type of one of the named parameters does.
+// Whether it stands in the type of one of the named parameters.
 #[cycle(openness)]
 fn are_open_named(named: &[NamedType]) -> bool
     ensures { result ≡ are_open_named (named_of named.now) }

@@ -1,6 +1,6 @@
 //! A few classes and type variables, types over them, and calls, for the tests.
 
-use crate::contexts::Context;
+use crate::contexts::{Context, OPEN_PARAMETER};
 use dart_types::{
     CORE, ClassId, ClassRow, DartType, FunctionType, NamedType, NamedTypes, OBJECT, Rows, TypeList,
     TypeNode, VarId, VarList, VarRow,
@@ -100,8 +100,14 @@ pub(crate) enum Sample {
     IntOfInt,
     // `int Function(int?)`
     IntOfAnyInt,
-    // `int Function(Invalid)`
+    // The mark of an open parameter.
+    Open,
+    // `int Function(..)` of it
     IntOfOpen,
+    // `int Function(Invalid)`
+    IntOfInvalid,
+    // `Invalid Function(..)` of the mark
+    InvalidOfOpen,
     // `X Function({X a})`
     NamedX,
     // `X & int Function({X & int a})`, in which the first stands for the result
@@ -172,7 +178,16 @@ pub(crate) fn type_of(alloc: Global, sample: Sample) -> Result<DartType, AllocEr
         Sample::IntOfBool => function(alloc, class(alloc, INT), class(alloc, BOOL)),
         Sample::IntOfInt => function(alloc, class(alloc, INT), class(alloc, INT)),
         Sample::IntOfAnyInt => int_of_any_int(alloc),
-        Sample::IntOfOpen => function(alloc, class(alloc, INT), plain(TypeNode::Invalid)),
+        Sample::Open => Ok(plain(TypeNode::Var(OPEN_PARAMETER))),
+        Sample::IntOfOpen => {
+            let open = plain(TypeNode::Var(OPEN_PARAMETER));
+            function(alloc, class(alloc, INT), open)
+        }
+        Sample::InvalidOfOpen => {
+            let open = plain(TypeNode::Var(OPEN_PARAMETER));
+            function(alloc, plain(TypeNode::Invalid), open)
+        }
+        Sample::IntOfInvalid => function(alloc, class(alloc, INT), plain(TypeNode::Invalid)),
         Sample::NamedX => named(alloc, plain(TypeNode::Var(X)), plain(TypeNode::Var(X))),
         Sample::NamedIntX => {
             let param = promoted(alloc, X, class(alloc, INT))?;

@@ -2,8 +2,9 @@
 
 ghost use Rattle.std.specs.Option.{option_copied};
 ghost use Rattle.dart_types.specs.Heads.{is_plain};
-ghost use Rattle.std.specs.Prelude.{◌≡◌};
-ghost use Rattle.type_infer.specs.Ways.{GivesWay, IsWay, WayAtMark, gives_way_at_mark};
+ghost use Rattle.std.specs.Prelude.{◌≡◌, true};
+ghost use Rattle.type_infer.specs.Matching.{gives_way_at_mark};
+ghost use Rattle.type_infer.specs.Ways.{GivesWay, IsWay, WayAtMark};
 
 use crate::constraints::Side;
 use dart_types::{DartType, Rows, TypeNode};
@@ -68,8 +69,8 @@ pub(crate) fn standing<'a>(rows: &'a Rows, side: Side, other: &'a DartType) -> O
     }
 }
 
-/// Likewise where it faces this type with `?`: a subtype of a class or a function type gives way while
-/// the `?` stays, and any other stands.
+/// Likewise where it faces this type with `?`: a subtype of a class or a function type gives way, its
+/// own `?` too, while that of the formal stays; and any other stands.
 pub(crate) fn standing_at_mark<'a>(
     rows: &'a Rows,
     side: Side,
@@ -81,12 +82,29 @@ pub(crate) fn standing_at_mark<'a>(
     match side {
         Side::AtLeast => {
             if is_plain(bare) {
-                standing(rows, side, other)
+                standing_bare(rows, other)
             } else {
                 Some(other)
             }
         }
         Side::AtMost => Some(other),
+    }
+}
+
+// What a subtype gives way to, where its `?` goes too.
+fn standing_bare<'a>(rows: &'a Rows, other: &'a DartType) -> Option<&'a DartType>
+    ensures { WayAtMark rows.now.table true other.now (option_copied result) }
+{
+    let mut left = other;
+    loop {
+        let last = match standing(rows, Side::AtLeast, left) {
+            None => return None,
+            Some(last) => last,
+        };
+        match &last.node {
+            TypeNode::Nullable(bare) => left = bare,
+            _ => return Some(last),
+        }
     }
 }
 

@@ -8,12 +8,13 @@ use Rattle.type_bounds.specs.Bounds.{is_bare}
 use Rattle.dart_types.specs.Tables.{Table}
 use Rattle.type_infer.specs.Above.{arguments_of, FormsAbove}
 use Rattle.type_infer.specs.Finds.{Finds}
-use Rattle.type_infer.specs.Matching.{is_on_side, is_class, is_function, Face, MatchAll}
+use Rattle.type_infer.specs.Matching.{is_on_side, is_class, is_function, gives_way_at_mark, Face, MatchAll}
+use Rattle.type_infer.specs.Ways.{WayAtMark}
 use Rattle.type_infer.specs.declared.constraints.Side.{Side}
 use Rattle.type_infer.specs.Pairs.{Pair, pair, paired, paired_by_name}
 use Rattle.type_infer.proofs.FindSteps.{finds_part, all_passed, passed_one, ended_one, refused_one, all_names_passed, passed_name, ended_name, refused_name, other_name}
 use Rattle.type_infer.proofs.FindSteps as find
-use Rattle.type_infer.proofs.MatchSteps.{finds_fixed, finds_faced, finds_way_at_mark, finds_no_way_at_mark, taken_at_mark, finds_at, bare_node, no_class, no_function, class_leaf, function_leaf, finds_leaf, finds_null, finds_both_marked, finds_bare, way_stands, finds_way, finds_no_way, finds_one_class, finds_above_other, finds_other_elsewhere, finds_other_refused, finds_above_formal, finds_formal_elsewhere, finds_formal_refused, at_positional, at_names, finds_other_signature, finds_no_params, finds_params_refused, finds_no_names, finds_names_refused, finds_result}
+use Rattle.type_infer.proofs.MatchSteps.{finds_fixed, finds_faced, finds_way_at_mark, finds_no_way_at_mark, taken_at_mark, marked_at_mark, finds_at, bare_node, no_class, no_function, class_leaf, function_leaf, finds_leaf, finds_null, finds_both_marked, finds_bare, way_stands, finds_way, finds_no_way, finds_one_class, finds_above_other, finds_other_elsewhere, finds_other_refused, finds_above_formal, finds_formal_elsewhere, finds_formal_refused, at_positional, at_names, finds_other_signature, finds_no_params, finds_params_refused, finds_no_names, finds_names_refused, finds_result}
 use Rattle.type_infer.proofs.Refusing.{at_refusal}
 use Rattle.type_infer.proofs.SideMeasure.{side_measure, pairs_measure}
 use Rattle.type_infer.proofs.SideFalls.{way_least_at_mark, both_bare_fall, bare_falls, way_least, arguments_below, other_above_below, formal_above_below, params_below, names_below, result_below, place_below, name_below}
@@ -68,8 +69,9 @@ face_marked-returns-in-Nullable t c =
     let before = c.args.found.now.items in
     let after = c.face.new.found.items in
     let is = sym c.last.view_is ∙ ap type_of c.in-Nullable.is ∙ ap nullable (sym c.deref.ensures) in
+    let marked = marked_at_mark m.rows.now.table m.params.now c.args.bare.now c.args.other.now c.args.side c.deref.result.now (subst (λ (u : Ty). WayAtMark m.rows.now.table (gives_way_at_mark c.args.side c.args.bare.now) c.args.other.now (Some u)) is c.in-Some.ensures) in
     finds_way_at_mark m.rows.now.table m.params.now c.args.bare.now c.args.other.now c.args.side c.in-Some.last.now before after c.face.result c.in-Some.ensures
-    (finds_both_marked m.rows.now.table m.params.now c.args.side c.args.bare.now c.in-Some.last.now c.deref.result.now before after c.face.result is c.face.ensures)
+    (finds_both_marked m.rows.now.table m.params.now c.args.side c.args.bare.now c.in-Some.last.now c.deref.result.now before after c.face.result marked is c.face.ensures)
 
 pub face_marked-returns-in_default : goal.face_marked-returns-in_default
 face_marked-returns-in_default t c =
