@@ -21,7 +21,8 @@ use crate::types::{DartType, TypeList, TypeNode};
 use std::alloc::Global;
 
 // Puts what a direct supertype, a class with these arguments, gives another class into its list:
-// itself, and the superinterfaces of its class with the arguments put in.
+// itself, and the superinterfaces of its class with the arguments put in. Contracts speak of the rows of
+// type variables, so they are handed over.
 fn gather_interface(
     alloc: Global,
     row: &ClassRow,

@@ -338,7 +338,8 @@ fn is_superinterface_below(
     false
 }
 
-// Whether the arguments of a class are subtypes of others, pair by pair.
+// Whether the arguments of a class are subtypes of others, pair by pair. That this ends is proved by a
+// measure of the class with its arguments, so it is handed over.
 #[cycle(subtyping)]
 fn are_arguments_below(rows: &Rows, _class: ClassId, args: &SeenList, others: &SeenList) -> bool
     ensures { IsTrue result ↔ Subs rows.now.table (seen_types args.now) (seen_types others.now) }

@@ -29,39 +29,24 @@ pub(crate) fn function_part(
         nodes,
         takes_mark: true,
     };
-    let unformed = Part {
-        count,
-        formed: None,
+    let formed = match (
+        required.formed,
+        optional.formed,
+        named.formed,
+        result_part.formed,
+    ) {
+        (Some(required), Some(optional), Some(named), Some(result)) if nodes <= NODE_LIMIT => {
+            let function = FunctionType {
+                required,
+                optional,
+                named,
+                result,
+            };
+            Some(DartType {
+                node: TypeNode::Function(Box::new(alloc, function)?),
+            })
+        }
+        _ => None,
     };
-    let required = match required.formed {
-        None => return Ok(unformed),
-        Some(required) => required,
-    };
-    let optional = match optional.formed {
-        None => return Ok(unformed),
-        Some(optional) => optional,
-    };
-    let named = match named.formed {
-        None => return Ok(unformed),
-        Some(named) => named,
-    };
-    let result = match result_part.formed {
-        None => return Ok(unformed),
-        Some(result) => result,
-    };
-    if nodes > NODE_LIMIT {
-        return Ok(unformed);
-    }
-    let function = FunctionType {
-        required,
-        optional,
-        named,
-        result,
-    };
-    Ok(Part {
-        count,
-        formed: Some(DartType {
-            node: TypeNode::Function(Box::new(alloc, function)?),
-        }),
-    })
+    Ok(Part { count, formed })
 }

@@ -1,11 +1,13 @@
-//! Laws of upper and lower bounds, for all well-formed rows and all types.
+//! Laws of bounds and of types without null, for all well-formed rows and all types.
 
-ghost use Rattle.std.specs.Prelude.{◌≡◌};
+ghost use Rattle.std.specs.Prelude.{◌≡◌, ◌≤◌, ℕ};
 ghost use Rattle.dart_types.specs.Ty.{Ty, interface, no_more};
 ghost use Rattle.dart_types.specs.WellFormed.{IsOver};
 ghost use Rattle.dart_types.specs.Sub.{Sub};
+ghost use Rattle.dart_types.specs.Measure.{weight_of};
 ghost use Rattle.dart_types.specs.declared.ids.TheConstants.{FUNCTION};
 ghost use Rattle.type_bounds.specs.Bounds.{Upper, Lower};
+ghost use Rattle.type_bounds.specs.NonNull.{non_null_of, non_null_within};
 ghost use Rattle.type_bounds.specs.Valid.{IsValid, HasValidRows};
 
 use dart_types::{DartType, Rows};
@@ -41,4 +43,11 @@ pub fn bounds_are_over_rows(_rows: &Rows, _s: &DartType, _t: &DartType, _u: &Dar
     requires right { IsOver _rows.now.table _t.now }
     ensures upper { Upper _rows.now.table _s.now _t.now _u.now → IsOver _rows.now.table _u.now }
     ensures lower { Lower _rows.now.table _s.now _t.now _u.now → IsOver _rows.now.table _u.now }
+{}
+
+/// Laws of types without null: each is a subtype of its type, and more steps than its weight give
+/// the same.
+pub fn non_null_laws(_rows: &Rows, _t: &DartType)
+    ensures below { Sub _rows.now.table (non_null_of _rows.now.table _t.now) _t.now }
+    ensures steps { (n : ℕ) → weight_of _rows.now.table _t.now ≤ n → non_null_within _rows.now.table n _t.now ≡ non_null_of _rows.now.table _t.now }
 {}

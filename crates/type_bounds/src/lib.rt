@@ -33,6 +33,8 @@ mod type_forms;
 mod uppers;
 
 pub use factors::factor;
-pub use laws::{bounds_are_bounds, bounds_are_over_rows, bounds_are_unique, bounds_are_valid};
-pub use non_nulls::{non_null, non_null_laws};
+pub use laws::{
+    bounds_are_bounds, bounds_are_over_rows, bounds_are_unique, bounds_are_valid, non_null_laws,
+};
+pub use non_nulls::non_null;
 pub use uppers::{lower, upper};

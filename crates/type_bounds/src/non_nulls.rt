@@ -1,14 +1,13 @@
 //! Types without null.
 
-ghost use Rattle.std.specs.Prelude.{◌≡◌, ◌≤◌, ℕ, IfOk};
+ghost use Rattle.std.specs.Prelude.{◌≡◌, IfOk};
 ghost use Rattle.dart_types.specs.Ty.{variable, promoted};
 ghost use Rattle.dart_types.specs.Heads.{object};
 ghost use Rattle.dart_types.specs.SubTest.{sub};
 ghost use Rattle.dart_types.specs.Sizes.{size_of, held};
 ghost use Rattle.dart_types.specs.Formed.{Forms};
 ghost use Rattle.dart_types.specs.Sub.{Sub};
-ghost use Rattle.dart_types.specs.Measure.{weight_of};
-ghost use Rattle.type_bounds.specs.NonNull.{non_null_of, non_null_within};
+ghost use Rattle.type_bounds.specs.NonNull.{non_null_of};
 ghost use Rattle.type_bounds.specs.NonNullSteps.{IsWithoutNull};
 
 use dart_types::{
@@ -131,10 +130,3 @@ fn promote(alloc: Global, var: VarId, to: DartType) -> Result<DartType, AllocErr
         },
     })
 }
-
-/// Laws of types without null: each is a subtype of its type, and more steps than its weight give
-/// the same.
-pub fn non_null_laws(_rows: &Rows, _t: &DartType)
-    ensures below { Sub _rows.now.table (non_null_of _rows.now.table _t.now) _t.now }
-    ensures steps { (n : ℕ) → weight_of _rows.now.table _t.now ≤ n → non_null_within _rows.now.table n _t.now ≡ non_null_of _rows.now.table _t.now }
-{}

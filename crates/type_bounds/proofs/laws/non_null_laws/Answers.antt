@@ -1,5 +1,5 @@
 use Rattle.type_bounds.proofs.NonNulls.{non_null_below, non_null_steps}
-use Rattle.type_bounds.proofs.non_nulls.non_null_laws.Goals as goal
+use Rattle.type_bounds.proofs.laws.non_null_laws.Goals as goal
 
 pub returns-clause-below : goal.returns-clause-below
 returns-clause-below c = non_null_below c.args._rows.now.table c.args._t.now
