@@ -43,6 +43,7 @@ FAMILIES = (
     Sizes("parameters", "upper bound: function types of many parameters", "parameters", (250, 500, 1_000, 2_000)),
     Sizes("diamonds", "upper bound: two classes above diamonds, one above another", "diamonds", (10, 20, 40, 80)),
     Sizes("chain", "upper bound: a variable whose bound is a variable whose bound .., and a class", "variables", (5_000, 10_000, 20_000, 40_000)),
+    Sizes("marks", "upper bound: the same, where each bound has a `?`", "variables", (5_000, 10_000, 20_000, 40_000)),
     Sizes("formal", "inference: one argument whose formal is a class of a class of a class .. of the parameter", "classes", (250, 500, 1_000, 4_000)),
     Sizes("arguments", "inference: many arguments of one type parameter", "arguments", (250, 500, 1_000, 2_000)),
 )

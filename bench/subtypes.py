@@ -38,6 +38,7 @@ FAMILIES = (
     Sizes("diamonds", "diamonds of classes, one above another: the lowest class and the highest", "diamonds", (10, 20, 40, 80)),
     Sizes("rows", "classes beside each other: one in the middle, and the one above it", "classes", (1_000, 2_000, 4_000, 8_000)),
     Sizes("nesting", "a class of a class of a class .., as deep as a type may be at last", "classes", (250, 500, 1_000, 4_000)),
+    Sizes("results", "a function type whose result is a function type whose result ..", "function types", (250, 500, 1_000, 4_000)),
     Sizes("bounds", "a type variable whose bound is a variable whose bound ..", "variables", (1_000, 2_000, 4_000)),
     Sizes("parameters", "function types of many parameters", "parameters", (250, 500, 1_000)),
 )
