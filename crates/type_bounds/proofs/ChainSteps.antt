@@ -11,7 +11,7 @@ use Rattle.dart_types.specs.declared.types.TypeNode.TheVariants.{Invalid, Never,
 use Rattle.dart_types.specs.Measure.{deepness_of, weight_of}
 use Rattle.dart_types.specs.Sub.{Sub, left_variable_bound, right_nullable}
 use Rattle.dart_types.specs.SubTest.{is_null}
-use Rattle.dart_types.specs.Tables.{Table, bound_of}
+use Rattle.dart_types.specs.Tables.{Table}
 use Rattle.dart_types.specs.WellFormed.{IsWellFormed}
 use Rattle.dart_types.proofs.MeasureBounds.{bound_deepness}
 use Rattle.dart_types.specs.Marks.{is_marked}
@@ -58,7 +58,7 @@ settled_bare (promoted x t) h = refl
 settled_bare (nullable t) h = cc
 
 -- a second mark changes nothing
-marked_twice : (m : Bool) (t : Ty) → nullable_of (marked_by m t) ≡ marked_by true t
+pub marked_twice : (m : Bool) (t : Ty) → nullable_of (marked_by m t) ≡ marked_by true t
 marked_twice false t = refl
 marked_twice true t = twice t
   where

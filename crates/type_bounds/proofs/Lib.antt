@@ -14,6 +14,7 @@ pub mod OneMoreNamed
 pub mod BoundFalls
 pub mod SomeParts
 pub mod ChainSteps
+pub mod MeetingSteps
 pub mod UpperSteps
 pub mod LowerSteps
 pub mod Rests

@@ -34,12 +34,6 @@ module _ {E : Type 0} (other : Ty → Type 0) (r : Result Part E) where
       IfOk-weaker r (λ done. (t : Ty) → IsPart part t → IsPart done (marked_by marked t)) (IsSomePart other)
       (λ done p. (marked_by marked a.0, f a.0 a.1, p a.0 a.2)) h
 
-  -- the type itself with `?`
-  pub marked_type : (t : Ty) (part : Part) → other (nullable_of t) → IsPart part t → IfOk r (λ marked. (t : Ty) → IsPart part t → IsPart marked (nullable_of t)) → IfOk r (IsSomePart other)
-  marked_type t part a is h =
-      IfOk-weaker r (λ marked. (t : Ty) → IsPart part t → IsPart marked (nullable_of t)) (IsSomePart other)
-      (λ marked p. (nullable_of t, a, p t is)) h
-
   -- the function type of some parameters and some result
   pub some_function : (so_required so_optional : Types → Type 0) (so_named : Named → Type 0) (so_result : Ty → Type 0) (required optional : Parts) (named : NamedParts) (result_part : Part) → ((r o : Types) (n : Named) (e : Ty) → so_required r → so_optional o → so_named n → so_result e → other (function r o n e)) → AreSomeParts so_required required → AreSomeParts so_optional optional → AreSomeNamed so_named named → IsSomePart so_result result_part → IfOk r (λ part. (r o : Types) (n : Named) (e : Ty) → AreParts required r → AreParts optional o → AreNamedParts named n → IsPart result_part e → IsPart part (function r o n e)) → IfOk r (IsSomePart other)
   some_function so_required so_optional so_named so_result required optional named result_part f rs os ns e h =

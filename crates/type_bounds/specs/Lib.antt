@@ -12,3 +12,4 @@ pub mod FormsSome
 pub mod Valid
 pub mod Above
 pub mod Chains
+pub mod Meetings

@@ -16,6 +16,7 @@ mod function_parts;
 #[cfg(test)]
 mod function_tests;
 mod laws;
+mod meetings;
 mod named_parts;
 mod non_nulls;
 #[cfg(test)]

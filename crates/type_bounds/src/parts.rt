@@ -1,7 +1,7 @@
 //! Types that are formed as far as they aren't too large.
 
 ghost use Rattle.std.specs.Prelude.{◌≡◌, ◌≤◌, IfOk};
-ghost use Rattle.dart_types.specs.Ty.{Ty, Types, invalid, never, interface, no_more, more, join};
+ghost use Rattle.dart_types.specs.Ty.{Ty, Types, invalid, never, variable, interface, no_more, more, join};
 ghost use Rattle.dart_types.specs.Sizes.{size_of};
 ghost use Rattle.dart_types.specs.Normal.{nullable_of};
 ghost use Rattle.dart_types.specs.Formed.{Forms};
@@ -10,7 +10,7 @@ ghost use Rattle.type_bounds.specs.Chains.{marked_by};
 ghost use Rattle.type_bounds.specs.PartsView.{IsPart, AreParts, IsInterfaceWithin};
 
 use crate::counts::Count;
-use dart_types::{ClassId, DartType, NODE_LIMIT, TypeList, TypeNode, TypeRefusal};
+use dart_types::{ClassId, DartType, NODE_LIMIT, TypeList, TypeNode, TypeRefusal, VarId};
 use std::alloc::{AllocError, Global};
 
 /// A type that a rule gives, with its count. It is formed unless it is too large.
@@ -73,6 +73,15 @@ impl Part {
     {
         Part::small(DartType {
             node: TypeNode::Never,
+        })
+    }
+
+    /// A type variable.
+    pub(crate) fn variable(var: VarId) -> Part
+        ensures { IsPart result (variable var) }
+    {
+        Part::small(DartType {
+            node: TypeNode::Var(var),
         })
     }
 

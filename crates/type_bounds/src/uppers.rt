@@ -5,19 +5,19 @@ ghost use Rattle.dart_types.specs.Ty.{interface, types_of};
 ghost use Rattle.dart_types.specs.Named.{named_of, names_of, AreInOrder};
 ghost use Rattle.dart_types.specs.Marks.{is_marked};
 ghost use Rattle.dart_types.specs.Node.{function_type};
-ghost use Rattle.type_bounds.specs.Bounds.{Upper, UpperApart, Uppers, UpperNamed, Lower, LowerApart, LowerParams, LowerNamed, AreApart, is_bare, is_settled};
+ghost use Rattle.type_bounds.specs.Bounds.{Upper, UpperApart, Uppers, UpperNamed, Lower, LowerApart, LowerParams, LowerNamed, AreApart, is_settled};
 ghost use Rattle.type_bounds.specs.Signatures.{have_upper, have_lower, same_names};
 ghost use Rattle.type_bounds.specs.FormsSome.{FormsSome};
 ghost use Rattle.type_bounds.specs.PartsView.{IsSomePart, AreSomeParts};
 ghost use Rattle.type_bounds.specs.NamedView.{AreSomeNamed};
 
-use crate::chains::chain_from;
 use crate::function_parts::function_part;
+use crate::meetings::{End, meet};
 use crate::named_parts::NamedParts;
 use crate::parts::{Part, Parts};
 use crate::signatures::{have_lower, have_upper};
 use crate::superclasses::upper_of_classes;
-use crate::type_forms::{bare, is_marked, is_null, is_promoted_from};
+use crate::type_forms::{bare, is_marked};
 use dart_types::{
     ClassId, DartType, FUNCTION, FunctionType, NamedType, NamedTypes, OBJECT, Rows, TypeList,
     TypeNode, TypeRefusal, is_subtype,
@@ -58,93 +58,14 @@ pub fn lower(
 fn upper_part(alloc: Global, rows: &Rows, s: &DartType, t: &DartType) -> Result<Part, AllocError>
     ensures { IfOk result (IsSomePart (Upper rows.now.table s.now t.now)) }
 {
-    if is_subtype(rows, s, t) {
-        return Part::of(alloc, t);
-    }
-    if is_subtype(rows, t, s) {
-        return Part::of(alloc, s);
-    }
-    upper_apart(alloc, rows, s, t)
-}
-
-// The upper bound of two types that aren't subtypes of each other.
-#[cycle(bounds)]
-fn upper_apart(alloc: Global, rows: &Rows, s: &DartType, t: &DartType) -> Result<Part, AllocError>
-    requires apart { AreApart rows.now.table s.now t.now }
-    ensures { IfOk result (IsSomePart (UpperApart rows.now.table s.now t.now)) }
-{
-    if is_null(s) {
-        return Part::of(alloc, t)?.nullable(alloc);
-    }
-    if is_null(t) {
-        return Part::of(alloc, s)?.nullable(alloc);
-    }
-    if is_marked(s) | is_marked(t) {
-        return upper_part(alloc, rows, bare(s), bare(t))?.nullable(alloc);
-    }
-    upper_bare(alloc, rows, s, t)
-}
-
-// The upper bound of two types without `?` that aren't subtypes of each other, where variables on
-// the left give way first.
-#[cycle(bounds)]
-fn upper_bare(alloc: Global, rows: &Rows, s: &DartType, t: &DartType) -> Result<Part, AllocError>
-    requires apart { AreApart rows.now.table s.now t.now }
-    requires left { is_bare s.now ≡ true }
-    requires right { is_bare t.now ≡ true }
-    ensures { IfOk result (IsSomePart (UpperApart rows.now.table s.now t.now)) }
-{
-    let chain = chain_from(rows, s, t);
-    let part = upper_left(alloc, rows, chain.last, t)?;
-    part.with_mark(alloc, chain.marked)
-}
-
-// The upper bound where the left type is the last of a chain of variables.
-#[cycle(bounds)]
-fn upper_left(alloc: Global, rows: &Rows, s: &DartType, t: &DartType) -> Result<Part, AllocError>
-    requires apart { AreApart rows.now.table s.now t.now }
-    requires left { is_bare s.now ≡ true }
-    requires right { is_bare t.now ≡ true }
-    ensures { IfOk result (IsSomePart (UpperApart rows.now.table s.now t.now)) }
-{
-    match &s.node {
-        TypeNode::Var(var) => match rows.bound(*var) {
-            None => Ok(Part::invalid()),
-            Some(bound) => upper_part(alloc, rows, bound, t),
-        },
-        TypeNode::Promoted { var, to } => {
-            if is_promoted_from(*var, t) {
-                return Ok(Part::small(DartType {
-                    node: TypeNode::Var(*var),
-                }));
-            }
-            upper_part(alloc, rows, to, t)
-        }
-        _ => {
-            let chain = chain_from(rows, t, s);
-            let part = upper_right(alloc, rows, s, chain.last)?;
-            part.with_mark(alloc, chain.marked)
-        }
-    }
-}
-
-// The upper bound where the right type is the last of a chain of variables, and the left one no
-// variable.
-#[cycle(bounds)]
-fn upper_right(alloc: Global, rows: &Rows, s: &DartType, t: &DartType) -> Result<Part, AllocError>
-    requires apart { AreApart rows.now.table s.now t.now }
-    requires left { is_settled s.now ≡ true }
-    requires right { is_bare t.now ≡ true }
-    ensures { IfOk result (IsSomePart (UpperApart rows.now.table s.now t.now)) }
-{
-    match &t.node {
-        TypeNode::Var(var) => match rows.bound(*var) {
-            None => Ok(Part::invalid()),
-            Some(bound) => upper_part(alloc, rows, s, bound),
-        },
-        TypeNode::Promoted { to, .. } => upper_part(alloc, rows, s, to),
-        _ => upper_settled(alloc, rows, s, t),
-    }
+    let meeting = meet(rows, s, t);
+    let part = match meeting.end {
+        End::At(bound) => Part::of(alloc, bound)?,
+        End::Var(var) => Part::variable(var),
+        End::Nowhere => Part::invalid(),
+        End::Apart(left, right) => upper_settled(alloc, rows, left, right)?,
+    };
+    part.with_mark(alloc, meeting.marked)
 }
 
 // The upper bound of two types that are no variables.

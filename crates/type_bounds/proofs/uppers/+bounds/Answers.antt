@@ -1,7 +1,7 @@
 use Rattle.std.proofs.Common.{◌≡◌, ◌+◌, ◌<◌, true, false, length, drop, get_or, refl, sym, ◌∙◌, ap, subst, arith}
 use Rattle.std.specs.Prelude.{◌&&◌, ◌||◌, bytes_eq}
 use Rattle.std.proofs.lemmas.List.{get_or_default}
-use Rattle.dart_types.specs.Ty.{invalid, never, interface, variable, promoted, no_more, more, no_named, more_named, types_of, join}
+use Rattle.dart_types.specs.Ty.{invalid, never, interface, variable, no_more, more, no_named, more_named, types_of, join}
 use Rattle.dart_types.specs.Heads.{object}
 use Rattle.dart_types.specs.Named.{named_of}
 use Rattle.dart_types.specs.Node.{type_of, function_type}
@@ -12,176 +12,41 @@ use Rattle.dart_types.proofs.SameIds.{both_true}
 use Rattle.dart_types.proofs.Steps.{granted, refused}
 use Rattle.dart_types.proofs.NamesFound.{required_found}
 use Rattle.dart_types.specs.Marks.{is_marked}
-use Rattle.type_bounds.specs.Bounds.{Upper, right_above, left_above, upper_apart, UpperApart, marked_either, upper_functions, Uppers, UpperNamed, Lower, left_below, right_below, lower_apart, LowerApart, marked_once, lower_functions, LowerParams, LowerNamed}
+use Rattle.type_bounds.specs.Bounds.{Upper, UpperApart, upper_functions, Uppers, UpperNamed, Lower, left_below, right_below, lower_apart, LowerApart, marked_once, lower_functions, LowerParams, LowerNamed}
+use Rattle.type_bounds.specs.Meetings.{ComesTo, IsWithin}
+use Rattle.type_bounds.specs.PartsView.{IsSomePart}
+use Rattle.type_bounds.specs.declared.meetings.End.{End}
+use Rattle.type_bounds.specs.declared.meetings.End.TheVariants.{At, Var, Nowhere, Apart}
 use Rattle.type_bounds.specs.NamedView.{join_named, AreSomeNamed}
-use Rattle.type_bounds.proofs.NonNulls.{bound_weighs, promoted_weighs}
 use Rattle.type_bounds.proofs.BoundFalls.{arguments_fall, required_fall, optional_fall, named_fall, results_fall, marked_fall, type_weighs, param_weighs, name_weighs}
-use Rattle.type_bounds.proofs.SomeParts.{some_type, some_by, some_marked, some_marked_by, marked_type, some_function, moved, moved_types, moved_named}
+use Rattle.type_bounds.proofs.SomeParts.{some_type, some_by, some_marked, some_marked_by, some_function, moved, moved_types, moved_named}
 use Rattle.type_bounds.proofs.Rests.{completed, completed_named, one_more, one_more_named, uppers_end, lowers_end, lowers_end_right, uppers_step, lowers_step, upper_names_end, lower_names_end, upper_names_step, lower_names_step, other_names_step}
 use Rattle.type_bounds.proofs.NamesBefore.{IsEachBefore, NamedSoFar, before_formed, before_later, before_with}
 use Rattle.type_bounds.proofs.SignatureTests.{type_none, type_some, have_lower_counts, same_named_lists, same_length, names_at}
-use Rattle.type_bounds.proofs.ChainSteps.{settled_node, last_apart, last_apart_right, last_bare, last_no_heavier, chain_left, chain_right}
-use Rattle.type_bounds.proofs.UpperSteps.{from_not, at_null_left, at_null_right, at_variable_left, at_unbound_left, at_promoted_twice, at_promoted_left, at_variable_right, at_unbound_right, at_promoted_right, at_settled, at_settled_right, at_class_and_function, at_other_arguments, at_one_class, at_function_and_class, at_other_functions}
+use Rattle.type_bounds.proofs.UpperSteps.{from_not, at_settled, at_settled_right, at_class_and_function, at_other_arguments, at_one_class, at_function_and_class, at_other_functions}
+use Rattle.type_bounds.proofs.MeetingSteps.{comes_there}
 use Rattle.type_bounds.proofs.LowerSteps.{either_holds, at_both_marks, at_no_function_left, at_no_function_right, at_lower_others}
-use Rattle.type_bounds.proofs.uppers.+bounds.Goals.{lower_named-in-Some+in_ok-part+in_ok-lowers, lower_named-in_default}
+use Rattle.type_bounds.proofs.uppers.+bounds.Goals.{upper_part-in-At+in_ok-part-in-At, upper_part-in-Var, upper_part-in-Nowhere, upper_part-in-Apart+in_ok-part-in-Apart, lower_named-in-Some+in_ok-part+in_ok-lowers, lower_named-in_default}
 use Rattle.type_bounds.proofs.uppers.+bounds.Goals as goal
 
--- two types, by subtyping first
-pub upper_part-returns-then-is_subtype : goal.upper_part-returns-then-is_subtype
-upper_part-returns-then-is_subtype t c =
-    some_type (Upper c.args.rows.now.table c.args.s.now c.args.t.now) c.of.result c.args.t.now (right_above (granted c.is_subtype.ensures.rules c.if-is_subtype.true)) c.of.ensures
-
-pub upper_part-returns-then-is_subtype-2 : goal.upper_part-returns-then-is_subtype-2
-upper_part-returns-then-is_subtype-2 t c =
-    some_type (Upper c.args.rows.now.table c.args.s.now c.args.t.now) c.of-then-is_subtype-2.result c.args.s.now
-    (left_above (refused c.is_subtype.ensures.rules c.if-is_subtype.false) (granted c.is_subtype-2.ensures.rules c.if-is_subtype-2.true))
-    c.of-then-is_subtype-2.ensures
+-- where two types meet
+pub upper_part-upper_settled-requires : goal.upper_part-upper_settled-requires
+upper_part-upper_settled-requires t c =
+    let table = c.args.rows.now.table in
+    let within = subst (λ (end : End). IsWithin table (weight_of table c.args.s.now + weight_of table c.args.t.now) end) c.in-Apart.is c.meet-meeting.ensures.0 in
+    (omega (arith, within.3, c.decreases), (within.0, (within.1, within.2)))
 
 pub upper_part-returns : goal.upper_part-returns
 upper_part-returns t c =
-    some_by (Upper c.args.rows.now.table c.args.s.now c.args.t.now) c.upper_apart.result (UpperApart c.args.rows.now.table c.args.s.now c.args.t.now)
-    (λ u a. upper_apart (refused c.is_subtype.ensures.rules c.if-is_subtype.false, refused c.is_subtype-2.ensures.rules c.if-is_subtype-2.false) a)
-    c.upper_apart.ensures
-
--- `Null`, and types with `?`
-pub upper_apart-returns-then-is_null : goal.upper_apart-returns-then-is_null
-upper_apart-returns-then-is_null t c =
-    marked_type (UpperApart c.args.rows.now.table c.args.s.now c.args.t.now) c.nullable.result c.args.t.now c.in_ok-of.field-0
-    (at_null_left c.args.rows.now.table c.args.s.now c.args.t.now (sym c.is_null.ensures ∙ c.if-is_null.true))
-    c.in_ok-of.ensures
-    c.nullable.ensures
-
-pub upper_apart-returns-then-is_null-2 : goal.upper_apart-returns-then-is_null-2
-upper_apart-returns-then-is_null-2 t c =
-    marked_type (UpperApart c.args.rows.now.table c.args.s.now c.args.t.now) c.nullable-then-is_null-2.result c.args.s.now c.in_ok-of-2.field-0
-    (at_null_right c.args.rows.now.table c.args.s.now c.args.t.now (sym c.is_null-2.ensures ∙ c.if-is_null-2.true))
-    c.in_ok-of-2.ensures
-    c.nullable-then-is_null-2.ensures
-
-pub upper_apart-upper_part-requires : goal.upper_apart-upper_part-requires
-upper_apart-upper_part-requires t c =
-    let marked : (is_marked c.args.s.now || is_marked c.args.t.now) ≡ true = let e = c.is_marked.ensures in let f = c.is_marked-2.ensures in let g = c.if-is_marked.true in cc in
-    let fall = marked_fall c.args.rows.now.table c.args.s.now c.args.t.now marked in
-    let e = ap (weight_of c.args.rows.now.table) c.bare.ensures in
-    let f = ap (weight_of c.args.rows.now.table) c.bare-then-is_marked.ensures in
-    (omega (arith, fall, e, f, c.decreases), tt)
-
-pub upper_apart-returns-then-is_marked : goal.upper_apart-returns-then-is_marked
-upper_apart-returns-then-is_marked t c =
-    let marked : (is_marked c.args.s.now || is_marked c.args.t.now) ≡ true = let e = c.is_marked.ensures in let f = c.is_marked-2.ensures in let g = c.if-is_marked.true in cc in
-    some_marked (UpperApart c.args.rows.now.table c.args.s.now c.args.t.now) c.nullable-then-is_marked.result (Upper c.args.rows.now.table c.bare.result.now c.bare-then-is_marked.result.now) c.in_ok-upper_part.field-0
-    (λ u a. marked_either (sym c.is_null.ensures ∙ c.if-is_null.false) (sym c.is_null-2.ensures ∙ c.if-is_null-2.false) marked (moved (Upper c.args.rows.now.table) c.bare.ensures c.bare-then-is_marked.ensures a))
-    c.in_ok-upper_part.ensures
-    c.nullable-then-is_marked.ensures
-
--- chains of variables on the left
-pub upper_bare-upper_left-requires : goal.upper_bare-upper_left-requires
-upper_bare-upper_left-requires t c =
     let table = c.args.rows.now.table in
-    let chain = c.chain_from-chain.ensures in
-    (omega (arith, last_no_heavier table c.args.rows.now.formed chain, c.decreases), (last_apart table chain c.requires.apart, (last_bare table chain c.requires.left, c.requires.right)))
-
-pub upper_bare-returns : goal.upper_bare-returns
-upper_bare-returns t c =
-    let table = c.args.rows.now.table in
-    some_marked_by (UpperApart table c.args.s.now c.args.t.now) c.with_mark.result (UpperApart table c.chain_from-chain.result.last.now c.args.t.now) c.in_ok-part.part c.chain_from-chain.result.marked
-    (λ u a. chain_left table c.chain_from-chain.ensures c.requires.apart c.requires.right a)
-    c.in_ok-part.ensures
-    c.with_mark.ensures
-
--- variables on the left
-pub upper_left-upper_part-requires : goal.upper_left-upper_part-requires
-upper_left-upper_part-requires t c =
-    let is : c.args.s.now ≡ variable c.in-Var.var = sym c.s.view_is ∙ ap type_of c.in-Var.is in
-    let fall = bound_weighs c.args.rows.now.table c.args.rows.now.formed c.in-Var.var c.in-Some.bound.now (sym c.in-Some.ensures) in
-    (omega (arith, fall, ap (weight_of c.args.rows.now.table) is, c.decreases), tt)
-
-pub upper_left-returns-in-None : goal.upper_left-returns-in-None
-upper_left-returns-in-None t c = (
-  invalid,
-  at_unbound_left c.args.rows.now.table c.in-Var.var (sym c.s.view_is ∙ ap type_of c.in-Var.is) c.requires.right (sym c.in-None.ensures),
-  c.invalid.ensures,
-)
-
-pub upper_left-returns-in-Some : goal.upper_left-returns-in-Some
-upper_left-returns-in-Some t c =
-    some_by (UpperApart c.args.rows.now.table c.args.s.now c.args.t.now) c.upper_part.result (Upper c.args.rows.now.table c.in-Some.bound.now c.args.t.now)
-    (λ u a. at_variable_left c.args.rows.now.table c.in-Var.var (sym c.s.view_is ∙ ap type_of c.in-Var.is) c.requires.right (sym c.in-Some.ensures) a)
-    c.upper_part.ensures
-
-pub upper_left-returns-then-is_promoted_from : goal.upper_left-returns-then-is_promoted_from
-upper_left-returns-then-is_promoted_from t c = (
-  variable c.in-Promoted.var,
-  at_promoted_twice c.args.rows.now.table c.args.t.now c.in-Promoted.var c.in-Promoted.to.value (sym c.s.view_is ∙ ap type_of c.in-Promoted.is) (sym c.is_promoted_from.ensures ∙ c.if-is_promoted_from.true),
-  c.small.ensures,
-)
-
-pub upper_left-upper_part-requires-in-Promoted : goal.upper_left-upper_part-requires-in-Promoted
-upper_left-upper_part-requires-in-Promoted t c =
-    let is : c.args.s.now ≡ promoted c.in-Promoted.var c.deref.result.now = sym c.s.view_is ∙ ap type_of c.in-Promoted.is ∙ ap (promoted c.in-Promoted.var) (sym c.deref.ensures) in
-    let fall = promoted_weighs c.args.rows.now.table c.in-Promoted.var c.deref.result.now in
-    (omega (arith, fall, ap (weight_of c.args.rows.now.table) is, c.decreases), tt)
-
-pub upper_left-returns-else-is_promoted_from : goal.upper_left-returns-else-is_promoted_from
-upper_left-returns-else-is_promoted_from t c =
-    some_by (UpperApart c.args.rows.now.table c.args.s.now c.args.t.now) c.upper_part-in-Promoted.result (Upper c.args.rows.now.table c.deref.result.now c.args.t.now)
-    (λ u a.
-    at_promoted_left c.args.rows.now.table c.in-Promoted.var c.deref.result.now (sym c.s.view_is ∙ ap type_of c.in-Promoted.is ∙ ap (promoted c.in-Promoted.var) (sym c.deref.ensures)) c.requires.right (sym c.is_promoted_from.ensures ∙ c.if-is_promoted_from.false) a)
-    c.upper_part-in-Promoted.ensures
-
--- chains of variables on the right
-pub upper_left-upper_right-requires : goal.upper_left-upper_right-requires
-upper_left-upper_right-requires t c =
-    let table = c.args.rows.now.table in
-    let chain = c.chain_from-chain.ensures in
-    let settled = settled_node c.s.inside.node c.s.view_is c.in_default.not-Var c.in_default.not-Promoted c.requires.left in
-    (omega (arith, last_no_heavier table c.args.rows.now.formed chain, c.decreases), (last_apart_right table chain c.requires.apart, (settled, last_bare table chain c.requires.right)))
-
-pub upper_left-returns-in_ok-part-in_default : goal.upper_left-returns-in_ok-part-in_default
-upper_left-returns-in_ok-part-in_default t c =
-    let table = c.args.rows.now.table in
-    let settled = settled_node c.s.inside.node c.s.view_is c.in_default.not-Var c.in_default.not-Promoted c.requires.left in
-    some_marked_by (UpperApart table c.args.s.now c.args.t.now) c.with_mark.result (UpperApart table c.args.s.now c.chain_from-chain.result.last.now) c.in_ok-part-in_default.part c.chain_from-chain.result.marked
-    (λ u a. chain_right table c.chain_from-chain.ensures c.requires.apart settled a)
-    c.in_ok-part-in_default.ensures
-    c.with_mark.ensures
-
--- variables on the right
-pub upper_right-upper_part-requires : goal.upper_right-upper_part-requires
-upper_right-upper_part-requires t c =
-    let is : c.args.t.now ≡ variable c.in-Var.var = sym c.t.view_is ∙ ap type_of c.in-Var.is in
-    let fall = bound_weighs c.args.rows.now.table c.args.rows.now.formed c.in-Var.var c.in-Some.bound.now (sym c.in-Some.ensures) in
-    (omega (arith, fall, ap (weight_of c.args.rows.now.table) is, c.decreases), tt)
-
-pub upper_right-upper_part-requires-in-Promoted : goal.upper_right-upper_part-requires-in-Promoted
-upper_right-upper_part-requires-in-Promoted t c =
-    let is : c.args.t.now ≡ promoted c.in-Promoted.var c.deref.result.now = sym c.t.view_is ∙ ap type_of c.in-Promoted.is ∙ ap (promoted c.in-Promoted.var) (sym c.deref.ensures) in
-    let fall = promoted_weighs c.args.rows.now.table c.in-Promoted.var c.deref.result.now in
-    (omega (arith, fall, ap (weight_of c.args.rows.now.table) is, c.decreases), tt)
-
-pub upper_right-returns-in-None : goal.upper_right-returns-in-None
-upper_right-returns-in-None t c = (
-  invalid,
-  at_unbound_right c.args.rows.now.table c.in-Var.var (sym c.t.view_is ∙ ap type_of c.in-Var.is) c.requires.left (sym c.in-None.ensures),
-  c.invalid.ensures,
-)
-
-pub upper_right-returns-in-Some : goal.upper_right-returns-in-Some
-upper_right-returns-in-Some t c =
-    some_by (UpperApart c.args.rows.now.table c.args.s.now c.args.t.now) c.upper_part.result (Upper c.args.rows.now.table c.args.s.now c.in-Some.bound.now)
-    (λ u a. at_variable_right c.args.rows.now.table c.in-Var.var (sym c.t.view_is ∙ ap type_of c.in-Var.is) c.requires.left (sym c.in-Some.ensures) a)
-    c.upper_part.ensures
-
-pub upper_right-returns-in-Promoted : goal.upper_right-returns-in-Promoted
-upper_right-returns-in-Promoted t c =
-    some_by (UpperApart c.args.rows.now.table c.args.s.now c.args.t.now) c.upper_part-in-Promoted.result (Upper c.args.rows.now.table c.args.s.now c.deref.result.now)
-    (λ u a. at_promoted_right c.args.rows.now.table c.in-Promoted.var c.deref.result.now (sym c.t.view_is ∙ ap type_of c.in-Promoted.is ∙ ap (promoted c.in-Promoted.var) (sym c.deref.ensures)) c.requires.left a)
-    c.upper_part-in-Promoted.ensures
-
-pub upper_right-upper_settled-requires : goal.upper_right-upper_settled-requires
-upper_right-upper_settled-requires t c =
-    let settled = settled_node c.t.inside.node c.t.view_is c.in_default.not-Var c.in_default.not-Promoted c.requires.right in
-    (omega (arith, c.decreases), (c.requires.apart, (c.requires.left, settled)))
+    let end = c.meet-meeting.result.end in
+    let part : IsSomePart (ComesTo table end) c.match-meeting.part = elim c.match-meeting.branch [
+      | upper_part-in-At+in_ok-part-in-At w ↦ comes_there table end (At w.in-At.bound) c.match-meeting.part w.in_ok-part-in-At.part w.in-At.is w.part-is (w.in-At.bound.now, refl, w.in_ok-part-in-At.ensures)
+      | upper_part-in-Var w ↦ comes_there table end (Var w.in-Var.var) c.match-meeting.part w.variable-part.result w.in-Var.is w.part-is (variable w.in-Var.var, refl, w.variable-part.ensures)
+      | upper_part-in-Nowhere w ↦ comes_there table end Nowhere c.match-meeting.part w.invalid-part.result w.in-Nowhere.is w.part-is (invalid, refl, w.invalid-part.ensures)
+      | upper_part-in-Apart+in_ok-part-in-Apart w ↦ comes_there table end (Apart w.in-Apart.left w.in-Apart.right) c.match-meeting.part w.in_ok-part-in-Apart.part w.in-Apart.is w.part-is w.in_ok-part-in-Apart.ensures
+    ]
+    in some_marked_by (Upper table c.args.s.now c.args.t.now) c.with_mark.result (ComesTo table end) c.match-meeting.part c.meet-meeting.result.marked c.meet-meeting.ensures.1 part c.with_mark.ensures
 
 -- types that are no variables
 pub upper_settled-returns-in_default : goal.upper_settled-returns-in_default

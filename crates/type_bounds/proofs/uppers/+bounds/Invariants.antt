@@ -11,57 +11,45 @@ use Rattle.type_bounds.proofs.Rests.{Completes}
 use Rattle.type_bounds.proofs.NamesBefore.{NamedSoFar}
 use Rattle.type_bounds.proofs.uppers.+bounds.Given as goal
 
--- ten times the weights of both sides, and how many calls there are at most until one of them weighs less
+-- six times the weights of both sides, and how many calls there are at most until one of them weighs less
 abbrev pub decreases-upper_part : goal.decreases-upper_part
-decreases-upper_part l = 10 * (weight_of l.rows.now.table l.s.now + weight_of l.rows.now.table l.t.now) + 9
-
-abbrev pub decreases-upper_apart : goal.decreases-upper_apart
-decreases-upper_apart l = 10 * (weight_of l.rows.now.table l.s.now + weight_of l.rows.now.table l.t.now) + 8
-
-abbrev pub decreases-upper_bare : goal.decreases-upper_bare
-decreases-upper_bare l = 10 * (weight_of l.rows.now.table l.s.now + weight_of l.rows.now.table l.t.now) + 7
-
-abbrev pub decreases-upper_left : goal.decreases-upper_left
-decreases-upper_left l = 10 * (weight_of l.rows.now.table l.s.now + weight_of l.rows.now.table l.t.now) + 6
-
-abbrev pub decreases-upper_right : goal.decreases-upper_right
-decreases-upper_right l = 10 * (weight_of l.rows.now.table l.s.now + weight_of l.rows.now.table l.t.now) + 4
+decreases-upper_part l = 6 * (weight_of l.rows.now.table l.s.now + weight_of l.rows.now.table l.t.now) + 5
 
 abbrev pub decreases-upper_settled : goal.decreases-upper_settled
-decreases-upper_settled l = 10 * (weight_of l.rows.now.table l.s.now + weight_of l.rows.now.table l.t.now) + 3
+decreases-upper_settled l = 6 * (weight_of l.rows.now.table l.s.now + weight_of l.rows.now.table l.t.now) + 4
 
 abbrev pub decreases-lower_part : goal.decreases-lower_part
-decreases-lower_part l = 10 * (weight_of l.rows.now.table l.s.now + weight_of l.rows.now.table l.t.now) + 9
+decreases-lower_part l = 6 * (weight_of l.rows.now.table l.s.now + weight_of l.rows.now.table l.t.now) + 5
 
 abbrev pub decreases-lower_apart : goal.decreases-lower_apart
-decreases-lower_apart l = 10 * (weight_of l.rows.now.table l.s.now + weight_of l.rows.now.table l.t.now) + 8
+decreases-lower_apart l = 6 * (weight_of l.rows.now.table l.s.now + weight_of l.rows.now.table l.t.now) + 4
 
 abbrev pub decreases-upper_of_class : goal.decreases-upper_of_class
-decreases-upper_of_class l = 10 * (weight_of l.rows.now.table (interface l.class (types_of l.args.now)) + weight_of l.rows.now.table l.t.now) + 2
+decreases-upper_of_class l = 6 * (weight_of l.rows.now.table (interface l.class (types_of l.args.now)) + weight_of l.rows.now.table l.t.now) + 3
 
 abbrev pub decreases-upper_of_function : goal.decreases-upper_of_function
-decreases-upper_of_function l = 10 * (weight_of l.rows.now.table (function_type l.function.now) + weight_of l.rows.now.table l.t.now) + 2
+decreases-upper_of_function l = 6 * (weight_of l.rows.now.table (function_type l.function.now) + weight_of l.rows.now.table l.t.now) + 3
 
 abbrev pub decreases-lower_of_function : goal.decreases-lower_of_function
-decreases-lower_of_function l = 10 * (weight_of l.rows.now.table (function_type l.function.now) + weight_of l.rows.now.table l.t.now) + 2
+decreases-lower_of_function l = 6 * (weight_of l.rows.now.table (function_type l.function.now) + weight_of l.rows.now.table l.t.now) + 3
 
 abbrev pub decreases-upper_of_functions : goal.decreases-upper_of_functions
-decreases-upper_of_functions l = 10 * (weight_of l.rows.now.table (function_type l.function.now) + weight_of l.rows.now.table (function_type l.other.now)) + 1
+decreases-upper_of_functions l = 6 * (weight_of l.rows.now.table (function_type l.function.now) + weight_of l.rows.now.table (function_type l.other.now)) + 2
 
 abbrev pub decreases-lower_of_functions : goal.decreases-lower_of_functions
-decreases-lower_of_functions l = 10 * (weight_of l.rows.now.table (function_type l.function.now) + weight_of l.rows.now.table (function_type l.other.now)) + 1
+decreases-lower_of_functions l = 6 * (weight_of l.rows.now.table (function_type l.function.now) + weight_of l.rows.now.table (function_type l.other.now)) + 2
 
 abbrev pub decreases-upper_all : goal.decreases-upper_all
-decreases-upper_all l = 10 * (weights_of l.rows.now.table (types_of l.types.now) + weights_of l.rows.now.table (types_of l.others.now)) + 10
+decreases-upper_all l = 6 * (weights_of l.rows.now.table (types_of l.types.now) + weights_of l.rows.now.table (types_of l.others.now)) + 6
 
 abbrev pub decreases-lower_all : goal.decreases-lower_all
-decreases-lower_all l = 10 * (weights_of l.rows.now.table (types_of l.types.now) + weights_of l.rows.now.table (types_of l.others.now)) + 10
+decreases-lower_all l = 6 * (weights_of l.rows.now.table (types_of l.types.now) + weights_of l.rows.now.table (types_of l.others.now)) + 6
 
 abbrev pub decreases-upper_named : goal.decreases-upper_named
-decreases-upper_named l = 10 * (named_weights_of l.rows.now.table (named_of l.named.now) + named_weights_of l.rows.now.table (named_of l.others.now)) + 10
+decreases-upper_named l = 6 * (named_weights_of l.rows.now.table (named_of l.named.now) + named_weights_of l.rows.now.table (named_of l.others.now)) + 6
 
 abbrev pub decreases-lower_named : goal.decreases-lower_named
-decreases-lower_named l = 10 * (named_weights_of l.rows.now.table (named_of l.named.now) + named_weights_of l.rows.now.table (named_of l.others.now)) + 10
+decreases-lower_named l = 6 * (named_weights_of l.rows.now.table (named_of l.named.now) + named_weights_of l.rows.now.table (named_of l.others.now)) + 6
 
 -- with the bounds of the types that are left, those so far are the bounds of all
 abbrev pub invariant-upper_all-loop-i : goal.invariant-upper_all-loop-i
