@@ -51,6 +51,7 @@ struct Step<'a> {
 
 /// Where two types meet: variables give way to their bounds, and a `?` is taken off, step by step. It
 /// takes no memory.
+#[inline(never)]
 pub(crate) fn meet<'a>(rows: &'a Rows, s: &'a DartType, t: &'a DartType) -> Meeting<'a>
     ensures { Meets rows.now.table (weight_of rows.now.table s.now + weight_of rows.now.table t.now) (Upper rows.now.table s.now t.now) result }
 {

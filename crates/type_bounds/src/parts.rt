@@ -29,6 +29,7 @@ pub(crate) struct Parts {
 
 impl Part {
     /// A type that is at hand.
+    #[inline(never)]
     pub(crate) fn of(alloc: Global, t: &DartType) -> Result<Part, AllocError>
         ensures { IfOk result (λ part. IsPart part t.now) }
     {
@@ -120,6 +121,7 @@ impl Part {
     }
 
     /// The normal form of `T?`, from T, or T where there is no mark.
+    #[inline(never)]
     pub(crate) fn with_mark(self, alloc: Global, marked: bool) -> Result<Part, AllocError>
         ensures { IfOk result (λ part. (t : Ty) → IsPart self t → IsPart part (marked_by marked t)) }
     {

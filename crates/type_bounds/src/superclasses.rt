@@ -36,6 +36,7 @@ struct Pair<'a> {
 }
 
 /// The upper bound of two classes with these arguments, of which neither is a subtype of the other.
+#[inline(never)]
 pub(crate) fn upper_of_classes(
     alloc: Global,
     rows: &Rows,

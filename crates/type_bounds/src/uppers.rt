@@ -1,4 +1,7 @@
 //! Upper and lower bounds of types.
+//!
+//! These functions go as deep as types are nested, so what isn't in the way stands apart, and isn't
+//! inlined: their frames stay small.
 
 ghost use Rattle.std.specs.Prelude.{◌≡◌, true, false, length, IfOk};
 ghost use Rattle.dart_types.specs.Ty.{interface, types_of};
@@ -117,6 +120,7 @@ fn upper_of_class(
 
 // The upper bound of a function type and another type.
 #[cycle(bounds)]
+#[inline(never)]
 fn upper_of_function(
     alloc: Global,
     rows: &Rows,
@@ -141,6 +145,7 @@ fn upper_of_function(
 
 // The upper bound of two function types that have one that is one.
 #[cycle(bounds)]
+#[inline(never)]
 fn upper_of_functions(
     alloc: Global,
     rows: &Rows,
@@ -287,6 +292,7 @@ fn lower_apart(alloc: Global, rows: &Rows, s: &DartType, t: &DartType) -> Result
 
 // The lower bound of a function type and another type without `?`.
 #[cycle(bounds)]
+#[inline(never)]
 fn lower_of_function(
     alloc: Global,
     rows: &Rows,
@@ -309,6 +315,7 @@ fn lower_of_function(
 
 // The lower bound of two function types that have one that is one.
 #[cycle(bounds)]
+#[inline(never)]
 fn lower_of_functions(
     alloc: Global,
     rows: &Rows,
