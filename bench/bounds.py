@@ -14,8 +14,8 @@ family, and a line in it for each size:
     answer  microseconds of an answer
 
 The times are less those of a program that does nothing. Under each table stand the slopes, as bench/check.py has them: 1 is
-time in proportion to the size. A bound of two types in which classes are nested asks at each level whether the one is a
-subtype of the other, so its slope is 2.
+time in proportion to the size. A bound of two types in which classes or function types are nested asks at each level
+whether the one is a subtype of the other, so its slope is 2.
 
 Nothing fails on time. The status is 1 where the program isn't built or an answer is missing, 2 where the words are wrong, and
 else 0.
@@ -41,6 +41,8 @@ LONG_ENOUGH = 0.2
 FAMILIES = (
     Sizes("nesting", "upper bound: a class of a class of a class .., as deep as a type may be at last", "classes", (250, 500, 1_000, 4_000)),
     Sizes("parameters", "upper bound: function types of many parameters", "parameters", (250, 500, 1_000, 2_000)),
+    Sizes("results", "upper bound: function types whose result is a function type whose result ..", "function types", (250, 500, 1_000, 4_000)),
+    Sizes("callbacks", "upper bound: function types whose parameter is a function type whose parameter ..", "function types", (250, 500, 1_000, 2_000)),
     Sizes("diamonds", "upper bound: two classes above diamonds, one above another", "diamonds", (10, 20, 40, 80)),
     Sizes("chain", "upper bound: a variable whose bound is a variable whose bound .., and a class", "variables", (5_000, 10_000, 20_000, 40_000)),
     Sizes("marks", "upper bound: the same, where each bound has a `?`", "variables", (5_000, 10_000, 20_000, 40_000)),

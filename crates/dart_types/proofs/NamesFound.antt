@@ -10,7 +10,7 @@ use Rattle.std.specs.List.Sorted.{IsPartitionedBy, IsPartitionPoint}
 use Rattle.std.proofs.lemmas.Bool.{cases_lt}
 use Rattle.std.proofs.lemmas.Cmp.{nat_list_cmp_total}
 use Rattle.std.proofs.lemmas.List.{get_or_default}
-use Rattle.dart_types.specs.Named.{IsNameBefore, AreInOrder, named_of, names_of}
+use Rattle.dart_types.specs.Named.{IsNameBefore, AreInOrder, named_of, names_of, has_name}
 use Rattle.dart_types.specs.Sub.{is_required}
 use Rattle.dart_types.specs.declared.types.NamedType.{NamedType}
 use Rattle.dart_types.proofs.EntryLemmas.{AllPairs-map}
@@ -106,3 +106,20 @@ required_where (k ∷ ns) rising m n e = at (bytes_eq k.name m) refl e (λ f. re
 -- of parameters in order the one that is found tells whether its name is required
 pub required_found : (ns : List NamedType) → AreInOrder (names_of ns) → (m : List ℕ) (n : NamedType) → find (λ k. bytes_eq k.name m) ns ≡ Some n → is_required (named_of ns) m ≡ n.required
 required_found ns order m n e = required_where ns (AllPairs-map (λ (k : NamedType). k.name) IsNameBefore ns order) m n e
+
+-- a name is in the list where a parameter is found
+pub has_none : (ns : List NamedType) (m : List ℕ) → find (λ n. bytes_eq n.name m) ns ≡ None → has_name (named_of ns) m ≡ false
+has_none [] m e = refl
+has_none (n ∷ ns) m e = at (bytes_eq n.name m) e (λ k. has_none ns m k)
+  where
+    at : (b : Bool) → cond b (Some n) (find (λ n. bytes_eq n.name m) ns) ≡ None → (find (λ n. bytes_eq n.name m) ns ≡ None → has_name (named_of ns) m ≡ false) → (b || has_name (named_of ns) m) ≡ false
+    at true f go = cc
+    at false f go = go f
+
+pub has_some : (ns : List NamedType) (m : List ℕ) (u : NamedType) → find (λ n. bytes_eq n.name m) ns ≡ Some u → has_name (named_of ns) m ≡ true
+has_some [] m u e = cc
+has_some (n ∷ ns) m u e = at (bytes_eq n.name m) e (λ k. has_some ns m u k)
+  where
+    at : (b : Bool) → cond b (Some n) (find (λ n. bytes_eq n.name m) ns) ≡ Some u → (find (λ n. bytes_eq n.name m) ns ≡ Some u → has_name (named_of ns) m ≡ true) → (b || has_name (named_of ns) m) ≡ true
+    at true f go = refl
+    at false f go = go f

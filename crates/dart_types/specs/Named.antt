@@ -1,5 +1,5 @@
 -- Named parameters as the code keeps them.
-use Rattle.std.specs.Prelude.{◌≡◌, ℕ, Bool, List, [], ◌∷◌, AllPairs, map, refl}
+use Rattle.std.specs.Prelude.{◌≡◌, ℕ, Bool, false, ◌||◌, List, [], ◌∷◌, AllPairs, map, bytes_eq, Option, Some, None, if◌then◌else◌, refl}
 use Rattle.std.specs.Ordering.{nat_cmp}
 use Rattle.std.specs.declared.cmp.Ordering.TheVariants.{Less}
 use Rattle.std.specs.Cmp.Lexicographic.{slice_cmp}
@@ -29,3 +29,13 @@ names_of named = map (λ n. n.name) named
 -- each name comes before those behind it
 abbrev pub AreInOrder : List (List ℕ) → Type 0
 AreInOrder names = AllPairs IsNameBefore names
+
+-- the list has a named parameter of this name
+abbrev pub has_name : Named → List ℕ → Bool
+has_name no_named m = false
+has_name (more_named n r t rest) m = bytes_eq n m || has_name rest m
+
+-- the type of the list's first parameter of this name, if it has one
+abbrev pub type_named : Named → List ℕ → Option Ty
+type_named no_named m = None
+type_named (more_named n r t rest) m = if bytes_eq n m then Some t else type_named rest m

@@ -1,7 +1,6 @@
 //! Whether types are the same.
 
 ghost use Rattle.std.specs.Prelude.{◌≡◌, IsTrue, ◌↔◌};
-ghost use Rattle.std.specs.List.{list_any};
 ghost use Rattle.dart_types.specs.Ty.{types_of};
 ghost use Rattle.dart_types.specs.Named.{named_of};
 ghost use Rattle.dart_types.specs.Node.{function_type};
@@ -78,18 +77,6 @@ impl TypeList {
         ensures { IsTrue result ↔ (self.now ≡ other.now) }
     {
         self.has_types_of(other)
-    }
-
-    /// Whether the type is one of these. It takes no memory.
-    pub fn contains(&self, t: &DartType) -> bool
-        ensures { result ≡ list_any (same_type t.now) self.now }
-    {
-        for item in &self.items {
-            if t.is_same(item) {
-                return true;
-            }
-        }
-        false
     }
 
     // Whether both are lists of the same types, in the same order.

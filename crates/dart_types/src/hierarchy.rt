@@ -1,10 +1,9 @@
 //! Superinterfaces of classes, formed from those of their direct supertypes.
 
-ghost use Rattle.std.specs.Prelude.{◌≡◌, ◌≤◌, ◌<◌, ◌+◌, Some, IfOk, IfErr, OnOk, Contains, All, map, length};
+ghost use Rattle.std.specs.Prelude.{◌≡◌, ◌<◌, Some, IfOk, IfErr, OnOk, Contains};
 ghost use Rattle.dart_types.specs.Ty.{interface, types_of};
-ghost use Rattle.dart_types.specs.Normal.{normal};
 ghost use Rattle.dart_types.specs.Tables.{class_of};
-ghost use Rattle.dart_types.specs.WellFormed.{IsWellFormed, IsSupertype};
+ghost use Rattle.dart_types.specs.WellFormed.{IsWellFormed};
 ghost use Rattle.dart_types.specs.Entries.{table_of};
 ghost use Rattle.dart_types.specs.Superinterfaces.{AreSuperinterfaces, AreOrdered};
 ghost use Rattle.dart_types.specs.RowsCause.{IsCauseIn};

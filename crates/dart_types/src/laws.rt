@@ -7,10 +7,20 @@ ghost use Rattle.dart_types.specs.Scope.{IsInScope, IsWithinBounds};
 ghost use Rattle.dart_types.specs.Sub.{Sub};
 ghost use Rattle.dart_types.specs.SubTest.{sub};
 ghost use Rattle.dart_types.specs.Substitution.{put, by_pairs};
+ghost use Rattle.dart_types.specs.declared.ids.TheConstants.{OBJECT, FUNCTION};
+ghost use Rattle.dart_types.specs.declared.refusal.TheConstants.{NODE_LIMIT};
 
 use crate::ids::VarId;
 use crate::rows::Rows;
 use crate::types::DartType;
+
+/// The numbers that rules name: 4,096 types may stand in a type, and `Object` and `Function` are the
+/// first and the fourth class of library 0, which is `dart:core`.
+pub fn constants_are_those_of_the_rules()
+    ensures limit { NODE_LIMIT ≡ 4096 }
+    ensures object { OBJECT ≡ record { lib = record { 0 = 0 }; index = 0 } }
+    ensures function { FUNCTION ≡ record { lib = record { 0 = 0 }; index = 3 } }
+{}
 
 /// A type is a subtype of itself, and of all that a supertype of it is a subtype of.
 pub fn subtype_laws(_rows: &Rows, _s: &DartType, _t: &DartType, _u: &DartType)

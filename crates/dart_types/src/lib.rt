@@ -53,7 +53,10 @@ mod types;
 pub use class_arguments::Arguments;
 pub use class_rows::{ClassRow, VarList, VarRow};
 pub use ids::{CORE, ClassId, FUNCTION, LibId, OBJECT, VarId};
-pub use laws::{normal_form_laws, substitution_keeps_subtypes, subtype_laws, subtype_test_law};
+pub use laws::{
+    constants_are_those_of_the_rules, normal_form_laws, substitution_keeps_subtypes, subtype_laws,
+    subtype_test_law,
+};
 pub use refusal::{NODE_LIMIT, RowsRefusal, TypeRefusal};
 pub use rows::Rows;
 pub use sizes::size;

@@ -6,7 +6,7 @@ ghost use Rattle.std.specs.Option.{option_copied};
 ghost use Rattle.std.specs.Ordering.{nat_cmp};
 ghost use Rattle.std.specs.declared.cmp.Ordering.TheVariants.{Less};
 ghost use Rattle.std.specs.Cmp.Lexicographic.{slice_cmp};
-ghost use Rattle.dart_types.specs.Named.{AreInOrder, IsNameBefore, names_of};
+ghost use Rattle.dart_types.specs.Named.{AreInOrder, IsNameBefore, has_name, named_of, names_of};
 
 use crate::types::{NamedType, NamedTypes};
 use plain_text::PlainText;
@@ -18,6 +18,16 @@ impl NamedTypes {
         ensures in_order { AreInOrder (names_of self.now) }
     {
         find_parameter(self.as_slice(), name)
+    }
+
+    /// Whether there is a parameter of this name. It takes no memory.
+    pub fn has_name(&self, name: &PlainText) -> bool
+        ensures { result ≡ has_name (named_of self.now) name.now }
+    {
+        match self.get(name) {
+            None => false,
+            Some(_) => true,
+        }
     }
 }
 

@@ -19,7 +19,7 @@
 use crate::ids::{CORE, ClassId, FUNCTION, LibId, OBJECT, VarId};
 use crate::types::{DartType, FunctionType, NamedType, NamedTypes, TypeList, TypeNode};
 use plain_text::PlainText;
-use std::alloc::{AllocError, Global};
+use std::alloc::Global;
 use std::test::Fail;
 
 /// The library of the classes that tests declare.

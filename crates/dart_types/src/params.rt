@@ -5,7 +5,7 @@ ghost use Rattle.dart_types.specs.Named.{AreInOrder, named_of, names_of};
 ghost use Rattle.dart_types.specs.NamedSearch.{StandsFrom, IsNotFrom};
 ghost use Rattle.dart_types.specs.Sub.{required_in};
 
-use crate::types::NamedType;
+use crate::types::{NamedType, NamedTypes};
 use plain_text::PlainText;
 
 /// The first place, from a place on, of a parameter of this name.
@@ -19,6 +19,16 @@ pub(crate) fn find_named(named: &[NamedType], from: usize, name: &PlainText) -> 
         }
     }
     None
+}
+
+impl NamedTypes {
+    /// Whether each parameter that is required here is required there. Each list is gone through once.
+    /// It takes no memory.
+    pub fn requires_no_more(&self, others: &NamedTypes) -> bool
+        ensures { result ≡ required_in (named_of self.now) (named_of others.now) }
+    {
+        requires_no_more(self.as_slice(), others.as_slice())
+    }
 }
 
 /// Whether each parameter that the first list requires is required by the second. Both are in the

@@ -2,7 +2,7 @@
 use Rattle.std.proofs.Common.{◌≡◌, ℕ, zero, suc, ◌+◌, ◌*◌, ◌<◌, ◌≤◌, Bool, true, false, List, [], ◌∷◌, length, get_or, Some, refl, ap, subst, cond, arith}
 use Rattle.std.specs.Prelude.{◌||◌, bytes_eq}
 use Rattle.dart_types.specs.Ty.{Ty, Types, Named, invalid, never, void, null, interface, function, variable, promoted, nullable, no_more, more, no_named, more_named, types_of}
-use Rattle.dart_types.specs.Named.{named_of}
+use Rattle.dart_types.specs.Named.{named_of, type_named}
 use Rattle.dart_types.specs.Node.{function_type}
 use Rattle.dart_types.specs.Tables.{Table}
 use Rattle.dart_types.specs.Measure.{weight, weights, weights_named, of_var, weight_of}
@@ -11,7 +11,6 @@ use Rattle.dart_types.specs.declared.types.FunctionType.{FunctionType}
 use Rattle.dart_types.specs.declared.types.NamedType.{NamedType}
 use Rattle.dart_types.specs.Marks.{is_marked}
 use Rattle.type_bounds.specs.Bounds.{bare_of}
-use Rattle.type_bounds.specs.Signatures.{type_named}
 use Rattle.type_bounds.proofs.NonNulls.{bare_weighs}
 
 -- the weight of the types of a list

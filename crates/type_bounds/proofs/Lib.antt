@@ -6,6 +6,7 @@ pub mod Supers
 pub mod OverRows
 pub mod ValidRows
 pub mod BoundLaws
+pub mod FormedBounds
 pub mod OneBound
 pub mod OverBounds
 pub mod ValidBounds

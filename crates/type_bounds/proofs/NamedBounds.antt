@@ -3,9 +3,10 @@ use Rattle.std.proofs.Common.{◌≡◌, ℕ, Bool, true, false, Some, None, Lis
 use Rattle.std.specs.Prelude.{◌&&◌, ◌||◌, bytes_eq}
 use Rattle.std.specs.Cmp.Lexicographic.{bytes_decides}
 use Rattle.dart_types.specs.Ty.{Ty, Named, no_named, more_named}
+use Rattle.dart_types.specs.Named.{has_name, type_named}
 use Rattle.dart_types.specs.Sub.{HasNamed, first, later, is_required}
 use Rattle.dart_types.proofs.SameIds.{both_true}
-use Rattle.type_bounds.specs.Signatures.{has_name, type_named, required_are_in}
+use Rattle.type_bounds.specs.Signatures.{required_are_in}
 
 pub or_true : (a b : Bool) {A : Type 0} → (a || b) ≡ true → (a ≡ true → A) → (b ≡ true → A) → A
 or_true true b h f g = f refl

@@ -3,13 +3,12 @@ use Rattle.std.proofs.Common.{◌≡◌, ℕ, ◌+◌, ◌<◌, ◌≤◌, Bool,
 use Rattle.std.proofs.lemmas.List.{drop_all}
 use Rattle.std.specs.Prelude.{◌&&◌, ◌||◌, bytes_eq}
 use Rattle.dart_types.specs.Ty.{Ty, Types, Named, no_more, more, no_named, more_named, types_of, join}
-use Rattle.dart_types.specs.Named.{named_of}
+use Rattle.dart_types.specs.Named.{named_of, type_named}
 use Rattle.dart_types.specs.Sub.{is_required}
 use Rattle.dart_types.specs.declared.types.NamedType.{NamedType}
 use Rattle.dart_types.specs.Tables.{Table}
 use Rattle.type_bounds.specs.NamedView.{join_named}
 use Rattle.type_bounds.specs.Bounds.{Upper, Uppers, no_upper, one_upper, UpperNamed, no_upper_name, upper_name, Lower, LowerParams, left_ends, right_ends, one_lower, LowerNamed, no_lower_name, lower_name, other_name}
-use Rattle.type_bounds.specs.Signatures.{type_named}
 
 -- from a place on: what stands there, and what is behind it
 types_from : (xs : List Ty) (i : ℕ) (x : Ty) → i < length xs → x ≡ get_or xs i x → types_of (drop i xs) ≡ more x (types_of (drop (i + 1) xs))

@@ -1,16 +1,16 @@
 -- The tests of signatures, over lists of parameters as the code keeps them.
 use Rattle.std.proofs.Common.{◌≡◌, ℕ, zero, suc, ◌<◌, get_or, Bool, true, false, nat_eq, nat_lt, List, [], ◌∷◌, length, Some, None, refl, sym, ◌∙◌, ap, cond, arith}
-use Rattle.std.specs.Prelude.{◌&&◌, ◌||◌, bytes_eq, find}
+use Rattle.std.specs.Prelude.{◌&&◌, bytes_eq, find}
 use Rattle.std.specs.Option.{option_map}
 use Rattle.std.proofs.lemmas.Bool.Decides.{nat_tests}
 use Rattle.dart_types.specs.Ty.{Ty, types_of, count}
-use Rattle.dart_types.specs.Named.{named_of}
+use Rattle.dart_types.specs.Named.{named_of, type_named}
 use Rattle.dart_types.specs.declared.types.FunctionType.{FunctionType}
 use Rattle.dart_types.specs.declared.types.NamedType.{NamedType}
 use Rattle.dart_types.proofs.RowTests.{count-types_of}
 use Rattle.dart_types.proofs.SameIds.{both_true, nat_from_test, nat_eq-refl}
 use Rattle.dart_types.proofs.Searches.{not_true}
-use Rattle.type_bounds.specs.Signatures.{has_name, type_named, same_names, some_type, some_named, have_lower}
+use Rattle.type_bounds.specs.Signatures.{same_names, some_type, some_named, have_lower}
 
 -- the type of a name is that of the parameter that is found
 type_found : (ns : List NamedType) (m : List ℕ) → type_named (named_of ns) m ≡ option_map (λ n. n.ty) (find (λ n. bytes_eq n.name m) ns)
@@ -26,23 +26,6 @@ type_none ns m e = type_found ns m ∙ ap (option_map (λ n. n.ty)) e
 
 pub type_some : (ns : List NamedType) (m : List ℕ) (u : NamedType) → find (λ n. bytes_eq n.name m) ns ≡ Some u → type_named (named_of ns) m ≡ Some u.ty
 type_some ns m u e = type_found ns m ∙ ap (option_map (λ n. n.ty)) e
-
--- a name is in the list where a parameter is found
-pub has_none : (ns : List NamedType) (m : List ℕ) → find (λ n. bytes_eq n.name m) ns ≡ None → has_name (named_of ns) m ≡ false
-has_none [] m e = refl
-has_none (n ∷ ns) m e = at (bytes_eq n.name m) e (λ k. has_none ns m k)
-  where
-    at : (b : Bool) → cond b (Some n) (find (λ n. bytes_eq n.name m) ns) ≡ None → (find (λ n. bytes_eq n.name m) ns ≡ None → has_name (named_of ns) m ≡ false) → (b || has_name (named_of ns) m) ≡ false
-    at true f go = cc
-    at false f go = go f
-
-pub has_some : (ns : List NamedType) (m : List ℕ) (u : NamedType) → find (λ n. bytes_eq n.name m) ns ≡ Some u → has_name (named_of ns) m ≡ true
-has_some [] m u e = cc
-has_some (n ∷ ns) m u e = at (bytes_eq n.name m) e (λ k. has_some ns m u k)
-  where
-    at : (b : Bool) → cond b (Some n) (find (λ n. bytes_eq n.name m) ns) ≡ Some u → (find (λ n. bytes_eq n.name m) ns ≡ Some u → has_name (named_of ns) m ≡ true) → (b || has_name (named_of ns) m) ≡ true
-    at true f go = refl
-    at false f go = go f
 
 -- lists of other lengths have other names
 pub same_length : (ns ms : List NamedType) → same_names (named_of ns) (named_of ms) ≡ true → length ns ≡ length ms

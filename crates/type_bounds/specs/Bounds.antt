@@ -1,6 +1,7 @@
 -- Upper and lower bounds, the "standard upper bounds and standard lower bounds" of Dart: a constructor is a form that a row of the tables speaks of, and the first row that fits is taken.
 use Rattle.std.specs.Prelude.{◌≡◌, ◌≢◌, ℕ, Bool, true, false, ◌&&◌, ◌||◌, List, Some, None, bytes_eq}
 use Rattle.dart_types.specs.Ty.{Ty, Types, Named, invalid, never, void, null, interface, function, variable, promoted, nullable, no_more, more, no_named, more_named, count}
+use Rattle.dart_types.specs.Named.{type_named}
 use Rattle.dart_types.specs.Heads.{object}
 use Rattle.dart_types.specs.Marks.{is_marked}
 use Rattle.dart_types.specs.Normal.{nullable_of}
@@ -12,7 +13,7 @@ use Rattle.dart_types.specs.WellFormed.{HasArguments}
 use Rattle.dart_types.specs.declared.ids.ClassId.{ClassId}
 use Rattle.dart_types.specs.declared.ids.VarId.{VarId}
 use Rattle.dart_types.specs.declared.ids.TheConstants.{FUNCTION}
-use Rattle.type_bounds.specs.Signatures.{type_named, have_upper, have_lower}
+use Rattle.type_bounds.specs.Signatures.{have_upper, have_lower}
 use Rattle.type_bounds.specs.Common.{IsDeepest}
 
 -- neither is a subtype of the other

@@ -1,16 +1,7 @@
 -- Which function types have a bound that is a function type.
-use Rattle.std.specs.Prelude.{ℕ, Bool, true, false, ◌&&◌, ◌||◌, not, nat_eq, List, bytes_eq, Option, Some, None, if◌then◌else◌}
-use Rattle.dart_types.specs.Ty.{Ty, Types, Named, no_more, more, no_named, more_named, count}
-
--- the list has a named parameter of this name
-abbrev pub has_name : Named → List ℕ → Bool
-has_name no_named m = false
-has_name (more_named n r t rest) m = bytes_eq n m || has_name rest m
-
--- the type of the list's first parameter of this name, if it has one
-abbrev pub type_named : Named → List ℕ → Option Ty
-type_named no_named m = None
-type_named (more_named n r t rest) m = if bytes_eq n m then Some t else type_named rest m
+use Rattle.std.specs.Prelude.{Bool, true, false, ◌&&◌, ◌||◌, not, nat_eq, bytes_eq, if◌then◌else◌}
+use Rattle.dart_types.specs.Ty.{Types, Named, no_more, more, no_named, more_named, count}
+use Rattle.dart_types.specs.Named.{has_name}
 
 -- each name that the first list requires is in the second
 abbrev pub required_are_in : Named → Named → Bool

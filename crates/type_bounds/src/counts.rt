@@ -1,6 +1,5 @@
 //! How many types stand in a type that isn't formed yet.
 
-ghost use Rattle.std.specs.Prelude.{◌≡◌};
 ghost use Rattle.dart_types.specs.Ty.{Ty, never};
 ghost use Rattle.dart_types.specs.Normal.{nullable_of};
 ghost use Rattle.type_bounds.specs.Counts.{Counts};

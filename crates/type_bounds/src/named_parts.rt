@@ -1,6 +1,6 @@
 //! Named parameters that are formed as far as they aren't too large.
 
-ghost use Rattle.std.specs.Prelude.{◌≡◌, IfOk};
+ghost use Rattle.std.specs.Prelude.{IfOk};
 ghost use Rattle.dart_types.specs.Ty.{Ty, Named, no_named, more_named};
 ghost use Rattle.type_bounds.specs.PartsView.{IsPart};
 ghost use Rattle.type_bounds.specs.NamedView.{AreNamedParts, AreBefore, join_named};

@@ -1,6 +1,6 @@
 //! Types that are formed as far as they aren't too large.
 
-ghost use Rattle.std.specs.Prelude.{◌≡◌, ◌≤◌, IfOk};
+ghost use Rattle.std.specs.Prelude.{◌≤◌, IfOk};
 ghost use Rattle.dart_types.specs.Ty.{Ty, Types, invalid, never, variable, interface, no_more, more, join};
 ghost use Rattle.dart_types.specs.Sizes.{size_of};
 ghost use Rattle.dart_types.specs.Normal.{nullable_of};

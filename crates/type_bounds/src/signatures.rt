@@ -3,7 +3,7 @@
 ghost use Rattle.std.specs.Prelude.{◌≡◌, bytes_eq};
 ghost use Rattle.dart_types.specs.Ty.{types_of};
 ghost use Rattle.dart_types.specs.Named.{named_of};
-ghost use Rattle.type_bounds.specs.Signatures.{has_name, required_are_in, same_names, some_type, some_named, have_upper, have_lower};
+ghost use Rattle.type_bounds.specs.Signatures.{required_are_in, same_names, some_type, some_named, have_upper, have_lower};
 
 use dart_types::{FunctionType, NamedType, NamedTypes, TypeList};
 use plain_text::PlainText;
@@ -15,23 +15,13 @@ fn is_named(named: &NamedType, name: &PlainText) -> bool
     named.name.as_str() == name.as_str()
 }
 
-// Whether there is a parameter of this name.
-fn has_name(named: &NamedTypes, name: &PlainText) -> bool
-    ensures { result ≡ has_name (named_of named.now) name.now }
-{
-    match named.get(name) {
-        None => false,
-        Some(_) => true,
-    }
-}
-
 // Whether each name that the first list requires is in the second.
 fn required_are_in(named: &[NamedType], others: &NamedTypes) -> bool
     ensures { result ≡ required_are_in (named_of named.now) (named_of others.now) }
 {
     for i in 0..named.len() {
         if named[i].required {
-            if !has_name(others, &named[i].name) {
+            if !others.has_name(&named[i].name) {
                 return false;
             }
         }

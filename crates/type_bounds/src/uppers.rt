@@ -8,11 +8,13 @@ ghost use Rattle.dart_types.specs.Ty.{interface, types_of};
 ghost use Rattle.dart_types.specs.Named.{named_of, names_of, AreInOrder};
 ghost use Rattle.dart_types.specs.Marks.{is_marked};
 ghost use Rattle.dart_types.specs.Node.{function_type};
+ghost use Rattle.dart_types.specs.Sub.{Sub};
 ghost use Rattle.type_bounds.specs.Bounds.{Upper, UpperApart, Uppers, UpperNamed, Lower, LowerApart, LowerParams, LowerNamed, AreApart, is_settled};
 ghost use Rattle.type_bounds.specs.Signatures.{have_upper, have_lower, same_names};
 ghost use Rattle.type_bounds.specs.FormsSome.{FormsSome};
 ghost use Rattle.type_bounds.specs.PartsView.{IsSomePart, AreSomeParts};
 ghost use Rattle.type_bounds.specs.NamedView.{AreSomeNamed};
+ghost use Rattle.type_bounds.specs.Valid.{IsValid};
 
 use crate::function_parts::function_part;
 use crate::meetings::{End, meet};
@@ -28,29 +30,31 @@ use dart_types::{
 use std::alloc::{AllocError, Global};
 
 /// The upper bound of two types, by the rows of its table: `Invalid` where the table has no row for
-/// them, as for a variable without a bound. It is refused exactly where more than `NODE_LIMIT` types
-/// would stand in it.
+/// them, as for a variable without a bound. Where it holds no `Invalid` it is a supertype of both. It is
+/// refused exactly where more than `NODE_LIMIT` types would stand in it.
 pub fn upper(
     alloc: Global,
     rows: &Rows,
     s: &DartType,
     t: &DartType,
 ) -> Result<DartType, TypeRefusal>
-    ensures { FormsSome (Upper rows.now.table s.now t.now) result }
+    ensures forms { FormsSome (Upper rows.now.table s.now t.now) result }
+    ensures above { IfOk result (λ bound. IsValid bound → Sub rows.now.table s.now bound × Sub rows.now.table t.now bound) }
 {
     let part = upper_part(alloc, rows, s, t)?;
     part.finish()
 }
 
-/// The lower bound of two types, by the rows of its table. It is refused exactly where more than
-/// `NODE_LIMIT` types would stand in it.
+/// The lower bound of two types, by the rows of its table. Where it holds no `Invalid` it is a subtype
+/// of both. It is refused exactly where more than `NODE_LIMIT` types would stand in it.
 pub fn lower(
     alloc: Global,
     rows: &Rows,
     s: &DartType,
     t: &DartType,
 ) -> Result<DartType, TypeRefusal>
-    ensures { FormsSome (Lower rows.now.table s.now t.now) result }
+    ensures forms { FormsSome (Lower rows.now.table s.now t.now) result }
+    ensures below { IfOk result (λ bound. IsValid bound → Sub rows.now.table bound s.now × Sub rows.now.table bound t.now) }
 {
     let part = lower_part(alloc, rows, s, t)?;
     part.finish()

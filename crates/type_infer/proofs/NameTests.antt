@@ -1,12 +1,12 @@
 -- Names and numbers of parameters, as the code goes through them.
-use Rattle.std.proofs.Common.{◌≡◌, ℕ, ◌+◌, ◌<◌, ◌≤◌, ◌++◌, Bool, true, false, List, [], ◌∷◌, length, drop, get_or, cond, None, Some, refl, sym, ◌∙◌, ap, drop-cons, add-one, arith, nat_le}
-use Rattle.std.specs.Prelude.{◌&&◌, ◌||◌, bytes_eq, find}
+use Rattle.std.proofs.Common.{◌≡◌, ℕ, ◌+◌, ◌<◌, ◌≤◌, ◌++◌, Bool, true, false, List, [], ◌∷◌, length, drop, get_or, refl, sym, ◌∙◌, ap, drop-cons, add-one, arith, nat_le}
+use Rattle.std.specs.Prelude.{◌&&◌}
 use Rattle.std.proofs.lemmas.Bool.Decides.{nat_tests}
 use Rattle.dart_types.specs.Ty.{Ty, more, count, join, types_of}
-use Rattle.dart_types.specs.Named.{named_of}
-use Rattle.dart_types.specs.Sub.{is_required, required_in}
+use Rattle.dart_types.specs.Named.{named_of, has_name}
+use Rattle.dart_types.specs.Sub.{required_in}
 use Rattle.dart_types.specs.declared.types.NamedType.{NamedType}
-use Rattle.type_bounds.specs.Signatures.{has_name}
+use Rattle.dart_types.proofs.RowTests.{count-types_of}
 use Rattle.type_infer.specs.Pairs.{names_are_in, takes_calls_of}
 
 -- a test that a part of the list fails, or leaves to the rest
@@ -15,15 +15,6 @@ fails_here here test rest e f w = sym (ap (λ (b : Bool). b && rest) f) ∙ sym 
 
 rest_decides : (here test rest : Bool) {whole : Bool} → here ≡ (test && rest) → test ≡ true → here ≡ whole → rest ≡ whole
 rest_decides here test rest e f w = sym (ap (λ (b : Bool). b && rest) f) ∙ sym e ∙ w
-
--- no parameter of a name is required where none is found
-pub required_none : (ns : List NamedType) (m : List ℕ) → find (λ n. bytes_eq n.name m) ns ≡ None → is_required (named_of ns) m ≡ false
-required_none [] m e = refl
-required_none (n ∷ ns) m e = at (bytes_eq n.name m) e (λ k. required_none ns m k)
-  where
-    at : (b : Bool) → cond b (Some n) (find (λ n. bytes_eq n.name m) ns) ≡ None → (find (λ n. bytes_eq n.name m) ns ≡ None → is_required (named_of ns) m ≡ false) → ((b && n.required) || is_required (named_of ns) m) ≡ false
-    at true f go = cc
-    at false f go = go f
 
 module _ (ns ms : List NamedType) (i : ℕ) (n : NamedType) (lt : i < length ns) (is : n ≡ get_or ns i n) where
   from_here : drop i ns ≡ n ∷ drop (i + 1) ns
@@ -42,40 +33,7 @@ module _ (ns ms : List NamedType) (i : ℕ) (n : NamedType) (lt : i < length ns)
   pub name_found : (b : Bool) → b ≡ has_name (named_of ms) n.name → b ≡ true → In (drop i ns) ≡ In ns → In (drop (i + 1) ns) ≡ In ns
   name_found b k f = rest_decides (In (drop i ns)) (has_name (named_of ms) n.name) (In (drop (i + 1) ns)) name_step (sym k ∙ f)
 
-  -- whether those that the names from a place on require are required by another list
-  abbrev Required : List NamedType → Bool
-  Required xs = required_in (named_of xs) (named_of ms)
-
-  required_step : Required (drop i ns) ≡ (cond n.required (is_required (named_of ms) n.name) true && Required (drop (i + 1) ns))
-  required_step = ap Required from_here
-
-  asked : (r b : Bool) → r ≡ true → b ≡ false → cond r b true ≡ false
-  asked r b e f = rw (e, f) refl
-
-  pub required_alone : (b : Bool) → n.required ≡ true → b ≡ is_required (named_of ms) n.name → b ≡ false → Required (drop i ns) ≡ Required ns → false ≡ Required ns
-  required_alone b r k f =
-      fails_here (Required (drop i ns)) (cond n.required (is_required (named_of ms) n.name) true) (Required (drop (i + 1) ns)) required_step
-      (asked n.required (is_required (named_of ms) n.name) r (sym k ∙ f))
-
-  granted : (r b : Bool) → b ≡ true → cond r b true ≡ true
-  granted true b e = e
-  granted false b e = refl
-
-  pub required_too : (b : Bool) → b ≡ is_required (named_of ms) n.name → b ≡ true → Required (drop i ns) ≡ Required ns → Required (drop (i + 1) ns) ≡ Required ns
-  required_too b k f =
-      rest_decides (Required (drop i ns)) (cond n.required (is_required (named_of ms) n.name) true) (Required (drop (i + 1) ns)) required_step
-      (granted n.required (is_required (named_of ms) n.name) (sym k ∙ f))
-
-  pub not_required : n.required ≡ false → Required (drop i ns) ≡ Required ns → Required (drop (i + 1) ns) ≡ Required ns
-  not_required r =
-      rest_decides (Required (drop i ns)) (cond n.required (is_required (named_of ms) n.name) true) (Required (drop (i + 1) ns)) required_step
-      (ap (λ (b : Bool). cond b (is_required (named_of ms) n.name) true) r)
-
 -- the numbers of positional parameters
-pub count-types_of : (ts : List Ty) → count (types_of ts) ≡ length ts
-count-types_of [] = refl
-count-types_of (t ∷ ts) = omega (arith, count-types_of ts)
-
 pub join-types_of : (ts us : List Ty) → join (types_of ts) (types_of us) ≡ types_of (ts ++ us)
 join-types_of [] us = refl
 join-types_of (t ∷ ts) us = ap (more t) (join-types_of ts us)

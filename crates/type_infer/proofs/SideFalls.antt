@@ -4,7 +4,7 @@ use Rattle.std.specs.Prelude.{bytes_eq, find}
 use Rattle.std.specs.Option.{option_map}
 use Rattle.std.specs.Cmp.Lexicographic.{bytes_decides}
 use Rattle.dart_types.specs.Ty.{Ty, Types, Named, invalid, never, void, null, interface, function, variable, promoted, nullable, no_more, more, no_named, more_named, types_of, join}
-use Rattle.dart_types.specs.Named.{named_of}
+use Rattle.dart_types.specs.Named.{named_of, type_named}
 use Rattle.dart_types.specs.Heads.{is_plain}
 use Rattle.dart_types.specs.Node.{function_type}
 use Rattle.dart_types.specs.Forms.{params_of}
@@ -22,7 +22,6 @@ use Rattle.dart_types.proofs.Climb.{superinterface_simple, climb_falls}
 use Rattle.dart_types.proofs.MeasureFalls.{not_above, right_bare_falls, left_bare_falls, left_promoted_falls, bound_falls}
 use Rattle.dart_types.proofs.MeasureParts.{HasType, at_first, at_later, arguments_fall, params_fall, names_fall, results_fall}
 use Rattle.type_bounds.specs.Common.{IsAbove}
-use Rattle.type_bounds.specs.Signatures.{type_named}
 use Rattle.type_infer.specs.Constraints.{opposite}
 use Rattle.type_infer.specs.Pairs.{Pair, paired, paired_with, paired_by_name}
 use Rattle.type_infer.specs.Matching.{gives_way_at_mark}

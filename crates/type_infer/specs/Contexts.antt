@@ -11,7 +11,6 @@ use Rattle.type_infer.specs.Pairs.{Pair}
 use Rattle.type_infer.specs.Solutions.{Solution, IsFree}
 use Rattle.type_infer.specs.Inference.{Gathered}
 use Rattle.type_infer.specs.declared.constraints.Constraint.{Constraint}
-use Rattle.type_infer.specs.declared.contexts.Context.{Context}
 use Rattle.type_infer.specs.declared.contexts.TheConstants.{OPEN_PARAMETER}
 use Rattle.type_infer.specs.declared.refusal.InferRefusal.{InferRefusal}
 use Rattle.type_infer.specs.declared.refusal.InferRefusal.TheVariants.{NoSolution, Unconstrained, TooLarge, Memory}
@@ -33,8 +32,8 @@ pub data ContextOf (table : Table) (params : List VarId) (pairs : List Pair) (fo
   large_match : {nodes : ℕ} → Gathered table params pairs (Err nodes) → ContextOf table params pairs formal (Err nodes)
 
 -- what a call that forms a context answers: never that a parameter has no argument; only want of memory is free
-abbrev pub FormsContext : Table → List VarId → List Pair → Ty → Result Context InferRefusal → Type 0
-FormsContext table params pairs formal (Ok context) = ContextOf table params pairs formal (Ok context.ty)
+abbrev pub FormsContext : Table → List VarId → List Pair → Ty → Result Ty InferRefusal → Type 0
+FormsContext table params pairs formal (Ok context) = ContextOf table params pairs formal (Ok context)
 FormsContext table params pairs formal (Err (NoSolution x)) = ⊥
 FormsContext table params pairs formal (Err (Unconstrained x)) = ⊥
 FormsContext table params pairs formal (Err (TooLarge nodes)) = ContextOf table params pairs formal (Err nodes)

@@ -15,15 +15,14 @@ use Rattle.type_infer.specs.Matching.{End, matched, mismatched, too_large, Match
 use Rattle.type_infer.specs.Solutions.{Solution, IsFree}
 use Rattle.type_infer.specs.declared.constraints.Constraint.{Constraint}
 use Rattle.type_infer.specs.declared.constraints.Side.TheVariants.{AtLeast, AtMost}
-use Rattle.type_infer.specs.declared.contexts.Context.{Context}
 use Rattle.type_infer.specs.declared.contexts.Call.{Call}
 use Rattle.type_infer.specs.declared.refusal.InferRefusal.{InferRefusal}
 use Rattle.type_infer.specs.declared.refusal.InferRefusal.TheVariants.{NoSolution, Unconstrained, TooLarge}
 
 -- the result of a call against its context, if it has one: it is to be a subtype
-abbrev pub context_pair : Ty → Option Context → List Pair
+abbrev pub context_pair : Ty → Option Ty → List Pair
 context_pair result None = []
-context_pair result (Some context) = pair AtMost result context.ty ∷ []
+context_pair result (Some context) = pair AtMost result context ∷ []
 
 -- what is matched in a call with these arguments, in this order: the result, then each formal, which is to be a supertype of the type of its argument
 abbrev pub pairs_of : Call → List Ty → List Pair

@@ -1,5 +1,5 @@
 -- Which types are open: the mark of an open type parameter stands in them.
-use Rattle.std.specs.Prelude.{Bool, true, false, ◌||◌}
+use Rattle.std.specs.Prelude.{Bool, false, ◌||◌}
 use Rattle.dart_types.specs.Ty.{Ty, Types, Named, invalid, never, void, null, interface, function, variable, promoted, nullable, no_more, more, no_named, more_named}
 use Rattle.dart_types.specs.Same.{same_var}
 use Rattle.type_infer.specs.declared.contexts.TheConstants.{OPEN_PARAMETER}

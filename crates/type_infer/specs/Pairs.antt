@@ -1,8 +1,8 @@
 -- Types that are matched with each other.
 use Rattle.std.specs.Prelude.{Bool, true, ◌&&◌, nat_le, List, [], ◌∷◌, ◌++◌, Option, None, Some}
 use Rattle.dart_types.specs.Ty.{Ty, Types, Named, no_more, more, no_named, more_named, count, join}
+use Rattle.dart_types.specs.Named.{has_name, type_named}
 use Rattle.dart_types.specs.Sub.{required_in}
-use Rattle.type_bounds.specs.Signatures.{has_name, type_named}
 use Rattle.type_infer.specs.Constraints.{opposite}
 use Rattle.type_infer.specs.declared.constraints.Side.{Side}
 use Rattle.type_infer.specs.declared.constraints.Side.TheVariants.{AtLeast, AtMost}

@@ -14,9 +14,10 @@ use crate::solving::solution;
 use crate::var_types::push_pair;
 use dart_types::{DartType, LibId, Rows, TypeNode, TypeRefusal, VarId, substitute};
 use std::alloc::{AllocError, Global};
+use std::marker::Model;
 
-/// What stands in a context for each type parameter that is open. It has the number of no library, so
-/// it stands in no type of a program.
+/// What stands in a context for each type parameter that is open. Its library's number is for it
+/// alone: no library is to have it, so that it stands in no type of a program.
 pub const OPEN_PARAMETER: VarId = VarId {
     lib: LibId(18_446_744_073_709_551_615),
     index: 4_294_967_295,
@@ -30,10 +31,22 @@ pub struct Context {
     ty: DartType,
 }
 
+impl Model for Context {
+    ghost use Rattle.dart_types.specs.Ty.{Ty};
+    ghost use Rattle.dart_types.specs.TyCode.{type_code};
+
+    ghost Value = { Ty };
+
+    ghost coded = { type_code };
+
+    ghost view = { λ c. c.ty };
+}
+
 impl Context {
-    /// The context of a type of a program, in which nothing is open.
+    /// The context of a type of a program: that type. Nothing is open in it, as `OPEN_PARAMETER` stands
+    /// in no such type.
     pub fn of(alloc: Global, t: &DartType) -> Result<Context, AllocError>
-        ensures { IfOk result (λ context. context.ty ≡ t.now) }
+        ensures { IfOk result (λ context. context ≡ t.now) }
     {
         let ty = t.copy(alloc)?;
         Ok(Context { ty })
@@ -41,7 +54,7 @@ impl Context {
 
     /// The type, with `OPEN_PARAMETER` for each type parameter that is open.
     pub fn as_type(&self) -> &DartType
-        ensures { result.now ≡ self.now.ty }
+        ensures { result.now ≡ self.now }
     {
         &self.ty
     }

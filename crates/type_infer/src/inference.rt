@@ -23,8 +23,9 @@ use std::alloc::Global;
 ///
 /// `NoSolution` comes for the first parameter without an argument where it has a solution, but not
 /// within its bound, and `Unconstrained` where nothing constrains it; `TooLarge` where a type on the
-/// way has too many nodes. A type that holds `Invalid` constrains nothing. So a refusal may come of a
-/// part that a diagnostic left open, and is not one to be told then.
+/// way has too many nodes. `Invalid` constrains as any type does. So an argument, or a refusal, may
+/// come of a part that a diagnostic left open, and a refusal is not one to be told then. A type in
+/// which `OPEN_PARAMETER` stands constrains nothing.
 pub fn infer_arguments(
     alloc: Global,
     rows: &Rows,

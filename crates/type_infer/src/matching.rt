@@ -15,7 +15,7 @@ use crate::climbs::{arguments_of, form_above};
 use crate::constraints::{Constraint, Side};
 use crate::holding::holds_param;
 use crate::openness::is_open;
-use crate::signatures::{count_params, find_named, param_at, signatures_fit};
+use crate::signatures::{count_params, param_at, signatures_fit};
 use crate::ways::{standing, standing_at_mark};
 use dart_types::{
     ClassId, DartType, FunctionType, NamedType, NamedTypes, Rows, TypeList, TypeNode, TypeRefusal,
@@ -309,7 +309,7 @@ impl<'a> Matcher<'a> {
         ensures { Finds (MatchAll self.now.rows.now.table self.now.params.now (paired_by_name side (named_of formals.now) (named_of others.now))) found.old.items found.new.items result }
     {
         for formal in formals {
-            let other = match find_named(others, formal) {
+            let other = match others.get(&formal.name) {
                 None => continue,
                 Some(other) => other,
             };

@@ -1,12 +1,9 @@
 //! Which function types can be subtypes, as far as the numbers and the names of parameters tell.
 
-ghost use Rattle.std.specs.Prelude.{◌≡◌, ◌<◌, find, length, slice_index_or, bytes_eq};
-ghost use Rattle.std.specs.Option.{option_copied};
+ghost use Rattle.std.specs.Prelude.{◌≡◌, ◌<◌, length, slice_index_or};
 ghost use Rattle.dart_types.specs.Ty.{types_of, invalid};
 ghost use Rattle.dart_types.specs.Named.{named_of};
 ghost use Rattle.dart_types.specs.Forms.{params_of};
-ghost use Rattle.dart_types.specs.Sub.{is_required, required_in};
-ghost use Rattle.type_bounds.specs.Signatures.{has_name};
 ghost use Rattle.type_infer.specs.Pairs.{names_are_in, takes_calls_of, signatures_fit};
 
 use crate::constraints::Side;
@@ -32,51 +29,12 @@ pub(crate) fn param_at(function: &FunctionType, at: usize) -> &DartType
     &optional[at - required.len()]
 }
 
-/// The parameter that has the name of another, if there is one.
-pub(crate) fn find_named<'a>(named: &'a NamedTypes, like: &NamedType) -> Option<&'a NamedType>
-    ensures { option_copied result ≡ find (λ n. bytes_eq n.name like.now.name) named.now }
-{
-    named.get(&like.name)
-}
-
-// Whether a parameter has the name of another.
-fn has_name(named: &NamedTypes, like: &NamedType) -> bool
-    ensures { result ≡ has_name (named_of named.now) like.now.name }
-{
-    match named.get(&like.name) {
-        None => false,
-        Some(_) => true,
-    }
-}
-
-// Whether one does that is required.
-fn is_required(named: &NamedTypes, like: &NamedType) -> bool
-    ensures { result ≡ is_required (named_of named.now) like.now.name }
-{
-    match named.get(&like.name) {
-        None => false,
-        Some(found) => found.required,
-    }
-}
-
 // Whether each name of the first list is in the second.
 fn names_are_in(named: &[NamedType], others: &NamedTypes) -> bool
     ensures { result ≡ names_are_in (named_of named.now) (named_of others.now) }
 {
     for item in named {
-        if !has_name(others, item) {
-            return false;
-        }
-    }
-    true
-}
-
-// Whether each parameter that the first list requires is required by the second.
-fn requires_no_more(named: &[NamedType], others: &NamedTypes) -> bool
-    ensures { result ≡ required_in (named_of named.now) (named_of others.now) }
-{
-    for item in named {
-        if item.required && !is_required(others, item) {
+        if !others.has_name(&item.name) {
             return false;
         }
     }
@@ -93,12 +51,11 @@ fn takes_calls_of(function: &FunctionType, other: &FunctionType) -> bool
     if count_params(other) > count_params(function) {
         return false;
     }
-    let named = function.named.as_slice();
     let others = other.named.as_slice();
     if !names_are_in(others, &function.named) {
         return false;
     }
-    requires_no_more(named, &other.named)
+    function.named.requires_no_more(&other.named)
 }
 
 /// Whether a formal that is a function type can be a supertype, or a subtype, of another.

@@ -2,7 +2,7 @@ use Rattle.std.proofs.Common.{◌≡◌, List, length, refl, sym, ◌∙◌, ap}
 use Rattle.dart_types.specs.Ty.{Ty, count, types_of}
 use Rattle.dart_types.specs.declared.ids.VarId.{VarId}
 use Rattle.type_infer.specs.Above.{FormsAbove}
-use Rattle.type_infer.proofs.NameTests.{count-types_of}
+use Rattle.dart_types.proofs.RowTests.{count-types_of}
 use Rattle.type_infer.proofs.Refusing.{at_refusal}
 use Rattle.type_infer.proofs.AboveSteps.{other_number, none_only, formed_above, refused_above}
 use Rattle.type_infer.proofs.climbs.form_above.Goals as goal

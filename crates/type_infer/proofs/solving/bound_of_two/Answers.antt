@@ -6,8 +6,8 @@ use Rattle.type_infer.proofs.solving.bound_of_two.Goals as goal
 
 pub returns-in-AtLeast : goal.returns-in-AtLeast
 returns-in-AtLeast c =
-    subst (λ (side : Side). FormsSome (bound_on side c.args.rows.now.table c.args.s.now c.args.t.now) c.upper.result) (sym c.in-AtLeast.is) c.upper.ensures
+    subst (λ (side : Side). FormsSome (bound_on side c.args.rows.now.table c.args.s.now c.args.t.now) c.upper.result) (sym c.in-AtLeast.is) c.upper.ensures.forms
 
 pub returns-in-AtMost : goal.returns-in-AtMost
 returns-in-AtMost c =
-    subst (λ (side : Side). FormsSome (bound_on side c.args.rows.now.table c.args.s.now c.args.t.now) c.lower.result) (sym c.in-AtMost.is) c.lower.ensures
+    subst (λ (side : Side). FormsSome (bound_on side c.args.rows.now.table c.args.s.now c.args.t.now) c.lower.result) (sym c.in-AtMost.is) c.lower.ensures.forms

@@ -1,4 +1,4 @@
-use Rattle.std.proofs.Common.{◌≡◌, Option, Some, None, false, sym, ◌∙◌, ap, subst}
+use Rattle.std.proofs.Common.{◌≡◌, Some, None, false, sym, ◌∙◌, ap, subst}
 use Rattle.dart_types.specs.Ty.{Ty, nullable}
 use Rattle.dart_types.specs.Marks.{is_marked}
 use Rattle.dart_types.specs.Node.{type_of}

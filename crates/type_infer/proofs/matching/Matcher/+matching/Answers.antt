@@ -361,7 +361,7 @@ match_params-returns t c =
 pub match_named-match_part-requires : goal.match_named-match_part-requires
 match_named-match_part-requires t c =
     let m = c.args.self.now in
-    let below = name_below m.rows.now.table c.args.side c.args.formals.now c.args.others.now c.loop-formal.formal-index c.formal-item.result c.in-Some.other.now c.loop-formal-test.true c.formal-item.is (sym c.in-Some.ensures) in
+    let below = name_below m.rows.now.table c.args.side c.args.formals.now c.args.others.now c.loop-formal.formal-index c.formal-item.result c.in-Some.other.now c.loop-formal-test.true c.formal-item.is (sym c.in-Some.ensures.found) in
     (omega (arith, below, c.decreases), tt)
 
 pub match_named-returns-in_err-match_part : goal.match_named-returns-in_err-match_part
@@ -376,7 +376,7 @@ match_named-returns-in_err-match_part t c =
     let after = c.match_part.new.found.items in
     let refused = c.in_err-match_part.field-0.0 in
     at_refusal (Finds (MatchAll m.rows.now.table m.params.now (paired_by_name c.args.side (named_of ns) (named_of ms))) before after) c.from_residual.result refused c.from_residual.ensures.1
-    (refused_name m.rows.now.table m.params.now c.args.side ns ms before now i n c.loop-formal-test.true c.formal-item.is c.loop-formal.invariant (Some c.in-Some.other.now) (sym c.in-Some.ensures) after after refused c.in_err-match_part.ensures)
+    (refused_name m.rows.now.table m.params.now c.args.side ns ms before now i n c.loop-formal-test.true c.formal-item.is c.loop-formal.invariant (Some c.in-Some.other.now) (sym c.in-Some.ensures.found) after after refused c.in_err-match_part.ensures)
 
 pub match_named-returns-then-not-branch : goal.match_named-returns-then-not-branch
 match_named-returns-then-not-branch t c =
@@ -388,7 +388,7 @@ match_named-returns-then-not-branch t c =
     let before = c.args.found.now.items in
     let now = c.loop-formal.found.items in
     let after = c.match_part.new.found.items in
-    ended_name m.rows.now.table m.params.now c.args.side ns ms before now i n c.loop-formal-test.true c.formal-item.is c.loop-formal.invariant (Some c.in-Some.other.now) (sym c.in-Some.ensures) after c.in_ok-match_part.field-0 c.in_ok-match_part.ensures c.if-not-branch.true
+    ended_name m.rows.now.table m.params.now c.args.side ns ms before now i n c.loop-formal-test.true c.formal-item.is c.loop-formal.invariant (Some c.in-Some.other.now) (sym c.in-Some.ensures.found) after c.in_ok-match_part.field-0 c.in_ok-match_part.ensures c.if-not-branch.true
 
 pub match_named-loop-formal-preserved-in-None : goal.match_named-loop-formal-preserved-in-None
 match_named-loop-formal-preserved-in-None t c =
@@ -399,7 +399,7 @@ match_named-loop-formal-preserved-in-None t c =
     let n = c.formal-item.result in
     let before = c.args.found.now.items in
     let now = c.loop-formal.found.items in
-    other_name m.rows.now.table m.params.now c.args.side ns ms before now i n c.loop-formal-test.true c.formal-item.is c.loop-formal.invariant (sym c.in-None.ensures)
+    other_name m.rows.now.table m.params.now c.args.side ns ms before now i n c.loop-formal-test.true c.formal-item.is c.loop-formal.invariant (sym c.in-None.ensures.found)
 
 pub match_named-loop-formal-preserved : goal.match_named-loop-formal-preserved
 match_named-loop-formal-preserved t c =
@@ -410,7 +410,7 @@ match_named-loop-formal-preserved t c =
     let n = c.formal-item.result in
     let before = c.args.found.now.items in
     let now = c.loop-formal.found.items in
-    passed_name m.rows.now.table m.params.now c.args.side ns ms before now i n c.loop-formal-test.true c.formal-item.is c.loop-formal.invariant (Some c.in-Some.other.now) (sym c.in-Some.ensures) c.match_part.new.found.items c.in_ok-match_part.field-0 c.in_ok-match_part.ensures c.if-not-branch.false
+    passed_name m.rows.now.table m.params.now c.args.side ns ms before now i n c.loop-formal-test.true c.formal-item.is c.loop-formal.invariant (Some c.in-Some.other.now) (sym c.in-Some.ensures.found) c.match_part.new.found.items c.in_ok-match_part.field-0 c.in_ok-match_part.ensures c.if-not-branch.false
 
 pub match_named-returns : goal.match_named-returns
 match_named-returns t c =

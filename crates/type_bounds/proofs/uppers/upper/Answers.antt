@@ -1,0 +1,6 @@
+use Rattle.type_bounds.proofs.FormedBounds.{upper_formed}
+use Rattle.type_bounds.proofs.uppers.upper.Goals as goal
+
+pub returns-clause-above : goal.returns-clause-above
+returns-clause-above c =
+    upper_formed c.args.rows.now.table c.args.rows.now.formed c.finish.result c.in_ok-part.ensures.1 (c.finish.ensures c.in_ok-part.ensures.0 c.in_ok-part.ensures.2)
