@@ -1,6 +1,6 @@
 -- What the definitions say of a few classes of `dart:core`.
 use Rattle.std.proofs.Common.{◌≡◌, ℕ, zero, suc, true, false, List, [], ◌∷◌, refl, ap, arith}
-use Rattle.std.specs.Prelude.{All, AllPairs}
+use Rattle.std.specs.Prelude.{◌≢◌, All, AllPairs}
 use Rattle.std.proofs.lemmas.List.Elements.{All-nil, All-cons}
 use Rattle.dart_types.specs.Ty.{Ty, never, void, null, interface, function, variable, promoted, nullable, no_more, more, no_named, more_named}
 use Rattle.dart_types.specs.Sizes.{size_of}
@@ -11,7 +11,8 @@ use Rattle.dart_types.specs.WellFormed.{IsSupertype, IsOver, IsFormedClass, IsFo
 use Rattle.dart_types.specs.Sub.{Sub, reflexivity, right_top, left_bottom, left_null, right_object, left_promoted_variable, left_promoted_type, interface_arguments, super_interface, function_types, none_left, one_left, no_param, one_param, no_name}
 use Rattle.dart_types.specs.declared.ids.ClassId.{ClassId}
 use Rattle.dart_types.specs.declared.ids.VarId.{VarId}
-use Rattle.dart_types.specs.declared.ids.TheConstants.{CORE, OBJECT, FUNCTION}
+use Rattle.dart_types.specs.declared.ids.LibId.{LibId}
+use Rattle.dart_types.specs.declared.ids.TheConstants.{CORE, OBJECT, FUNCTION, NO_LIBRARY}
 use Rattle.dart_types.specs.declared.class_rows.ClassRow.{ClassRow}
 use Rattle.dart_types.specs.declared.class_rows.VarRow.{VarRow}
 use Rattle.dart_types.proofs.Above.{nullable_null}
@@ -198,6 +199,12 @@ Before a b = class_before a.id b.id ≡ true
 abbrev VarBefore : VarRow → VarRow → Type 0
 VarBefore a b = var_before a.var b.var ≡ true
 
+-- the library of the classes has a number
+of_core : CORE ≢ NO_LIBRARY
+of_core e =
+    let k : 0 ≡ 18446744073709551615 = ap (λ (l : LibId). l.0) e in
+    absurd (omega (arith, k))
+
 core_is_well_formed : IsWellFormed core
 core_is_well_formed = record {
   classes_in_order = pairs_cons Before object_row (function_row ∷ int_row ∷ iterable_row ∷ list_row ∷ []) (All-cons (Before object_row) function_row (int_row ∷ iterable_row ∷ list_row ∷ []) refl (All-cons (Before object_row) int_row (iterable_row ∷ list_row ∷ []) refl (All-cons (Before object_row) iterable_row (list_row ∷ []) refl (All-cons (Before object_row) list_row [] refl (All-nil (Before object_row))))))
@@ -208,6 +215,6 @@ core_is_well_formed = record {
   vars_in_order = pairs_cons VarBefore (any_row 1) (any_row 2 ∷ []) (All-cons (VarBefore (any_row 1)) (any_row 2) [] refl (All-nil (VarBefore (any_row 1))))
       (pairs_cons VarBefore (any_row 2) [] (All-nil (VarBefore (any_row 2))) (pairs_nil VarBefore));
   classes = core_classes;
-  vars = All-cons (IsFormedVar core) (any_row 1) (any_row 2 ∷ []) (record { earlier = tt; over = (refl, tt) })
-      (All-cons (IsFormedVar core) (any_row 2) [] (record { earlier = tt; over = (refl, tt) }) (All-nil (IsFormedVar core)));
+  vars = All-cons (IsFormedVar core) (any_row 1) (any_row 2 ∷ []) (record { declared = of_core; earlier = tt; over = (refl, tt) })
+      (All-cons (IsFormedVar core) (any_row 2) [] (record { declared = of_core; earlier = tt; over = (refl, tt) }) (All-nil (IsFormedVar core)));
 }

@@ -1,6 +1,6 @@
 -- What well-formed rows say of a class and of a bound that is looked up.
 use Rattle.std.proofs.Common.{◌≡◌, ℕ, zero, suc, ◌+◌, ◌<◌, ◌≤◌, Bool, true, false, List, [], ◌∷◌, length, get_or, Option, Some, None, refl, sym, ◌∙◌, ap, subst, cond, arith}
-use Rattle.std.specs.Prelude.{find, Contains}
+use Rattle.std.specs.Prelude.{◌≢◌, find, Contains}
 use Rattle.std.specs.Option.{option_map}
 use Rattle.std.proofs.lemmas.List.Elements.{All-contains}
 use Rattle.dart_types.specs.Ty.{Ty}
@@ -10,7 +10,7 @@ use Rattle.dart_types.specs.Tables.{Table, class_of, bound_of, depth_of, depth_a
 use Rattle.dart_types.specs.WellFormed.{IsSupertype, IsEarlier, IsOver, IsFormedClass, IsFormedVar, IsWellFormed}
 use Rattle.dart_types.specs.declared.ids.ClassId.{ClassId}
 use Rattle.dart_types.specs.declared.ids.VarId.{VarId}
-use Rattle.dart_types.specs.declared.ids.TheConstants.{OBJECT, FUNCTION}
+use Rattle.dart_types.specs.declared.ids.TheConstants.{OBJECT, FUNCTION, NO_LIBRARY}
 use Rattle.dart_types.specs.declared.class_rows.ClassRow.{ClassRow}
 use Rattle.dart_types.specs.declared.class_rows.VarRow.{VarRow}
 use Rattle.dart_types.proofs.SameIds.{equal_from_same_class, equal_from_same_var}
@@ -72,6 +72,15 @@ module _ (table : Table) (wf : IsWellFormed table) where
       below_most [] j lt e = absurd (omega arith)
       below_most (w ∷ ws) zero lt e = let k : head_depth table w ≡ head_depth table v = ap (head_depth table) e in omega arith
       below_most (w ∷ ws) (suc j) lt e = omega (arith, below_most ws j (omega arith) e)
+
+  -- a variable that has a bound is of a library
+  pub declared_var : (x : VarId) (b : Ty) → bound_of table x ≡ Some b → x.lib ≢ NO_LIBRARY
+  declared_var x b e is =
+      let m = from_mapped (λ (row : VarRow). row.bound) (find (λ (row : VarRow). same_var row.var x) table.vars) b e in
+      let g = found_in (λ (row : VarRow). same_var row.var x) table.vars m.0 m.1 in
+      let f = All-contains (IsFormedVar table) table.vars m.0 wf.vars g.0 in
+      let same : m.0.var ≡ x = equal_from_same_var m.0.var x g.1 in
+      f.declared (ap (λ (y : VarId). y.lib) same ∙ is)
 
   -- a bound holds earlier variables alone, and is over the rows
   pub formed_bound : (x : VarId) (b : Ty) → bound_of table x ≡ Some b → IsEarlier x b × IsOver table b

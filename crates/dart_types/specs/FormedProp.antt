@@ -100,7 +100,7 @@ IsFormedClass-prop : (table : Table) (row : ClassRow) → IsProp (IsFormedClass 
 IsFormedClass-prop table row = hlevel (types_prop, vars_prop, no_prop, IsSupertype-prop row.params, IsOver-prop table, nat_prop)
 
 IsFormedVar-prop : (table : Table) (row : VarRow) → IsProp (IsFormedVar table row)
-IsFormedVar-prop table row = hlevel (IsEarlier-prop row.var row.bound, IsOver-prop table row.bound)
+IsFormedVar-prop table row = hlevel (no_prop, IsEarlier-prop row.var row.bound, IsOver-prop table row.bound)
 
 pub IsWellFormed-prop : (table : Table) → IsProp (IsWellFormed table)
 IsWellFormed-prop table = hlevel (true_prop, IsFormedClass-prop table, IsFormedVar-prop table)

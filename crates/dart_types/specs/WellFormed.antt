@@ -7,7 +7,7 @@ use Rattle.dart_types.specs.Heads.{object}
 use Rattle.dart_types.specs.Tables.{Table, class_of, bound_of, depth_above}
 use Rattle.dart_types.specs.declared.ids.ClassId.{ClassId}
 use Rattle.dart_types.specs.declared.ids.VarId.{VarId}
-use Rattle.dart_types.specs.declared.ids.TheConstants.{OBJECT, FUNCTION}
+use Rattle.dart_types.specs.declared.ids.TheConstants.{OBJECT, FUNCTION, NO_LIBRARY}
 use Rattle.dart_types.specs.declared.class_rows.ClassRow.{ClassRow}
 use Rattle.dart_types.specs.declared.class_rows.VarRow.{VarRow}
 
@@ -118,6 +118,8 @@ pub record IsFormedClass (table : Table) (row : ClassRow) : Type 0 where
 
 -- the row of a type variable is well formed among the others
 pub record IsFormedVar (table : Table) (row : VarRow) : Type 0 where
+  -- a library declares it
+  pub declared : row.var.lib ≢ NO_LIBRARY
   pub earlier : IsEarlier row.var row.bound
   pub over : IsOver table row.bound
 

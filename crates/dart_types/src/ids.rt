@@ -25,6 +25,10 @@ pub struct VarId {
 /// The library `dart:core`.
 pub const CORE: LibId = LibId(0);
 
+/// The number that no library has. Well-formed rows have no type variable with it, so that what bears
+/// it stands in no type of a program.
+pub const NO_LIBRARY: LibId = LibId(18_446_744_073_709_551_615);
+
 /// The class `Object`, which is the first of `dart:core`.
 pub const OBJECT: ClassId = ClassId {
     lib: CORE,

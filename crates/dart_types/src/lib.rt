@@ -10,8 +10,6 @@
 //! those of a class. The crate stands on `plain_text`.
 #![tactic(auto)]
 
-#[cfg(test)]
-mod arguments_tests;
 mod class_arguments;
 mod class_rows;
 mod copies;
@@ -25,34 +23,24 @@ mod laws;
 mod named_search;
 mod normal;
 mod normal_sizes;
-#[cfg(test)]
-mod notation;
 mod pairs;
 mod params;
 mod refusal;
 mod replacements;
 mod row_checks;
 mod rows;
-#[cfg(test)]
-mod rows_tests;
-#[cfg(test)]
-mod sample_rows;
 mod scopes;
 mod seen_equality;
 mod sizes;
 mod substitution;
-#[cfg(test)]
-mod substitution_tests;
 mod subtyping;
-#[cfg(test)]
-mod subtyping_tests;
 mod superinterfaces;
 mod type_checks;
 mod types;
 
 pub use class_arguments::Arguments;
 pub use class_rows::{ClassRow, VarList, VarRow};
-pub use ids::{CORE, ClassId, FUNCTION, LibId, OBJECT, VarId};
+pub use ids::{CORE, ClassId, FUNCTION, LibId, NO_LIBRARY, OBJECT, VarId};
 pub use laws::{
     constants_are_those_of_the_rules, normal_form_laws, substitution_keeps_subtypes, subtype_laws,
     subtype_test_law,

@@ -8,7 +8,7 @@ ghost use Rattle.dart_types.specs.declared.ids.TheConstants.{OBJECT, FUNCTION};
 
 use crate::class_rows::{ClassRow, VarRow};
 use crate::entries::find_row;
-use crate::ids::{ClassId, FUNCTION, OBJECT, VarId};
+use crate::ids::{ClassId, FUNCTION, NO_LIBRARY, OBJECT, VarId};
 use crate::types::{DartType, TypeNode};
 
 /// Whether rows of classes and of type variables are well formed. It takes no memory.
@@ -99,6 +99,9 @@ fn is_formed_var(row: &VarRow, classes: &[ClassRow], vars: &[VarRow]) -> bool
     requires vars_in_order { AllPairs (λ a b. var_before a.var b.var ≡ true) vars.now }
     ensures { IsTrue result ↔ IsFormedVar (record { classes = classes.now; vars = vars.now }) row.now }
 {
+    if row.var.lib == NO_LIBRARY {
+        return false;
+    }
     if !row.bound.is_earlier(row.var) {
         return false;
     }
@@ -129,7 +132,7 @@ fn is_formed_class(row: &ClassRow, classes: &[ClassRow], vars: &[VarRow]) -> boo
 // Whether the class is `Object` and has no supertype, or is `Function` and has `Object` alone, or is
 // another class and has one at least.
 fn is_rooted(row: &ClassRow) -> bool
-    ensures { IsTrue result ↔ ((row.now.id ≡ OBJECT → row.now.supers ≡ []) × (row.now.id ≡ FUNCTION → row.now.supers ≡ object ∷ []) × (row.now.id ≢ OBJECT → row.now.supers ≢ [])) }
+    ensures { let r = row.now in IsTrue result ↔ ((r.id ≡ OBJECT → r.supers ≡ []) × (r.id ≡ FUNCTION → r.supers ≡ object ∷ []) × (r.id ≢ OBJECT → r.supers ≢ [])) }
 {
     let supers = row.supers.as_slice();
     if row.id == OBJECT {

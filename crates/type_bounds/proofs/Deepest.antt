@@ -17,15 +17,11 @@ use Rattle.dart_types.specs.declared.class_rows.ClassRow.{ClassRow}
 use Rattle.dart_types.specs.declared.superinterfaces.Superinterface.{Superinterface}
 use Rattle.dart_types.proofs.Gathered.{all_from}
 use Rattle.dart_types.proofs.NormalPut.{normal-put-normal}
-use Rattle.type_bounds.specs.Above.{type_above, depth_in, AreOf, IsIn, IsShared, IsAloneIn, HasNoneUnder, IsTopUnder, HasNoneAlone, IsDeepestIn}
+use Rattle.type_bounds.specs.Above.{type_above, depth_in, AgreesWith, AreOf, IsIn, IsShared, IsAloneIn, HasNoneUnder, IsTopUnder, HasNoneAlone, IsDeepestIn}
 use Rattle.type_bounds.specs.Common.{IsAbove, IsCommon, IsAlone, IsDeepest}
 use Rattle.type_bounds.specs.declared.superclasses.Above.{Above}
 use Rattle.type_bounds.specs.declared.superclasses.Pair.{Pair}
 use Rattle.type_bounds.proofs.Rooted.{object_above, object_alone, root_depth, reaches}
-
--- what an entry is to be that is as far from Object as another
-abbrev pub AgreesWith : Pair → Superinterface → Superinterface → Type 0
-AgreesWith p s t = IsShared p t → depth_in p t ≡ depth_in p s → type_above p.left t ≡ type_above p.left s
 
 -- an entry of the list stands for what is above the class
 module _ (table : Table) (c : ClassId) (ts : List Ty) (a : Above) (f : AreOf table c ts a) where

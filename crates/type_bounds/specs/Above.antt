@@ -50,9 +50,13 @@ pub record IsTopUnder (p : Pair) (limit : Option ℕ) (s : Superinterface) : Typ
   pub under : IsUnder limit (depth_in p s)
   pub top : All (λ t. IsShared p t → IsUnder limit (depth_in p t) → depth_in p t ≤ depth_in p s) p.left.superinterfaces.now
 
+-- the second superinterface is the same type as the first, if it is one of both and as far from Object
+abbrev pub AgreesWith : Pair → (s t : Superinterface) → Type 0
+AgreesWith p s t = IsShared p t → depth_in p t ≡ depth_in p s → type_above p.left t ≡ type_above p.left s
+
 -- the superinterfaces of both that are as far from Object are the same type
 abbrev pub IsAloneIn : Pair → Superinterface → Type 0
-IsAloneIn p s = All (λ t. IsShared p t → depth_in p t ≡ depth_in p s → type_above p.left t ≡ type_above p.left s) p.left.superinterfaces.now
+IsAloneIn p s = All (AgreesWith p s) p.left.superinterfaces.now
 
 -- no superinterface of both is alone
 abbrev pub HasNoneAlone : Pair → Type 0

@@ -1,7 +1,8 @@
 -- Which function types have a bound that is a function type.
 use Rattle.std.specs.Prelude.{Bool, true, false, ◌&&◌, ◌||◌, not, nat_eq, bytes_eq, if◌then◌else◌}
-use Rattle.dart_types.specs.Ty.{Types, Named, no_more, more, no_named, more_named, count}
-use Rattle.dart_types.specs.Named.{has_name}
+use Rattle.dart_types.specs.Ty.{Types, Named, no_more, more, no_named, more_named, count, types_of}
+use Rattle.dart_types.specs.Named.{has_name, named_of}
+use Rattle.dart_types.specs.declared.types.FunctionType.{FunctionType}
 
 -- each name that the first list requires is in the second
 abbrev pub required_are_in : Named → Named → Bool
@@ -33,3 +34,10 @@ have_upper r o n r' o' n' =
 -- Two function types have a lower bound that is one: they have as many required and as many optional positional parameters, and the same names, which stand in one order in all function types.
 abbrev pub have_lower : (r o : Types) (n : Named) (r' o' : Types) (n' : Named) → Bool
 have_lower r o n r' o' n' = nat_eq (count r) (count r') && (nat_eq (count o) (count o') && same_names n n')
+
+-- so it is with two function types as the code keeps them
+abbrev pub have_upper_function : FunctionType → FunctionType → Bool
+have_upper_function f g = have_upper (types_of f.required) (types_of f.optional) (named_of f.named) (types_of g.required) (types_of g.optional) (named_of g.named)
+
+abbrev pub have_lower_function : FunctionType → FunctionType → Bool
+have_lower_function f g = have_lower (types_of f.required) (types_of f.optional) (named_of f.named) (types_of g.required) (types_of g.optional) (named_of g.named)

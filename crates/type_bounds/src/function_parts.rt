@@ -1,9 +1,7 @@
 //! Function types that are formed as far as they aren't too large.
 
 ghost use Rattle.std.specs.Prelude.{IfOk};
-ghost use Rattle.dart_types.specs.Ty.{Ty, Types, Named, function};
-ghost use Rattle.type_bounds.specs.PartsView.{IsPart, AreParts};
-ghost use Rattle.type_bounds.specs.NamedView.{AreNamedParts};
+ghost use Rattle.type_bounds.specs.NamedView.{IsFunctionPart};
 
 use crate::counts::Count;
 use crate::named_parts::NamedParts;
@@ -19,7 +17,7 @@ pub(crate) fn function_part(
     named: NamedParts,
     result_part: Part,
 ) -> Result<Part, AllocError>
-    ensures { IfOk result (λ part. (r o : Types) (n : Named) (e : Ty) → AreParts required r → AreParts optional o → AreNamedParts named n → IsPart result_part e → IsPart part (function r o n e)) }
+    ensures { IfOk result (λ part. IsFunctionPart required optional named result_part part) }
 {
     let positional = required.nodes.saturating_add(optional.nodes);
     let params = positional.saturating_add(named.nodes);

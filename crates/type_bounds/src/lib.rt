@@ -7,28 +7,16 @@
 //! stands on the types of `dart_types`.
 #![tactic(auto)]
 
-#[cfg(test)]
-mod bound_tests;
 mod chains;
 mod counts;
 mod factors;
 mod function_parts;
-#[cfg(test)]
-mod function_tests;
 mod laws;
 mod meetings;
 mod named_parts;
 mod non_nulls;
-#[cfg(test)]
-mod null_tests;
 mod parts;
-#[cfg(test)]
-mod sample_functions;
-#[cfg(test)]
-mod sample_types;
 mod signatures;
-#[cfg(test)]
-mod superclass_tests;
 mod superclasses;
 mod type_forms;
 mod uppers;

@@ -1,9 +1,8 @@
 //! Named parameters that are formed as far as they aren't too large.
 
 ghost use Rattle.std.specs.Prelude.{IfOk};
-ghost use Rattle.dart_types.specs.Ty.{Ty, Named, no_named, more_named};
-ghost use Rattle.type_bounds.specs.PartsView.{IsPart};
-ghost use Rattle.type_bounds.specs.NamedView.{AreNamedParts, AreBefore, join_named};
+ghost use Rattle.dart_types.specs.Ty.{no_named};
+ghost use Rattle.type_bounds.specs.NamedView.{AreNamedParts, AreBefore, HaveOneMore};
 
 use crate::parts::Part;
 use dart_types::{NODE_LIMIT, NamedType, NamedTypes};
@@ -36,7 +35,7 @@ impl NamedParts {
         part: Part,
     ) -> Result<NamedParts, AllocError>
         requires { AreBefore self.formed name.now }
-        ensures { IfOk result (λ parts. (ns : Named) (t : Ty) → AreNamedParts self ns → IsPart part t → AreNamedParts parts (join_named ns (more_named name.now required t no_named))) }
+        ensures { IfOk result (λ parts. HaveOneMore self name.now required part parts) }
     {
         let nodes = self.nodes.saturating_add(part.count.nodes);
         let unformed = NamedParts {

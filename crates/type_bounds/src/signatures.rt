@@ -3,7 +3,7 @@
 ghost use Rattle.std.specs.Prelude.{◌≡◌, bytes_eq};
 ghost use Rattle.dart_types.specs.Ty.{types_of};
 ghost use Rattle.dart_types.specs.Named.{named_of};
-ghost use Rattle.type_bounds.specs.Signatures.{required_are_in, same_names, some_type, some_named, have_upper, have_lower};
+ghost use Rattle.type_bounds.specs.Signatures.{required_are_in, same_names, some_type, some_named, have_upper_function, have_lower_function};
 
 use dart_types::{FunctionType, NamedType, NamedTypes, TypeList};
 use plain_text::PlainText;
@@ -60,7 +60,7 @@ fn some_named(named: &NamedTypes) -> bool
 
 /// Whether two function types have an upper bound that is one.
 pub(crate) fn have_upper(function: &FunctionType, other: &FunctionType) -> bool
-    ensures { result ≡ have_upper (types_of function.now.required) (types_of function.now.optional) (named_of function.now.named) (types_of other.now.required) (types_of other.now.optional) (named_of other.now.named) }
+    ensures { result ≡ have_upper_function function.now other.now }
 {
     if function.required.as_slice().len() != other.required.as_slice().len() {
         return false;
@@ -78,7 +78,7 @@ pub(crate) fn have_upper(function: &FunctionType, other: &FunctionType) -> bool
 
 /// Whether two function types have a lower bound that is one.
 pub(crate) fn have_lower(function: &FunctionType, other: &FunctionType) -> bool
-    ensures { result ≡ have_lower (types_of function.now.required) (types_of function.now.optional) (named_of function.now.named) (types_of other.now.required) (types_of other.now.optional) (named_of other.now.named) }
+    ensures { result ≡ have_lower_function function.now other.now }
 {
     if function.required.as_slice().len() != other.required.as_slice().len() {
         return false;

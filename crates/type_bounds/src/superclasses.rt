@@ -8,7 +8,7 @@ ghost use Rattle.dart_types.specs.Marks.{takes_mark};
 ghost use Rattle.dart_types.specs.Superinterfaces.{AreOrdered};
 ghost use Rattle.dart_types.specs.Tables.{class_of};
 ghost use Rattle.dart_types.specs.WellFormed.{HasArguments};
-ghost use Rattle.type_bounds.specs.Above.{type_above, depth_in, AreOf, IsIn, IsShared, IsUnder, HasNoneUnder, IsTopUnder, IsAloneIn, HasNoneAlone, IsDeepestIn};
+ghost use Rattle.type_bounds.specs.Above.{type_above, depth_in, AgreesWith, AreOf, IsIn, IsShared, IsUnder, HasNoneUnder, IsTopUnder, IsAloneIn, HasNoneAlone, IsDeepestIn};
 ghost use Rattle.type_bounds.specs.Bounds.{UpperApart, AreApart};
 ghost use Rattle.type_bounds.specs.PartsView.{IsPart, IsSomePart};
 
@@ -195,7 +195,7 @@ impl<'a> Pair<'a> {
     // as far from Object.
     fn agrees(&self, s: &Superinterface, top: &Superinterface) -> bool
         requires { AreOrdered self.now.right.superinterfaces.now }
-        ensures { IsTrue result ↔ (IsShared self.now s.now → depth_in self.now s.now ≡ depth_in self.now top.now → type_above self.now.left s.now ≡ type_above self.now.left top.now) }
+        ensures { IsTrue result ↔ AgreesWith self.now top.now s.now }
     {
         if self.depth(s) != self.depth(top) {
             return true;

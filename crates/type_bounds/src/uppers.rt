@@ -10,7 +10,7 @@ ghost use Rattle.dart_types.specs.Marks.{is_marked};
 ghost use Rattle.dart_types.specs.Node.{function_type};
 ghost use Rattle.dart_types.specs.Sub.{Sub};
 ghost use Rattle.type_bounds.specs.Bounds.{Upper, UpperApart, Uppers, UpperNamed, Lower, LowerApart, LowerParams, LowerNamed, AreApart, is_settled};
-ghost use Rattle.type_bounds.specs.Signatures.{have_upper, have_lower, same_names};
+ghost use Rattle.type_bounds.specs.Signatures.{have_upper_function, have_lower_function, same_names};
 ghost use Rattle.type_bounds.specs.FormsSome.{FormsSome};
 ghost use Rattle.type_bounds.specs.PartsView.{IsSomePart, AreSomeParts};
 ghost use Rattle.type_bounds.specs.NamedView.{AreSomeNamed};
@@ -156,7 +156,7 @@ fn upper_of_functions(
     function: &FunctionType,
     other: &FunctionType,
 ) -> Result<Part, AllocError>
-    requires { have_upper (types_of function.now.required) (types_of function.now.optional) (named_of function.now.named) (types_of other.now.required) (types_of other.now.optional) (named_of other.now.named) ≡ true }
+    requires { have_upper_function function.now other.now ≡ true }
     ensures { IfOk result (IsSomePart (UpperApart rows.now.table (function_type function.now) (function_type other.now))) }
 {
     let required = lower_all(
@@ -326,7 +326,7 @@ fn lower_of_functions(
     function: &FunctionType,
     other: &FunctionType,
 ) -> Result<Part, AllocError>
-    requires { have_lower (types_of function.now.required) (types_of function.now.optional) (named_of function.now.named) (types_of other.now.required) (types_of other.now.optional) (named_of other.now.named) ≡ true }
+    requires { have_lower_function function.now other.now ≡ true }
     ensures { IfOk result (IsSomePart (LowerApart rows.now.table (function_type function.now) (function_type other.now))) }
 {
     let required = upper_all(

@@ -3,7 +3,7 @@ use Rattle.std.specs.Prelude.{All}
 use Rattle.dart_types.specs.declared.superinterfaces.Superinterface.{Superinterface}
 use Rattle.dart_types.proofs.RowTests.{all_next, all_done}
 use Rattle.dart_types.proofs.Steps.{yes, granted}
-use Rattle.type_bounds.proofs.Deepest.{AgreesWith}
+use Rattle.type_bounds.specs.Above.{AgreesWith}
 use Rattle.type_bounds.proofs.superclasses.Pair.is_alone.Goals as goal
 
 pub loop-s-preserved : goal.loop-s-preserved

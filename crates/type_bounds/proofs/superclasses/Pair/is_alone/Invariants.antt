@@ -1,6 +1,6 @@
 use Rattle.std.proofs.Common.{take}
 use Rattle.std.specs.Prelude.{All}
-use Rattle.type_bounds.proofs.Deepest.{AgreesWith}
+use Rattle.type_bounds.specs.Above.{AgreesWith}
 use Rattle.type_bounds.proofs.superclasses.Pair.is_alone.Given as goal
 
 -- those that were passed are the same type
