@@ -19,3 +19,4 @@ pub mod SideMeasure
 pub mod SideFalls
 pub mod FindSteps
 pub mod MatchSteps
+pub mod NotOpen

@@ -36,6 +36,10 @@ pub record IsOnlyEntry (list : List Superinterface) (d : ClassId) (a : Arguments
   pub of_class : same_class s.class d ≡ true
   pub only : (o : Superinterface) → Contains list o → same_class o.class d ≡ true → interface_with a o ≡ interface_with a s
 
+-- no entry of the list is so
+abbrev pub HasNoOnlyEntry : List Superinterface → ClassId → Arguments → Type 0
+HasNoOnlyEntry list d a = (s : Superinterface) → IsOnlyEntry list d a s → ⊥
+
 -- what a call answers that forms the only superinterface of the class d, if there is one: it is within the limit, or has more nodes than a type may have; only want of memory is free
 abbrev pub FormsAbove : Table → ClassId → Types → ClassId → Result (Option Ty) TypeRefusal → Type 0
 FormsAbove table c ts d (Ok None) = (us : Types) → IsOnlyAbove table c ts d us → ⊥

@@ -1,6 +1,5 @@
 -- The type arguments that a call leaves out.
 use Rattle.std.specs.Prelude.{◌≡◌, ◌<◌, ◌≤◌, ◌≢◌, ℕ, List, [], ◌∷◌, ◌++◌, Option, None, Some, unwrap_or, Result, Ok, Err}
-use Rattle.std.specs.Option.{option_copied}
 use Rattle.dart_types.specs.Ty.{Ty, nullable, types_of}
 use Rattle.dart_types.specs.Heads.{object}
 use Rattle.dart_types.specs.Normal.{substituted}
@@ -15,7 +14,6 @@ use Rattle.type_infer.specs.Matching.{End, matched, mismatched, too_large, Match
 use Rattle.type_infer.specs.Solutions.{Solution, IsFree}
 use Rattle.type_infer.specs.declared.constraints.Constraint.{Constraint}
 use Rattle.type_infer.specs.declared.constraints.Side.TheVariants.{AtLeast, AtMost}
-use Rattle.type_infer.specs.declared.contexts.Call.{Call}
 use Rattle.type_infer.specs.declared.refusal.InferRefusal.{InferRefusal}
 use Rattle.type_infer.specs.declared.refusal.InferRefusal.TheVariants.{NoSolution, Unconstrained, TooLarge}
 
@@ -25,8 +23,8 @@ context_pair result None = []
 context_pair result (Some context) = pair AtMost result context ∷ []
 
 -- what is matched in a call with these arguments, in this order: the result, then each formal, which is to be a supertype of the type of its argument
-abbrev pub pairs_of : Call → List Ty → List Pair
-pairs_of call actuals = context_pair call.result.now (option_copied call.context) ++ paired AtLeast (types_of call.formals.now) (types_of actuals)
+abbrev pub pairs_of : Ty → Option Ty → (formals actuals : List Ty) → List Pair
+pairs_of result context formals actuals = context_pair result context ++ paired AtLeast (types_of formals) (types_of actuals)
 
 -- matching ended without a type that is too large
 abbrev pub IsWithin : End → Type 0

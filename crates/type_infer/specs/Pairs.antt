@@ -1,8 +1,9 @@
 -- Types that are matched with each other.
 use Rattle.std.specs.Prelude.{Bool, true, ◌&&◌, nat_le, List, [], ◌∷◌, ◌++◌, Option, None, Some}
-use Rattle.dart_types.specs.Ty.{Ty, Types, Named, no_more, more, no_named, more_named, count, join}
-use Rattle.dart_types.specs.Named.{has_name, type_named}
+use Rattle.dart_types.specs.Ty.{Ty, Types, Named, no_more, more, no_named, more_named, count, join, types_of}
+use Rattle.dart_types.specs.Named.{has_name, type_named, named_of}
 use Rattle.dart_types.specs.Sub.{required_in}
+use Rattle.dart_types.specs.declared.types.FunctionType.{FunctionType}
 use Rattle.type_infer.specs.Constraints.{opposite}
 use Rattle.type_infer.specs.declared.constraints.Side.{Side}
 use Rattle.type_infer.specs.declared.constraints.Side.TheVariants.{AtLeast, AtMost}
@@ -51,3 +52,10 @@ takes_calls_of r o n r' o' n' = nat_le (count r) (count r') && (nat_le (count (j
 abbrev pub signatures_fit : Side → (r o : Types) (n : Named) (r' o' : Types) (n' : Named) → Bool
 signatures_fit AtLeast r o n r' o' n' = takes_calls_of r' o' n' r o n
 signatures_fit AtMost r o n r' o' n' = takes_calls_of r o n r' o' n'
+
+-- so it is with two function types as the code keeps them
+abbrev pub takes_calls_of_function : FunctionType → FunctionType → Bool
+takes_calls_of_function f g = takes_calls_of (types_of f.required) (types_of f.optional) (named_of f.named) (types_of g.required) (types_of g.optional) (named_of g.named)
+
+abbrev pub functions_fit : Side → FunctionType → FunctionType → Bool
+functions_fit side f g = signatures_fit side (types_of f.required) (types_of f.optional) (named_of f.named) (types_of g.required) (types_of g.optional) (named_of g.named)

@@ -3,8 +3,7 @@
 ghost use Rattle.std.specs.Prelude.{◌≡◌, MatchOption};
 ghost use Rattle.dart_types.specs.Ty.{types_of};
 ghost use Rattle.dart_types.specs.Superinterfaces.{AreOrdered};
-ghost use Rattle.dart_types.specs.declared.superinterfaces.Superinterface.{Superinterface};
-ghost use Rattle.type_infer.specs.Above.{FormsAbove, IsOnlyEntry, arguments_of};
+ghost use Rattle.type_infer.specs.Above.{FormsAbove, HasNoOnlyEntry, IsOnlyEntry, arguments_of};
 
 use dart_types::{
     Arguments, ClassId, DartType, Rows, Superinterface, TypeList, TypeNode, TypeRefusal,
@@ -49,7 +48,7 @@ fn only_entry<'a>(
     arguments: Arguments,
 ) -> Option<&'a Superinterface>
     requires { AreOrdered superinterfaces.now }
-    ensures { MatchOption result ((s : Superinterface) → IsOnlyEntry superinterfaces.now class arguments.entry s → ⊥) (λ s. IsOnlyEntry superinterfaces.now class arguments.entry s.now) }
+    ensures { MatchOption result (HasNoOnlyEntry superinterfaces.now class arguments.entry) (λ s. IsOnlyEntry superinterfaces.now class arguments.entry s.now) }
 {
     let of_class = superinterfaces_of_class(superinterfaces, class);
     let (first, others) = of_class.split_first()?;

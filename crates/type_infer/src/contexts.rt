@@ -1,10 +1,14 @@
 //! The context in which an argument is typed.
 
-ghost use Rattle.std.specs.Prelude.{◌≡◌, ◌<◌, length, Ok, IfOk, IfErr, slice_index_or};
+ghost use Rattle.std.specs.Prelude.{◌≡◌, ◌<◌, false, length, Ok, IfOk, IfErr, slice_index_or};
+ghost use Rattle.std.specs.Option.{option_copied};
 ghost use Rattle.dart_types.specs.Ty.{invalid};
+ghost use Rattle.dart_types.specs.FormedTable.{FormedTable};
+ghost use Rattle.dart_types.specs.WellFormed.{IsOver};
 ghost use Rattle.type_infer.specs.Inference.{pairs_of};
 ghost use Rattle.type_infer.specs.Contexts.{FormsContext, Known};
 ghost use Rattle.type_infer.specs.Knows.{EndsKnown, KnowsOne};
+ghost use Rattle.type_infer.specs.Open.{is_open};
 
 use crate::constraints::Constraint;
 use crate::gathering::gather;
@@ -12,14 +16,14 @@ use crate::reading::read_type;
 use crate::refusal::InferRefusal;
 use crate::solving::solution;
 use crate::var_types::push_pair;
-use dart_types::{DartType, LibId, Rows, TypeNode, TypeRefusal, VarId, substitute};
+use dart_types::{DartType, NO_LIBRARY, Rows, TypeNode, TypeRefusal, VarId, substitute};
 use std::alloc::{AllocError, Global};
 use std::marker::Model;
 
-/// What stands in a context for each type parameter that is open. Its library's number is for it
-/// alone: no library is to have it, so that it stands in no type of a program.
+/// What stands in a context for each type parameter that is open. Well-formed rows have no type
+/// variable of no library, so it stands in no type of a program.
 pub const OPEN_PARAMETER: VarId = VarId {
-    lib: LibId(18_446_744_073_709_551_615),
+    lib: NO_LIBRARY,
     index: 4_294_967_295,
 };
 
@@ -43,10 +47,11 @@ impl Model for Context {
 }
 
 impl Context {
-    /// The context of a type of a program: that type. Nothing is open in it, as `OPEN_PARAMETER` stands
-    /// in no such type.
+    /// The context of a type of a program: that type. Nothing is open in it, since `OPEN_PARAMETER`
+    /// stands in no type over well-formed rows.
     pub fn of(alloc: Global, t: &DartType) -> Result<Context, AllocError>
-        ensures { IfOk result (λ context. context ≡ t.now) }
+        ensures same { IfOk result (λ context. context ≡ t.now) }
+        ensures closed { IfOk result (λ context. (rows : FormedTable) → IsOver rows.table context → is_open context ≡ false) }
     {
         let ty = t.copy(alloc)?;
         Ok(Context { ty })
@@ -60,19 +65,6 @@ impl Context {
     }
 }
 
-/// A call that leaves out its type arguments.
-#[derive(Clone, Copy)]
-pub struct Call<'a> {
-    /// The type parameters of what is called.
-    pub params: &'a [VarId],
-    /// The type of its result, in which they may stand.
-    pub result: &'a DartType,
-    /// The context of the call, if it has one.
-    pub context: Option<&'a Context>,
-    /// The types of the parameters that its arguments are for, in the order of the arguments.
-    pub formals: &'a [DartType],
-}
-
 /// The context of the argument after `done`, the types of those before it: its formal, in which each
 /// type parameter that the call's context and the arguments before constrain is replaced by its
 /// solution, and each other one is open. Constraints and solutions are those of `infer_arguments`,
@@ -81,15 +73,19 @@ pub struct Call<'a> {
 pub fn context_of(
     alloc: Global,
     rows: &Rows,
-    call: &Call,
+    params: &[VarId],
+    returned: &DartType,
+    context: Option<&Context>,
+    formals: &[DartType],
     done: &[DartType],
 ) -> Result<Context, InferRefusal>
-    requires { length done.now < length call.now.formals.now }
-    ensures { FormsContext rows.now.table call.now.params.now (pairs_of call.now done.now) (slice_index_or call.now.formals.now (length done.now) invalid) result }
+    requires { length done.now < length formals.now }
+    ensures { let pairs = pairs_of returned.now (option_copied context.entry) formals.now done.now in
+        FormsContext rows.now.table params.now pairs (slice_index_or formals.now (length done.now) invalid) result }
 {
-    let found = gather(alloc, rows, call, done)?;
-    let known = known_types(alloc, rows, &found, call.params)?;
-    let ty = substitute(alloc, &call.formals[done.len()], &known)?;
+    let found = gather(alloc, rows, params, returned, context, formals, done)?;
+    let known = known_types(alloc, rows, &found, params)?;
+    let ty = substitute(alloc, &formals[done.len()], &known)?;
     Ok(Context { ty })
 }
 

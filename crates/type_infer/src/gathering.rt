@@ -9,9 +9,9 @@ ghost use Rattle.type_infer.specs.Gathers.{EndsGathering, GathersInto};
 ghost use Rattle.type_infer.specs.declared.constraints.Side.TheVariants.{AtLeast};
 
 use crate::constraints::{Constraint, Side};
-use crate::contexts::Call;
+use crate::contexts::Context;
 use crate::matching::match_types;
-use dart_types::{DartType, Rows, TypeRefusal};
+use dart_types::{DartType, Rows, TypeRefusal, VarId};
 use std::alloc::Global;
 
 /// The constraints that the context of a call sets, if it has one, then those of the arguments, which
@@ -19,16 +19,21 @@ use std::alloc::Global;
 pub(crate) fn gather(
     alloc: Global,
     rows: &Rows,
-    call: &Call,
+    params: &[VarId],
+    returned: &DartType,
+    context: Option<&Context>,
+    formals: &[DartType],
     actuals: &[DartType],
 ) -> Result<Vec<Constraint>, TypeRefusal>
-    requires { length actuals.now ≤ length call.now.formals.now }
-    ensures ok { IfOk result (λ found. Gathered rows.now.table call.now.params.now (pairs_of call.now actuals.now) (Ok found.items)) }
-    ensures err { IfErr result (EndsGathering rows.now.table call.now.params.now (pairs_of call.now actuals.now)) }
+    requires { length actuals.now ≤ length formals.now }
+    ensures ok { let pairs = pairs_of returned.now (option_copied context.entry) formals.now actuals.now in
+        IfOk result (λ found. Gathered rows.now.table params.now pairs (Ok found.items)) }
+    ensures err { let pairs = pairs_of returned.now (option_copied context.entry) formals.now actuals.now in
+        IfErr result (EndsGathering rows.now.table params.now pairs) }
 {
     let mut found = Vec::new(alloc);
-    gather_context(alloc, rows, call, &mut found)?;
-    gather_arguments(alloc, rows, call, actuals, &mut found)?;
+    gather_context(alloc, rows, params, returned, context, &mut found)?;
+    gather_arguments(alloc, rows, params, formals, actuals, &mut found)?;
     Ok(found)
 }
 
@@ -36,21 +41,24 @@ pub(crate) fn gather(
 fn gather_context(
     alloc: Global,
     rows: &Rows,
-    call: &Call,
+    params: &[VarId],
+    returned: &DartType,
+    context: Option<&Context>,
     found: &mut Vec<Constraint>,
 ) -> Result<(), TypeRefusal>
-    ensures { GathersInto rows.now.table call.now.params.now (context_pair call.now.result.now (option_copied call.now.context)) found.old.items found.new.items result }
+    ensures { let pairs = context_pair returned.now (option_copied context.entry) in
+        GathersInto rows.now.table params.now pairs found.old.items found.new.items result }
 {
-    match call.context {
+    match context {
         None => Ok(()),
         Some(context) => {
             let side = Side::AtMost;
             match_types(
                 alloc,
                 rows,
-                call.params,
+                params,
                 side,
-                call.result,
+                returned,
                 context.as_type(),
                 found,
             )?;
@@ -63,17 +71,18 @@ fn gather_context(
 fn gather_arguments(
     alloc: Global,
     rows: &Rows,
-    call: &Call,
+    params: &[VarId],
+    formals: &[DartType],
     actuals: &[DartType],
     found: &mut Vec<Constraint>,
 ) -> Result<(), TypeRefusal>
-    requires { length actuals.now ≤ length call.now.formals.now }
-    ensures { GathersInto rows.now.table call.now.params.now (paired AtLeast (types_of call.now.formals.now) (types_of actuals.now)) found.old.items found.new.items result }
+    requires { length actuals.now ≤ length formals.now }
+    ensures { let pairs = paired AtLeast (types_of formals.now) (types_of actuals.now) in
+        GathersInto rows.now.table params.now pairs found.old.items found.new.items result }
 {
     for i in 0..actuals.len() {
         let side = Side::AtLeast;
-        let formal = &call.formals[i];
-        match_types(alloc, rows, call.params, side, formal, &actuals[i], found)?;
+        match_types(alloc, rows, params, side, &formals[i], &actuals[i], found)?;
     }
     Ok(())
 }

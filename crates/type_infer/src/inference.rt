@@ -1,12 +1,13 @@
 //! The type arguments that a call leaves out.
 
 ghost use Rattle.std.specs.Prelude.{◌≡◌, [], length};
+ghost use Rattle.std.specs.Option.{option_copied};
 ghost use Rattle.type_infer.specs.Gives.{Gives};
 ghost use Rattle.type_infer.specs.Inference.{pairs_of, Argument, Arguments, Inferred};
 
 use crate::bounds::{bound_as_argument, within_bound};
 use crate::constraints::Constraint;
-use crate::contexts::Call;
+use crate::contexts::Context;
 use crate::gathering::gather;
 use crate::refusal::InferRefusal;
 use crate::solving::solution;
@@ -14,8 +15,9 @@ use crate::var_types::{push_pair, types_of_pairs};
 use dart_types::{DartType, Rows, TypeList, VarId};
 use std::alloc::Global;
 
-/// The arguments for the type parameters of a call whose arguments have these types, in the order of
-/// the parameters. The call's result is matched against its context, if it has one, and each formal
+/// The arguments for the type parameters of a call with this result, in the order of the parameters;
+/// `formals` are the types of the parameters that its arguments are for, and `actuals` the types of
+/// these. The call's result is matched against its context, if it has one, and each formal
 /// against the type of its argument. A parameter is the upper bound of the types that it is to be at
 /// least, else the lower bound of those that it is to be at most, each in the order in which they
 /// were found, with X in the place of each `X & U`; with no such types it is its bound, unless that
@@ -29,14 +31,18 @@ use std::alloc::Global;
 pub fn infer_arguments(
     alloc: Global,
     rows: &Rows,
-    call: &Call,
+    params: &[VarId],
+    returned: &DartType,
+    context: Option<&Context>,
+    formals: &[DartType],
     actuals: &[DartType],
 ) -> Result<TypeList, InferRefusal>
-    requires { length call.now.formals.now ≡ length actuals.now }
-    ensures { Gives (Inferred rows.now.table call.now.params.now (pairs_of call.now actuals.now)) result }
+    requires { length formals.now ≡ length actuals.now }
+    ensures { let pairs = pairs_of returned.now (option_copied context.entry) formals.now actuals.now in
+        Gives (Inferred rows.now.table params.now pairs) result }
 {
-    let found = gather(alloc, rows, call, actuals)?;
-    arguments_for(alloc, rows, &found, call.params)
+    let found = gather(alloc, rows, params, returned, context, formals, actuals)?;
+    arguments_for(alloc, rows, &found, params)
 }
 
 // The arguments for the parameters under these constraints.

@@ -36,5 +36,5 @@ pub fn refusals_are_for_the_first_parameter(_rows: &Rows, _params: &[VarId])
 
 /// The rules derive one context of an argument at most.
 pub fn contexts_are_unique(_rows: &Rows, _params: &[VarId])
-    ensures { (pairs : List Pair) (formal : Ty) (a b : Result Ty ℕ) → ContextOf _rows.now.table _params.now pairs formal a → ContextOf _rows.now.table _params.now pairs formal b → a ≡ b }
+    ensures { (pairs : List Pair) (formal : Ty) (a b : Result Ty ℕ) → let So = ContextOf _rows.now.table _params.now pairs formal in So a → So b → a ≡ b }
 {}

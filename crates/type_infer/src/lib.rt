@@ -10,32 +10,22 @@
 
 mod bounds;
 mod climbs;
-#[cfg(test)]
-mod climbs_tests;
 mod constraints;
 mod contexts;
 mod gathering;
 mod holding;
-#[cfg(test)]
-mod infer_tests;
 mod inference;
 mod laws;
 mod matching;
-#[cfg(test)]
-mod matching_samples;
-#[cfg(test)]
-mod matching_tests;
 mod openness;
 mod reading;
 mod refusal;
-#[cfg(test)]
-mod sample_calls;
 mod signatures;
 mod solving;
 mod var_types;
 mod ways;
 
-pub use contexts::{Call, Context, OPEN_PARAMETER, context_of};
+pub use contexts::{Context, OPEN_PARAMETER, context_of};
 pub use inference::infer_arguments;
 pub use laws::{
     contexts_are_unique, inferred_arguments_are_unique, inferred_arguments_are_within_bounds,

@@ -264,7 +264,7 @@ impl<'a> Matcher<'a> {
         others: &[DartType],
         found: &mut Vec<Constraint>,
     ) -> Result<bool, TypeRefusal>
-        ensures { Finds (MatchAll self.now.rows.now.table self.now.params.now (paired side (types_of formals.now) (types_of others.now))) found.old.items found.new.items result }
+        ensures { let pairs = paired side (types_of formals.now) (types_of others.now) in Finds (MatchAll self.now.rows.now.table self.now.params.now pairs) found.old.items found.new.items result }
     {
         let count = formals.len().min(others.len());
         for i in 0..count {
@@ -284,7 +284,7 @@ impl<'a> Matcher<'a> {
         other: &FunctionType,
         found: &mut Vec<Constraint>,
     ) -> Result<bool, TypeRefusal>
-        ensures { Finds (MatchAll self.now.rows.now.table self.now.params.now (paired side (types_of (params_of formal.now)) (types_of (params_of other.now)))) found.old.items found.new.items result }
+        ensures { let pairs = paired side (types_of (params_of formal.now)) (types_of (params_of other.now)) in Finds (MatchAll self.now.rows.now.table self.now.params.now pairs) found.old.items found.new.items result }
     {
         let count = count_params(formal).min(count_params(other));
         for i in 0..count {
@@ -306,7 +306,7 @@ impl<'a> Matcher<'a> {
         others: &NamedTypes,
         found: &mut Vec<Constraint>,
     ) -> Result<bool, TypeRefusal>
-        ensures { Finds (MatchAll self.now.rows.now.table self.now.params.now (paired_by_name side (named_of formals.now) (named_of others.now))) found.old.items found.new.items result }
+        ensures { let pairs = paired_by_name side (named_of formals.now) (named_of others.now) in Finds (MatchAll self.now.rows.now.table self.now.params.now pairs) found.old.items found.new.items result }
     {
         for formal in formals {
             let other = match others.get(&formal.name) {

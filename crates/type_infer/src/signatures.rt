@@ -1,10 +1,10 @@
 //! Which function types can be subtypes, as far as the numbers and the names of parameters tell.
 
 ghost use Rattle.std.specs.Prelude.{◌≡◌, ◌<◌, length, slice_index_or};
-ghost use Rattle.dart_types.specs.Ty.{types_of, invalid};
+ghost use Rattle.dart_types.specs.Ty.{invalid};
 ghost use Rattle.dart_types.specs.Named.{named_of};
 ghost use Rattle.dart_types.specs.Forms.{params_of};
-ghost use Rattle.type_infer.specs.Pairs.{names_are_in, takes_calls_of, signatures_fit};
+ghost use Rattle.type_infer.specs.Pairs.{names_are_in, takes_calls_of_function, functions_fit};
 
 use crate::constraints::Side;
 use dart_types::{DartType, FunctionType, NamedType, NamedTypes};
@@ -43,7 +43,7 @@ fn names_are_in(named: &[NamedType], others: &NamedTypes) -> bool
 
 // Whether a function type can be a subtype of another.
 fn takes_calls_of(function: &FunctionType, other: &FunctionType) -> bool
-    ensures { result ≡ takes_calls_of (types_of function.now.required) (types_of function.now.optional) (named_of function.now.named) (types_of other.now.required) (types_of other.now.optional) (named_of other.now.named) }
+    ensures { result ≡ takes_calls_of_function function.now other.now }
 {
     if function.required.as_slice().len() > other.required.as_slice().len() {
         return false;
@@ -60,7 +60,7 @@ fn takes_calls_of(function: &FunctionType, other: &FunctionType) -> bool
 
 /// Whether a formal that is a function type can be a supertype, or a subtype, of another.
 pub(crate) fn signatures_fit(side: Side, formal: &FunctionType, other: &FunctionType) -> bool
-    ensures { result ≡ signatures_fit side (types_of formal.now.required) (types_of formal.now.optional) (named_of formal.now.named) (types_of other.now.required) (types_of other.now.optional) (named_of other.now.named) }
+    ensures { result ≡ functions_fit side formal.now other.now }
 {
     match side {
         Side::AtLeast => takes_calls_of(other, formal),

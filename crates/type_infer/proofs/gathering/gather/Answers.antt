@@ -15,32 +15,29 @@ use Rattle.type_infer.proofs.gathering.gather.Goals as goal
 pub returns-in_err-gather_context-clause-err : goal.returns-in_err-gather_context-clause-err
 returns-in_err-gather_context-clause-err c =
     let table = c.args.rows.now.table in
-    let call = c.args.call.now in
-    let params = call.params.now in
-    let first = context_pair call.result.now (option_copied call.context) in
-    let second = paired AtLeast (types_of call.formals.now) (types_of c.args.actuals.now) in
+    let params = c.args.params.now in
+    let first = context_pair c.args.returned.now (option_copied c.args.context) in
+    let second = paired AtLeast (types_of c.args.formals.now) (types_of c.args.actuals.now) in
     let why = c.in_err-gather_context.field-0.0 in
-    handed_on (λ r. IfErr r (EndsGathering table params (pairs_of call c.args.actuals.now))) c.from_residual.result why c.from_residual.ensures.1
+    handed_on (λ r. IfErr r (EndsGathering table params (pairs_of c.args.returned.now (option_copied c.args.context) c.args.formals.now c.args.actuals.now))) c.from_residual.result why c.from_residual.ensures.1
     (first_ends table params first second why c.in_err-gather_context.ensures)
 
 -- or as the arguments are
 pub returns-in_err-gather_arguments-clause-err : goal.returns-in_err-gather_arguments-clause-err
 returns-in_err-gather_arguments-clause-err c =
     let table = c.args.rows.now.table in
-    let call = c.args.call.now in
-    let params = call.params.now in
-    let first = context_pair call.result.now (option_copied call.context) in
-    let second = paired AtLeast (types_of call.formals.now) (types_of c.args.actuals.now) in
+    let params = c.args.params.now in
+    let first = context_pair c.args.returned.now (option_copied c.args.context) in
+    let second = paired AtLeast (types_of c.args.formals.now) (types_of c.args.actuals.now) in
     let why = c.in_err-gather_arguments.field-0.0 in
-    handed_on (λ r. IfErr r (EndsGathering table params (pairs_of call c.args.actuals.now))) c.from_residual-in_err-gather_arguments.result why c.from_residual-in_err-gather_arguments.ensures.1
+    handed_on (λ r. IfErr r (EndsGathering table params (pairs_of c.args.returned.now (option_copied c.args.context) c.args.formals.now c.args.actuals.now))) c.from_residual-in_err-gather_arguments.result why c.from_residual-in_err-gather_arguments.ensures.1
     (second_ends table params first second c.new-found.result.items c.gather_context.new.found.items c.in_ok-gather_context.ensures why c.in_err-gather_arguments.ensures)
 
 pub returns-clause-ok : goal.returns-clause-ok
 returns-clause-ok c =
     let table = c.args.rows.now.table in
-    let call = c.args.call.now in
-    let params = call.params.now in
-    let first = context_pair call.result.now (option_copied call.context) in
-    let second = paired AtLeast (types_of call.formals.now) (types_of c.args.actuals.now) in
+    let params = c.args.params.now in
+    let first = context_pair c.args.returned.now (option_copied c.args.context) in
+    let second = paired AtLeast (types_of c.args.formals.now) (types_of c.args.actuals.now) in
     let begun = subst (λ (before : List Constraint). GathersInto table params first before c.gather_context.new.found.items (Ok tt)) c.new-found.ensures.items c.in_ok-gather_context.ensures in
     both_into table params first second c.gather_context.new.found.items c.gather_arguments.new.found.items begun c.in_ok-gather_arguments.ensures

@@ -15,14 +15,14 @@ use Rattle.type_infer.proofs.gathering.gather_context.Goals as goal
 pub returns-in_err-match_types-in-Some : goal.returns-in_err-match_types-in-Some
 returns-in_err-match_types-in-Some c =
     let table = c.args.rows.now.table in
-    let params = c.args.call.now.params.now in
-    let formal = c.args.call.now.result.now in
+    let params = c.args.params.now in
+    let formal = c.args.returned.now in
     let other = c.as_type.result.now in
     let before = c.args.found.now.items in
     let after = c.match_types.new.found.items in
     let why = c.in_err-match_types-in-Some.field-0.0 in
     let ended : Finds (Match table params AtMost formal other) before after (Err why) = c.in_err-match_types-in-Some.ensures in
-    let there : pair AtMost formal other ∷ [] ≡ context_pair formal (option_copied c.args.call.now.context) =
+    let there : pair AtMost formal other ∷ [] ≡ context_pair formal (option_copied c.args.context) =
     ap (λ (t : Ty). pair AtMost formal t ∷ []) c.as_type.ensures ∙ ap (λ o. context_pair formal (option_copied o)) (sym c.in-Some.is) in
     subst (λ (ps : List Pair). GathersInto table params ps before after c.from_residual.result) there
     (handed_on (GathersInto table params (pair AtMost formal other ∷ []) before after) c.from_residual.result why c.from_residual.ensures.1
@@ -31,21 +31,21 @@ returns-in_err-match_types-in-Some c =
 pub returns-in-None : goal.returns-in-None
 returns-in-None c =
     let table = c.args.rows.now.table in
-    let params = c.args.call.now.params.now in
-    let none : [] ≡ context_pair c.args.call.now.result.now (option_copied c.args.call.now.context) = ap (λ o. context_pair c.args.call.now.result.now (option_copied o)) (sym c.in-None.is) in
+    let params = c.args.params.now in
+    let none : [] ≡ context_pair c.args.returned.now (option_copied c.args.context) = ap (λ o. context_pair c.args.returned.now (option_copied o)) (sym c.in-None.is) in
     ([], subst (λ (ps : List Pair). Gathered table params ps (Ok [])) none none_left, sym (append-nil c.args.found.now.items))
 
 pub returns-in_ok-match_types-in-Some : goal.returns-in_ok-match_types-in-Some
 returns-in_ok-match_types-in-Some c =
     let table = c.args.rows.now.table in
-    let params = c.args.call.now.params.now in
-    let formal = c.args.call.now.result.now in
+    let params = c.args.params.now in
+    let formal = c.args.returned.now in
     let other = c.as_type.result.now in
     let before = c.args.found.now.items in
     let after = c.match_types.new.found.items in
     let fits = c.in_ok-match_types-in-Some.field-0 in
     let ended : Finds (Match table params AtMost formal other) before after (Ok fits) = c.in_ok-match_types-in-Some.ensures in
-    let there : pair AtMost formal other ∷ [] ≡ context_pair formal (option_copied c.args.call.now.context) =
+    let there : pair AtMost formal other ∷ [] ≡ context_pair formal (option_copied c.args.context) =
     ap (λ (t : Ty). pair AtMost formal t ∷ []) c.as_type.ensures ∙ ap (λ o. context_pair formal (option_copied o)) (sym c.in-Some.is) in
     subst (λ (ps : List Pair). GathersInto table params ps before after (Ok tt)) there
     (one_match table params AtMost formal other before after fits ended)
