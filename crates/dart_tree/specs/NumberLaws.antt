@@ -1,10 +1,12 @@
 -- Laws of numbering.
-use Rattle.std.specs.Prelude.{◌≡◌, ℕ, zero, suc, ◌+◌, List, ◌∷◌, ◌++◌, refl}
+use Rattle.std.specs.Prelude.{◌≡◌, ℕ, zero, suc, ◌+◌, List, [], ◌∷◌, ◌++◌, length, map, refl}
 use Rattle.std.specs.List.{range_with_len}
-use Rattle.std.proofs.Common.{ap, arith}
+use Rattle.std.proofs.Common.{ap, arith, length-append}
 use Rattle.dart_tree.specs.Tree.{Tree, Trees, Part, no_more, more, absent, present, name, integer, boolean, null_literal, binary, int_type, bool_type, declare, assign, eval, print, if_statement, while_statement, block, function, unit}
 use Rattle.dart_tree.specs.Places.{place_of}
-use Rattle.dart_tree.specs.Numbers.{nodes_in, nodes_in_all, nodes_in_part, place_numbered, numbered, all_numbered, part_numbered, numbers_of, numbers_of_all, numbers_of_part}
+use Rattle.dart_tree.specs.Numbers.{nodes_in, nodes_in_all, nodes_in_part, place_numbered, numbered, all_numbered, part_numbered, number_at, span_at, places_of, places_of_all, places_of_part, numbers_of, spans_of}
+use Rattle.dart_tree.specs.declared.places.Place.{Place}
+use Rattle.dart_tree.specs.declared.places.Span.{Span}
 
 mutual
   -- a numbered tree has as many nodes as before
@@ -36,25 +38,6 @@ mutual
   pub nodes_in-part_numbered : (n : ℕ) (p : Part) → nodes_in_part (part_numbered n p) ≡ nodes_in_part p
   nodes_in-part_numbered n absent = refl
   nodes_in-part_numbered n (present tree) = nodes_in-numbered n tree
-
--- numbering changes a node's number and not its range
-pub place_of-numbered : (n : ℕ) (t : Tree) → place_of (numbered n t) ≡ place_numbered n (place_of t)
-place_of-numbered n (name at word) = refl
-place_of-numbered n (integer at literal) = refl
-place_of-numbered n (boolean at value) = refl
-place_of-numbered n (null_literal at) = refl
-place_of-numbered n (binary at operator left right) = refl
-place_of-numbered n (int_type at nullable) = refl
-place_of-numbered n (bool_type at) = refl
-place_of-numbered n (declare at declared variable initial) = refl
-place_of-numbered n (assign at target value) = refl
-place_of-numbered n (eval at value) = refl
-place_of-numbered n (print at value) = refl
-place_of-numbered n (if_statement at condition then_block else_block) = refl
-place_of-numbered n (while_statement at condition body) = refl
-place_of-numbered n (block at statements) = refl
-place_of-numbered n (function at body) = refl
-place_of-numbered n (unit at main) = refl
 
 mutual
   -- the numbers that a tree had do not matter: it may be numbered again
@@ -96,79 +79,140 @@ mutual
   part_numbered-part_numbered n m absent = refl
   part_numbered-part_numbered n m (present tree) = ap present (numbered-numbered n m tree)
 
--- the numbers from a on, one more
-pub range-first : (a n : ℕ) → a ∷ range_with_len (a + 1) n ≡ range_with_len a (1 + n)
-range-first a n = let e : 1 + n ≡ suc n = omega arith in rw e refl
+-- places with numbers that count up by one from the first given
+abbrev places_from : ℕ → List Place → List Place
+places_from n [] = []
+places_from n (p ∷ ps) = place_numbered n p ∷ places_from (n + 1) ps
 
--- the numbers from a on, in two parts
-pub range-append : (a m n : ℕ) → range_with_len a m ++ range_with_len (a + m) n ≡ range_with_len a (m + n)
-range-append a zero n = let e : a + zero ≡ a = omega arith in let d : zero + n ≡ n = omega arith in rw (e, d) refl
-range-append a (suc m) n =
-    let e : suc m + n ≡ suc (m + n) = omega arith in
-    let d : a + suc m ≡ a + 1 + m = omega arith in
-    rw (e, d) (ap (λ (xs : List ℕ). a ∷ xs) (range-append (a + 1) m n))
+-- so two lists of places are numbered one behind the other
+places_from-append : (n m : ℕ) (ps qs : List Place) → length ps ≡ m → places_from n (ps ++ qs) ≡ places_from n ps ++ places_from (n + m) qs
+places_from-append n m [] qs e = let d : n + m ≡ n = omega (arith, e) in rw d refl
+places_from-append n zero (p ∷ ps) qs e = absurd (omega (arith, e))
+places_from-append n (suc m) (p ∷ ps) qs e =
+    let d : n + suc m ≡ n + 1 + m = omega arith in
+    let k : length ps ≡ m = omega (arith, e) in
+    rw d (ap (λ (xs : List Place). place_numbered n p ∷ xs) (places_from-append (n + 1) m ps qs k))
 
--- the numbers of a declaration: its own, those of its type, its name's, those of its initializer
-range-declare : (a m n : ℕ) → a ∷ (range_with_len (a + 1) m ++ (a + 1 + m) ∷ range_with_len (a + 2 + m) n) ≡ range_with_len a (2 + m + n)
-range-declare a m n =
-    let e : a + 2 + m ≡ a + 1 + m + 1 = omega arith in
-    let d : 2 + m + n ≡ 1 + (m + (1 + n)) = omega arith in
-    rw (e, d, range-first (a + 1 + m) n, range-append (a + 1) m (1 + n)) (range-first a (m + (1 + n)))
+-- their numbers count up by one
+numbers-places_from : (n : ℕ) (ps : List Place) → map number_at (places_from n ps) ≡ range_with_len n (length ps)
+numbers-places_from n [] = refl
+numbers-places_from n (p ∷ ps) = ap (λ (xs : List ℕ). n ∷ xs) (numbers-places_from (n + 1) ps)
 
--- the numbers of an assignment: its own, its target's, those of its value
-range-assign : (a n : ℕ) → a ∷ (a + 1) ∷ range_with_len (a + 2) n ≡ range_with_len a (2 + n)
-range-assign a n =
-    let e : a + 2 ≡ a + 1 + 1 = omega arith in
-    let d : 2 + n ≡ 1 + (1 + n) = omega arith in
-    rw (e, d, range-first (a + 1) n) (range-first a (1 + n))
-
--- the numbers of a node with two parts: its own, and those of each
-range-two : (a m n : ℕ) → a ∷ (range_with_len (a + 1) m ++ range_with_len (a + 1 + m) n) ≡ range_with_len a (1 + m + n)
-range-two a m n =
-    let d : 1 + m + n ≡ 1 + (m + n) = omega arith in
-    rw (d, range-append (a + 1) m n) (range-first a (m + n))
-
--- the numbers of a node with three parts
-range-three : (a l m n : ℕ) → a ∷ (range_with_len (a + 1) l ++ (range_with_len (a + 1 + l) m ++ range_with_len (a + 1 + l + m) n)) ≡ range_with_len a (1 + l + m + n)
-range-three a l m n =
-    let d : 1 + l + m + n ≡ 1 + l + (m + n) = omega arith in
-    rw (d, range-append (a + 1 + l) m n) (range-two a l (m + n))
+-- and their ranges stay
+spans-places_from : (n : ℕ) (ps : List Place) → map span_at (places_from n ps) ≡ map span_at ps
+spans-places_from n [] = refl
+spans-places_from n (p ∷ ps) = ap (λ (xs : List Span). p.span ∷ xs) (spans-places_from (n + 1) ps)
 
 mutual
-  -- a node's number is how many nodes stand before it: in reading order the numbers count up by one
-  pub numbers_of-numbered : (n : ℕ) (t : Tree) → numbers_of (numbered n t) ≡ range_with_len n (nodes_in t)
-  numbers_of-numbered n (name at word) = refl
-  numbers_of-numbered n (integer at literal) = refl
-  numbers_of-numbered n (boolean at value) = refl
-  numbers_of-numbered n (null_literal at) = refl
-  numbers_of-numbered n (binary at operator left right) =
-      rw (numbers_of-numbered (n + 1) left, numbers_of-numbered (n + 1 + nodes_in left) right) (range-two n (nodes_in left) (nodes_in right))
-  numbers_of-numbered n (int_type at nullable) = refl
-  numbers_of-numbered n (bool_type at) = refl
-  numbers_of-numbered n (declare at declared variable initial) =
-      rw (numbers_of-numbered (n + 1) declared, numbers_of-part_numbered (n + 2 + nodes_in declared) initial) (range-declare n (nodes_in declared) (nodes_in_part initial))
-  numbers_of-numbered n (assign at target value) = rw (numbers_of-numbered (n + 2) value) (range-assign n (nodes_in value))
-  numbers_of-numbered n (eval at value) = rw (numbers_of-numbered (n + 1) value) (range-first n (nodes_in value))
-  numbers_of-numbered n (print at value) = rw (numbers_of-numbered (n + 1) value) (range-first n (nodes_in value))
-  numbers_of-numbered n (if_statement at condition then_block else_block) =
+  -- each node has a place, and so has each name that is declared or assigned
+  pub length-places_of : (t : Tree) → length (places_of t) ≡ nodes_in t
+  length-places_of (name at word) = refl
+  length-places_of (integer at literal) = refl
+  length-places_of (boolean at value) = refl
+  length-places_of (null_literal at) = refl
+  length-places_of (binary at operator left right) =
+      simp length-append (omega (arith, length-places_of left, length-places_of right))
+  length-places_of (int_type at nullable) = refl
+  length-places_of (bool_type at) = refl
+  length-places_of (declare at declared variable initial) =
+      simp length-append (omega (arith, length-places_of declared, length-places_of_part initial))
+  length-places_of (assign at target value) = omega (arith, length-places_of value)
+  length-places_of (eval at value) = omega (arith, length-places_of value)
+  length-places_of (print at value) = omega (arith, length-places_of value)
+  length-places_of (if_statement at condition then_block else_block) =
+      simp length-append (omega (arith, length-places_of condition, length-places_of then_block, length-places_of_part else_block))
+  length-places_of (while_statement at condition body) =
+      simp length-append (omega (arith, length-places_of condition, length-places_of body))
+  length-places_of (block at statements) = omega (arith, length-places_of_all statements)
+  length-places_of (function at body) = omega (arith, length-places_of body)
+  length-places_of (unit at main) = omega (arith, length-places_of main)
+
+  -- so it is of the nodes of a list of trees
+  length-places_of_all : (ts : Trees) → length (places_of_all ts) ≡ nodes_in_all ts
+  length-places_of_all no_more = refl
+  length-places_of_all (more first rest) =
+      simp length-append (omega (arith, length-places_of first, length-places_of_all rest))
+
+  -- and of a part
+  length-places_of_part : (p : Part) → length (places_of_part p) ≡ nodes_in_part p
+  length-places_of_part absent = refl
+  length-places_of_part (present tree) = length-places_of tree
+
+-- two trees are numbered one behind the other
+places_from-tree : (n : ℕ) (t : Tree) (ps : List Place) → places_from n (places_of t ++ ps) ≡ places_from n (places_of t) ++ places_from (n + nodes_in t) ps
+places_from-tree n t ps = places_from-append n (nodes_in t) (places_of t) ps (length-places_of t)
+
+mutual
+  -- in reading order the numbers of all nodes count up by one from the first given, and each range stays
+  places_of-numbered : (n : ℕ) (t : Tree) → places_of (numbered n t) ≡ places_from n (places_of t)
+  places_of-numbered n (name at word) = refl
+  places_of-numbered n (integer at literal) = refl
+  places_of-numbered n (boolean at value) = refl
+  places_of-numbered n (null_literal at) = refl
+  places_of-numbered n (binary at operator left right) =
+      rw (places_of-numbered (n + 1) left, places_of-numbered (n + 1 + nodes_in left) right, places_from-tree (n + 1) left (places_of right)) refl
+  places_of-numbered n (int_type at nullable) = refl
+  places_of-numbered n (bool_type at) = refl
+  places_of-numbered n (declare at declared variable initial) =
+      let e : n + 2 + nodes_in declared ≡ n + 1 + nodes_in declared + 1 = omega arith in
       rw (
-        numbers_of-numbered (n + 1) condition,
-        numbers_of-numbered (n + 1 + nodes_in condition) then_block,
-        numbers_of-part_numbered (n + 1 + nodes_in condition + nodes_in then_block) else_block,
-      ) (range-three n (nodes_in condition) (nodes_in then_block) (nodes_in_part else_block))
-  numbers_of-numbered n (while_statement at condition body) =
-      rw (numbers_of-numbered (n + 1) condition, numbers_of-numbered (n + 1 + nodes_in condition) body) (range-two n (nodes_in condition) (nodes_in body))
-  numbers_of-numbered n (block at statements) = rw (numbers_of-all_numbered (n + 1) statements) (range-first n (nodes_in_all statements))
-  numbers_of-numbered n (function at body) = rw (numbers_of-numbered (n + 1) body) (range-first n (nodes_in body))
-  numbers_of-numbered n (unit at main) = rw (numbers_of-numbered (n + 1) main) (range-first n (nodes_in main))
+        places_of-numbered (n + 1) declared,
+        places_of_part-numbered (n + 2 + nodes_in declared) initial,
+        places_from-tree (n + 1) declared (variable.at ∷ places_of_part initial),
+        e,
+      ) refl
+  places_of-numbered n (assign at target value) =
+      let e : n + 2 ≡ n + 1 + 1 = omega arith in rw (places_of-numbered (n + 2) value, e) refl
+  places_of-numbered n (eval at value) = rw (places_of-numbered (n + 1) value) refl
+  places_of-numbered n (print at value) = rw (places_of-numbered (n + 1) value) refl
+  places_of-numbered n (if_statement at condition then_block else_block) =
+      rw (
+        places_of-numbered (n + 1) condition,
+        places_of-numbered (n + 1 + nodes_in condition) then_block,
+        places_of_part-numbered (n + 1 + nodes_in condition + nodes_in then_block) else_block,
+        places_from-tree (n + 1) condition (places_of then_block ++ places_of_part else_block),
+        places_from-tree (n + 1 + nodes_in condition) then_block (places_of_part else_block),
+      ) refl
+  places_of-numbered n (while_statement at condition body) =
+      rw (places_of-numbered (n + 1) condition, places_of-numbered (n + 1 + nodes_in condition) body, places_from-tree (n + 1) condition (places_of body)) refl
+  places_of-numbered n (block at statements) = rw (places_of_all-numbered (n + 1) statements) refl
+  places_of-numbered n (function at body) = rw (places_of-numbered (n + 1) body) refl
+  places_of-numbered n (unit at main) = rw (places_of-numbered (n + 1) main) refl
 
   -- so they do through a list of trees
-  pub numbers_of-all_numbered : (n : ℕ) (ts : Trees) → numbers_of_all (all_numbered n ts) ≡ range_with_len n (nodes_in_all ts)
-  numbers_of-all_numbered n no_more = refl
-  numbers_of-all_numbered n (more first rest) =
-      rw (numbers_of-numbered n first, numbers_of-all_numbered (n + nodes_in first) rest) (range-append n (nodes_in first) (nodes_in_all rest))
+  places_of_all-numbered : (n : ℕ) (ts : Trees) → places_of_all (all_numbered n ts) ≡ places_from n (places_of_all ts)
+  places_of_all-numbered n no_more = refl
+  places_of_all-numbered n (more first rest) =
+      rw (places_of-numbered n first, places_of_all-numbered (n + nodes_in first) rest, places_from-tree n first (places_of_all rest)) refl
 
   -- and through a part
-  pub numbers_of-part_numbered : (n : ℕ) (p : Part) → numbers_of_part (part_numbered n p) ≡ range_with_len n (nodes_in_part p)
-  numbers_of-part_numbered n absent = refl
-  numbers_of-part_numbered n (present tree) = numbers_of-numbered n tree
+  places_of_part-numbered : (n : ℕ) (p : Part) → places_of_part (part_numbered n p) ≡ places_from n (places_of_part p)
+  places_of_part-numbered n absent = refl
+  places_of_part-numbered n (present tree) = places_of-numbered n tree
+
+-- in reading order the numbers of all nodes count up by one
+pub numbers_of-numbered : (n : ℕ) (t : Tree) → numbers_of (numbered n t) ≡ range_with_len n (nodes_in t)
+numbers_of-numbered n t = rw (places_of-numbered n t, numbers-places_from n (places_of t), length-places_of t) refl
+
+-- the ranges of all nodes stay
+pub spans_of-numbered : (n : ℕ) (t : Tree) → spans_of (numbered n t) ≡ spans_of t
+spans_of-numbered n t = rw (places_of-numbered n t) (spans-places_from n (places_of t))
+
+-- in reading order a node stands before the nodes in it
+pub place_of-first : (t : Tree) → (rest : List Place) × (places_of t ≡ place_of t ∷ rest)
+place_of-first (name at word) = (_, refl)
+place_of-first (integer at literal) = (_, refl)
+place_of-first (boolean at value) = (_, refl)
+place_of-first (null_literal at) = (_, refl)
+place_of-first (binary at operator left right) = (_, refl)
+place_of-first (int_type at nullable) = (_, refl)
+place_of-first (bool_type at) = (_, refl)
+place_of-first (declare at declared variable initial) = (_, refl)
+place_of-first (assign at target value) = (_, refl)
+place_of-first (eval at value) = (_, refl)
+place_of-first (print at value) = (_, refl)
+place_of-first (if_statement at condition then_block else_block) = (_, refl)
+place_of-first (while_statement at condition body) = (_, refl)
+place_of-first (block at statements) = (_, refl)
+place_of-first (function at body) = (_, refl)
+place_of-first (unit at main) = (_, refl)

@@ -1,7 +1,8 @@
 -- The numbers of the nodes: in reading order, a node before the nodes in it.
-use Rattle.std.specs.Prelude.{ℕ, ◌+◌, List, [], ◌∷◌, ◌++◌}
+use Rattle.std.specs.Prelude.{ℕ, ◌+◌, List, [], ◌∷◌, ◌++◌, map}
 use Rattle.dart_tree.specs.Tree.{Tree, Trees, Part, no_more, more, absent, present, name, integer, boolean, null_literal, binary, int_type, bool_type, declare, assign, eval, print, if_statement, while_statement, block, function, unit}
 use Rattle.dart_tree.specs.declared.places.Place.{Place}
+use Rattle.dart_tree.specs.declared.places.Span.{Span}
 use Rattle.dart_tree.specs.declared.nodes.Name.{Name}
 
 abbrev mutual
@@ -81,32 +82,44 @@ abbrev mutual
 abbrev pub number_at : Place → ℕ
 number_at at = at.node.0
 
+-- the range that a place has
+abbrev pub span_at : Place → Span
+span_at at = at.span
+
 abbrev mutual
-  -- the numbers of a tree's nodes in reading order, those of its declared and assigned names among them
-  pub numbers_of : Tree → List ℕ
-  numbers_of (name at word) = number_at at ∷ []
-  numbers_of (integer at literal) = number_at at ∷ []
-  numbers_of (boolean at value) = number_at at ∷ []
-  numbers_of (null_literal at) = number_at at ∷ []
-  numbers_of (binary at operator left right) = number_at at ∷ (numbers_of left ++ numbers_of right)
-  numbers_of (int_type at nullable) = number_at at ∷ []
-  numbers_of (bool_type at) = number_at at ∷ []
-  numbers_of (declare at declared variable initial) = number_at at ∷ (numbers_of declared ++ number_at variable.at ∷ numbers_of_part initial)
-  numbers_of (assign at target value) = number_at at ∷ number_at target.at ∷ numbers_of value
-  numbers_of (eval at value) = number_at at ∷ numbers_of value
-  numbers_of (print at value) = number_at at ∷ numbers_of value
-  numbers_of (if_statement at condition then_block else_block) = number_at at ∷ (numbers_of condition ++ (numbers_of then_block ++ numbers_of_part else_block))
-  numbers_of (while_statement at condition body) = number_at at ∷ (numbers_of condition ++ numbers_of body)
-  numbers_of (block at statements) = number_at at ∷ numbers_of_all statements
-  numbers_of (function at body) = number_at at ∷ numbers_of body
-  numbers_of (unit at main) = number_at at ∷ numbers_of main
+  -- the places of all nodes of a tree in reading order, those of its declared and assigned names among them
+  pub places_of : Tree → List Place
+  places_of (name at word) = at ∷ []
+  places_of (integer at literal) = at ∷ []
+  places_of (boolean at value) = at ∷ []
+  places_of (null_literal at) = at ∷ []
+  places_of (binary at operator left right) = at ∷ (places_of left ++ places_of right)
+  places_of (int_type at nullable) = at ∷ []
+  places_of (bool_type at) = at ∷ []
+  places_of (declare at declared variable initial) = at ∷ (places_of declared ++ variable.at ∷ places_of_part initial)
+  places_of (assign at target value) = at ∷ target.at ∷ places_of value
+  places_of (eval at value) = at ∷ places_of value
+  places_of (print at value) = at ∷ places_of value
+  places_of (if_statement at condition then_block else_block) = at ∷ (places_of condition ++ (places_of then_block ++ places_of_part else_block))
+  places_of (while_statement at condition body) = at ∷ (places_of condition ++ places_of body)
+  places_of (block at statements) = at ∷ places_of_all statements
+  places_of (function at body) = at ∷ places_of body
+  places_of (unit at main) = at ∷ places_of main
 
-  -- the numbers of the nodes of a list of trees
-  pub numbers_of_all : Trees → List ℕ
-  numbers_of_all no_more = []
-  numbers_of_all (more first rest) = numbers_of first ++ numbers_of_all rest
+  -- the places of the nodes of a list of trees
+  pub places_of_all : Trees → List Place
+  places_of_all no_more = []
+  places_of_all (more first rest) = places_of first ++ places_of_all rest
 
-  -- the numbers of a part's nodes
-  pub numbers_of_part : Part → List ℕ
-  numbers_of_part absent = []
-  numbers_of_part (present tree) = numbers_of tree
+  -- the places of a part's nodes
+  pub places_of_part : Part → List Place
+  places_of_part absent = []
+  places_of_part (present tree) = places_of tree
+
+-- the numbers of all nodes of a tree in reading order
+abbrev pub numbers_of : Tree → List ℕ
+numbers_of t = map number_at (places_of t)
+
+-- the ranges of all nodes of a tree in reading order
+abbrev pub spans_of : Tree → List Span
+spans_of t = map span_at (places_of t)

@@ -1,10 +1,11 @@
 //! The numbers of a unit's nodes.
 
-ghost use Rattle.std.specs.Prelude.{◌≡◌, ℕ, ◌+◌, ◌<◌, ◌^◌};
+ghost use Rattle.std.specs.Prelude.{◌≡◌, ℕ, ◌+◌, ◌<◌, ◌^◌, List, ◌∷◌, length};
 ghost use Rattle.std.specs.List.{range_with_len};
 ghost use Rattle.dart_tree.specs.Tree.{Tree, trees_of};
 ghost use Rattle.dart_tree.specs.Places.{place_of};
-ghost use Rattle.dart_tree.specs.Numbers.{numbers_of, nodes_in, nodes_in_all, numbered, all_numbered, place_numbered, name_numbered};
+ghost use Rattle.dart_tree.specs.declared.places.Place.{Place as Where};
+ghost use Rattle.dart_tree.specs.Numbers.{places_of, numbers_of, spans_of, nodes_in, nodes_in_all, numbered, all_numbered, place_numbered, name_numbered};
 
 use crate::nodes::{
     Block, Expr, ExprNode, Function, Name, Stmt, StmtNode, Unit, WrittenType, WrittenTypeNode,
@@ -20,12 +21,16 @@ pub fn number_unit(unit: &mut Unit)
     let _end = number_function(&mut unit.main, 1);
 }
 
-/// The laws of numbering: in reading order the numbers count up by one from the first given, no
-/// node is lost or gained, ranges stay, and numbers that were there before do not matter.
+/// The laws of numbering. Of all nodes of a tree, those of its names among them, in reading order:
+/// their numbers count up by one from the first given, their ranges stay, and a node comes before
+/// the nodes in it. `nodes_in` counts them, none is lost or gained, and the numbers that were there
+/// before do not matter.
 pub fn numbering_laws()
     ensures in_order { (first : ℕ) (t : Tree) → numbers_of (numbered first t) ≡ range_with_len first (nodes_in t) }
+    ensures ranges { (first : ℕ) (t : Tree) → spans_of (numbered first t) ≡ spans_of t }
+    ensures before { (t : Tree) → (rest : List Where) × (places_of t ≡ place_of t ∷ rest) }
+    ensures counted { (t : Tree) → length (places_of t) ≡ nodes_in t }
     ensures as_many { (first : ℕ) (t : Tree) → nodes_in (numbered first t) ≡ nodes_in t }
-    ensures places { (first : ℕ) (t : Tree) → place_of (numbered first t) ≡ place_numbered first (place_of t) }
     ensures anew { (first before : ℕ) (t : Tree) → numbered first (numbered before t) ≡ numbered first t }
 {}
 

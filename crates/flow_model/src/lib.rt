@@ -15,8 +15,6 @@ mod local;
 mod locals;
 mod model;
 mod subtyping;
-#[cfg(test)]
-mod tests;
 mod types;
 
 pub use laws::{
