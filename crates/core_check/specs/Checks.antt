@@ -1,9 +1,10 @@
 -- What the parts of the check say of a point, and what their values stand for.
-use Rattle.std.specs.Prelude.{◌≡◌, ℕ, IsTrue, is_some, List, [], Option, Some, None, Ok, Err, slice_get}
+use Rattle.std.specs.Prelude.{◌≡◌, ℕ, IsTrue, is_some, List, [], ◌∷◌, Option, Some, None, Ok, Err, slice_get}
 use Rattle.std.specs.declared.result.Result.{Result}
 use Rattle.flow_model.specs.Ty.{Ty}
 use Rattle.core_ir.specs.PointFacts.{PointFacts}
 use Rattle.core_ir.specs.declared.facts.SlotFact.{SlotFact}
+use Rattle.core_ir.specs.declared.points.PointId.{PointId}
 use Rattle.core_check.specs.Known.{known_of, is_shared, held_type}
 use Rattle.core_check.specs.Tables.{Way, changed, held_as}
 use Rattle.core_check.specs.Faults.{Fault, SlotPart, of_assigned, of_type, of_shared}
@@ -39,6 +40,10 @@ known_after f (Some change) = changed f change.slot (record { assigned = change.
 -- the way on that the code's stands for
 abbrev pub way_of : PointFacts → CodeWay → Way
 way_of f way = record { next = way.next; known = known_after f way.change }
+
+-- two ways on, the second of which has the change
+abbrev pub two_ways : PointFacts → PointId → PointId → Option Change → List Way
+two_ways f first second change = record { next = first; known = known_of f } ∷ record { next = second; known = known_after f change } ∷ []
 
 -- the part of a next point's facts that the code's stands for
 abbrev pub part_of : Part → SlotPart

@@ -57,13 +57,21 @@ next_faults p on =
     ++ flat_map (way_faults p of_type) on
     ++ flat_map (way_faults p of_shared) on
 
+-- what fails of what a term reads
+abbrev pub read_faults : PointFacts → Term → List Fault
+read_faults f term = flat_map (λ operand. unless (is_assigned f operand)) (reads term)
+
+-- what fails of what it stores
+abbrev pub stored_faults : Program → PointFacts → Term → List Fault
+stored_faults p f term = flat_map (λ stored. unless_below p.rows stored.ty (declared_of p stored.slot)) (stores p f term)
+
+-- what fails of what it asks of its operands
+abbrev pub asked_faults : Program → PointFacts → Term → List Fault
+asked_faults p f term = flat_map (λ asked. unless_below p.rows (operand_type p f asked.operand) asked.ty) (asks term)
+
 -- what fails at a term with what is known before it: of what it reads, stores, asks and leaves, in this order
 abbrev pub term_faults : Program → PointFacts → Term → List Fault
-term_faults p f term =
-    flat_map (λ operand. unless (is_assigned f operand)) (reads term)
-    ++ flat_map (λ stored. unless_below p.rows stored.ty (declared_of p stored.slot)) (stores p f term)
-    ++ flat_map (λ asked. unless_below p.rows (operand_type p f asked.operand) asked.ty) (asks term)
-    ++ next_faults p (ways p f term)
+term_faults p f term = read_faults f term ++ stored_faults p f term ++ asked_faults p f term ++ next_faults p (ways p f term)
 
 -- whether a slot is as at the entry: it has no value, its declared type, and isn't shared
 abbrev pub is_fresh : Ty → SlotFact → Bool

@@ -4,7 +4,7 @@ use Rattle.flow_model.specs.Ty.{Ty, int, bool, non_null_of}
 use Rattle.core_ir.specs.PointFacts.{PointFacts}
 use Rattle.core_ir.specs.Program.{Program}
 use Rattle.core_ir.specs.Values.{declared_of}
-use Rattle.core_ir.specs.declared.values.Value.TheVariants.{Boolean}
+use Rattle.core_ir.specs.declared.values.Value.TheVariants.{Null, Integer, Boolean}
 use Rattle.core_ir.specs.declared.facts.Held.{Held}
 use Rattle.core_ir.specs.declared.facts.Held.TheVariants.{Own, Shared}
 use Rattle.core_ir.specs.declared.facts.SlotFact.{SlotFact}
@@ -98,6 +98,10 @@ abbrev pub after_test : Program → PointFacts → SlotId → ℕ → SlotFact
 after_test p f slot =
     changed f slot (record { assigned = (known_of f slot.0).assigned; held = held_as (is_shared (known_of f slot.0).held) (non_null_of (slot_type p f slot)) })
 
+-- two ways on, on which nothing more is known
+abbrev pub either_way : PointFacts → PointId → PointId → List Way
+either_way f when_true when_false = record { next = when_true; known = known_of f } ∷ record { next = when_false; known = known_of f } ∷ []
+
 -- the ways on, in their order: of a branch on a constant only the one that it takes
 abbrev pub ways : Program → PointFacts → Term → List Way
 ways p f (Store to from next) = record { next = next; known = after_store f to (operand_type p f from) } ∷ []
@@ -108,7 +112,9 @@ ways p f (Less to left right next) = record { next = next; known = after_store f
 ways p f (NotEqual to left right next) = record { next = next; known = after_store f to bool } ∷ []
 ways p f (Branch (Constant (Boolean true)) when_true when_false) = record { next = when_true; known = known_of f } ∷ []
 ways p f (Branch (Constant (Boolean false)) when_true when_false) = record { next = when_false; known = known_of f } ∷ []
-ways p f (Branch on when_true when_false) = record { next = when_true; known = known_of f } ∷ record { next = when_false; known = known_of f } ∷ []
+ways p f (Branch (Constant Null) when_true when_false) = either_way f when_true when_false
+ways p f (Branch (Constant (Integer n)) when_true when_false) = either_way f when_true when_false
+ways p f (Branch (Slot on) when_true when_false) = either_way f when_true when_false
 ways p f (TestNull slot at_null other) = record { next = at_null; known = known_of f } ∷ record { next = other; known = after_test p f slot } ∷ []
 ways p f (Loop next) = record { next = next; known = known_of f } ∷ []
 ways p f (Output from next) = record { next = next; known = known_of f } ∷ []

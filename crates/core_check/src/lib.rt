@@ -14,8 +14,6 @@ mod laws;
 mod misses;
 mod points;
 mod terms;
-#[cfg(test)]
-mod tests;
 mod ways;
 mod well_formed;
 

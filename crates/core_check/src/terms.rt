@@ -1,14 +1,14 @@
 //! The clauses on a term.
 
-ghost use Rattle.std.specs.Prelude.{◌≡◌, ◌∷◌, [], flat_map, length};
+ghost use Rattle.std.specs.Prelude.{◌≡◌, ◌∷◌, [], length};
 ghost use Rattle.core_ir.specs.PointFacts.{PointFacts};
 ghost use Rattle.core_ir.specs.Values.{declared_of};
 ghost use Rattle.core_ir.specs.declared.points.Term.TheVariants.{Branch};
 ghost use Rattle.core_check.specs.WellFormed.{IsOperand, IsPoint, IsSlot, IsTerm, IsWellFormed};
-ghost use Rattle.core_check.specs.Known.{is_assigned, known_of, operand_type};
-ghost use Rattle.core_check.specs.Tables.{reads, stores, asks, ways, after_store, after_declare, after_initialize, after_test};
-ghost use Rattle.core_check.specs.Faults.{unless, unless_below, next_faults, term_faults};
-ghost use Rattle.core_check.specs.Checks.{Tells, known_after};
+ghost use Rattle.core_check.specs.Known.{is_assigned, operand_type};
+ghost use Rattle.core_check.specs.Tables.{ways, after_store, after_declare, after_initialize, after_test};
+ghost use Rattle.core_check.specs.Faults.{unless, unless_below, read_faults, stored_faults, asked_faults, next_faults, term_faults};
+ghost use Rattle.core_check.specs.Checks.{Tells, known_after, two_ways};
 
 use crate::context::Context;
 use crate::known::{declared, is_readable, known_by, type_of};
@@ -30,7 +30,7 @@ fn check_read(context: Context<'_>, facts: &Facts, operand: Operand) -> Result<(
 fn check_reads(context: Context<'_>, facts: &Facts, term: Term) -> Result<(), Miss>
     requires term { IsTerm context.program.now term }
     requires wide { length facts.now.slots ≡ length context.program.now.slots }
-    ensures { Tells result (flat_map (λ operand. unless (is_assigned facts.now operand)) (reads term)) }
+    ensures { Tells result (read_faults facts.now term) }
 {
     match term {
         Term::Store { from, .. } | Term::Initialize { from, .. } | Term::Output { from, .. } => {
@@ -60,7 +60,7 @@ fn check_store(context: Context<'_>, slot: SlotId, ty: &DartType) -> Result<(), 
 fn check_stores(context: Context<'_>, facts: &Facts, term: Term) -> Result<(), Miss>
     requires term { IsTerm context.program.now term }
     requires wide { length facts.now.slots ≡ length context.program.now.slots }
-    ensures { Tells result (flat_map (λ stored. unless_below context.entry.program.now.rows stored.ty (declared_of context.entry.program.now stored.slot)) (stores context.entry.program.now facts.now term)) }
+    ensures { Tells result (stored_faults context.entry.program.now facts.now term) }
 {
     let plain = context.plain;
     match term {
@@ -99,7 +99,7 @@ fn check_asked(
 fn check_asks(context: Context<'_>, facts: &Facts, term: Term) -> Result<(), Miss>
     requires term { IsTerm context.program.now term }
     requires wide { length facts.now.slots ≡ length context.program.now.slots }
-    ensures { Tells result (flat_map (λ asked. unless_below context.entry.program.now.rows (operand_type context.entry.program.now facts.now asked.operand) asked.ty) (asks term)) }
+    ensures { Tells result (asked_faults context.entry.program.now facts.now term) }
 {
     let plain = context.plain;
     match term {
@@ -207,7 +207,7 @@ fn check_two(
     requires first { IsPoint context.program.now first }
     requires second { IsPoint context.program.now second }
     requires wide { length facts.now.slots ≡ length context.program.now.slots }
-    ensures { Tells result (next_faults context.entry.program.now (record { next = first; known = known_of facts.now } ∷ record { next = second; known = known_after facts.now change.entry } ∷ [])) }
+    ensures { Tells result (next_faults context.entry.program.now (two_ways facts.now first second change.entry)) }
 {
     let unchanged = Way {
         next: first,
@@ -237,7 +237,9 @@ fn check_branch(
     match on {
         Operand::Constant(Value::Boolean(true)) => check_next(context, facts, when_true, None),
         Operand::Constant(Value::Boolean(false)) => check_next(context, facts, when_false, None),
-        _ => check_two(context, facts, when_true, when_false, None),
+        Operand::Constant(Value::Null | Value::Integer(_)) | Operand::Slot(_) => {
+            check_two(context, facts, when_true, when_false, None)
+        }
     }
 }
 

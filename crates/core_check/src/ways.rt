@@ -83,7 +83,8 @@ fn check_slot(
     requires declared { slot < length context.program.now.slots }
     requires in_facts { slot < length facts.now.slots }
     requires in_after { slot < length after.now.slots }
-    ensures { Tells result (slot_faults (part_of part) context.entry.program.now.rows (declared_at context.entry.program.now slot) (known_after facts.now change.entry slot) (known_of after.now slot)) }
+    ensures { let p = context.entry.program.now in
+        Tells result (slot_faults (part_of part) p.rows (declared_at p slot) (known_after facts.now change.entry slot) (known_of after.now slot)) }
 {
     let before = known_on(context.program, facts, change, slot);
     let after = known_by(context.program, after, slot);

@@ -3,3 +3,4 @@ pub mod SlotLemmas
 pub mod RowLemmas
 pub mod Soundness
 pub mod RunLemmas
+pub mod WrongLemmas

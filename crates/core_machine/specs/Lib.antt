@@ -2,3 +2,4 @@ pub mod Values
 pub mod Steps
 pub mod State
 pub mod Sound
+pub mod GoingWrong

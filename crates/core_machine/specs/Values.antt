@@ -25,7 +25,12 @@ abbrev pub same_value : Value → Value → Bool
 same_value Null Null = true
 same_value (Integer a) (Integer b) = int_eq a b
 same_value (Boolean a) (Boolean b) = same_truth a b
-same_value _ _ = false
+same_value Null (Integer b) = false
+same_value Null (Boolean b) = false
+same_value (Integer a) Null = false
+same_value (Integer a) (Boolean b) = false
+same_value (Boolean a) Null = false
+same_value (Boolean a) (Integer b) = false
 
 -- what a value is printed as
 abbrev pub text_of : Value → List ℕ

@@ -1,7 +1,14 @@
 //! Laws of runs. Each is the contract of a function that does no work.
 
-ghost use Rattle.std.specs.Prelude.{◌≡◌, ◌≢◌, ℕ, ◌+◌, List};
-ghost use Rattle.core_machine.specs.Steps.{Kind};
+ghost use Rattle.std.specs.Prelude.{◌≡◌, ◌≢◌, ℕ, ◌+◌, IsTrue, List, Some};
+ghost use Rattle.core_ir.specs.Values.{has, declared_of};
+ghost use Rattle.core_ir.specs.declared.points.PointId.{PointId};
+ghost use Rattle.core_ir.specs.declared.points.SlotId.{SlotId};
+ghost use Rattle.core_ir.specs.declared.points.Term.{Term};
+ghost use Rattle.core_ir.specs.declared.values.Value.{Value};
+ghost use Rattle.core_machine.specs.Steps.{Kind, ReadUnassignedLocal, Slots, Does, row, store_fault};
+ghost use Rattle.core_machine.specs.GoingWrong.{ReadsNothing, StoresMisfit, bad_program, bad_steps};
+ghost use Rattle.core_machine.specs.declared.effect.Effect.TheVariants.{Write};
 ghost use Rattle.core_machine.specs.State.{State, Done, Wrong, step_of, run_of, preceded_by, leads_preceded_by};
 
 use core_check::Accepted;
@@ -14,6 +21,20 @@ pub fn never_wrong(program: &Accepted)
     // Opens what is known of an accepted program for the contract.
     let _ = program.program();
 }
+
+/// For each way to go wrong there is a program whose run takes it.
+pub fn each_way_to_go_wrong_is_taken()
+    ensures { (k : Kind) → run_of (bad_program k) (bad_steps k) ≡ Wrong k }
+{}
+
+/// Whatever the program: a step that reads a slot without a value goes wrong, and so does one that
+/// stores a value which hasn't the declared type of its slot. No row writes such a value.
+pub fn misuse_goes_wrong(_program: &CoreProgram)
+    ensures read { (s : State) → ReadsNothing _program.now s → step_of _program.now s ≡ Wrong ReadUnassignedLocal }
+    ensures stored { (s : State) (v : Value) → StoresMisfit _program.now s v → step_of _program.now s ≡ Wrong (store_fault v) }
+    ensures written { (slots : Slots) (term : Term) (to : SlotId) (v : Value) (next : PointId)
+        → row _program.now slots term ≡ Does (Write to (Some v) next) → IsTrue (has _program.now.rows v (declared_of _program.now to)) }
+{}
 
 /// A run of any program that is over stays as it is, whatever number of steps follows.
 pub fn a_run_that_is_over_stays(_program: &CoreProgram)

@@ -15,8 +15,9 @@ mod frame;
 mod laws;
 mod machine;
 mod print;
-#[cfg(test)]
-mod tests;
 
-pub use laws::{a_run_that_is_over_stays, never_wrong, steps_add_to_what_was_printed};
+pub use laws::{
+    a_run_that_is_over_stays, each_way_to_go_wrong_is_taken, misuse_goes_wrong, never_wrong,
+    steps_add_to_what_was_printed,
+};
 pub use machine::{Machine, Turn};

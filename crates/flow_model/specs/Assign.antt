@@ -3,7 +3,8 @@ use Rattle.std.specs.Prelude.{Bool, true, false, ◌&&◌, List, [], ◌∷◌, 
 use Rattle.std.specs.List.{list_any, list_all}
 use Rattle.flow_model.specs.Ty.{Ty, same_type, non_null_of}
 use Rattle.flow_model.specs.Sub.{sub, proper_sub}
-use Rattle.flow_model.specs.Flow.{last_or}
+use Rattle.flow_model.specs.Flow.{FlowModel, at_local, last_or}
+use Rattle.flow_model.specs.declared.locals.LocalId.{LocalId}
 use Rattle.flow_model.specs.declared.locals.Facts.{Facts}
 use Rattle.flow_model.specs.declared.subtyping.Rows.{Rows}
 
@@ -46,3 +47,7 @@ chain_after rows written l =
 -- what is known of a local after a write of a value of the type written
 abbrev pub assign_facts : Rows → Ty → Facts → Facts
 assign_facts rows written l = record l { chain = chain_after rows written l; assigned = true; unassigned = false }
+
+-- the model after such a write
+abbrev pub assign_of : FlowModel → Rows → LocalId → Ty → FlowModel
+assign_of m rows var written = at_local m var (assign_facts rows written)

@@ -1,6 +1,7 @@
 -- Flow models: what is known of the locals at a point of a body, and what scopes do to it.
 use Rattle.std.specs.Prelude.{◌≡◌, ◌≢◌, ◌<◌, Bool, true, false, nat_eq, nat_lt, List, [], ◌∷◌, ◌++◌, Option, if◌then◌else◌, filter, map, find, fold, not, refl, All, AllPairs, IsTrue}
 use Rattle.std.specs.List.{list_any}
+use Rattle.std.specs.Option.{option_map, option_map_or}
 use Rattle.std.specs.Coded.{Coded, code_by, coded×, coded_bool, coded_list}
 use Rattle.flow_model.specs.Ty.{Ty}
 use Rattle.flow_model.specs.declared.locals.LocalId.{LocalId}
@@ -34,6 +35,10 @@ is_of var l = nat_eq l.var.0 var.0
 abbrev pub facts_of : FlowModel → LocalId → Option Facts
 facts_of m var = find (is_of var) m.locals
 
+-- whether what is known of a local says so: not where it isn't in scope
+abbrev pub is_known : (Facts → Bool) → FlowModel → LocalId → Bool
+is_known says m var = option_map_or says (facts_of m var) false
+
 -- the model with the facts of one local changed
 abbrev pub at_local : FlowModel → LocalId → (Facts → Facts) → FlowModel
 at_local m var change =
@@ -47,6 +52,14 @@ last_or t (u ∷ us) = last_or u us
 -- the current type of a local: the last that it was promoted to, else the declared one
 abbrev pub current_of : Facts → Ty
 current_of l = last_or l.ty l.chain
+
+-- the current type of a local, if it is in scope
+abbrev pub current_in : FlowModel → LocalId → Option Ty
+current_in m var = option_map current_of (facts_of m var)
+
+-- the declared type of a local, if it is in scope
+abbrev pub declared_in : FlowModel → LocalId → Option Ty
+declared_in m var = option_map (λ l. l.ty) (facts_of m var)
 
 -- the local isn't promoted where it is captured
 abbrev pub IsUnpromotedIfCaptured : Facts → Type 0

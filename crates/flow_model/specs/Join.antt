@@ -1,5 +1,5 @@
 -- Where two paths meet: what is known on both.
-use Rattle.std.specs.Prelude.{◌≡◌, true, ◌&&◌, ◌||◌, not, List, [], ◌++◌, if◌then◌else◌, filter, map, zip}
+use Rattle.std.specs.Prelude.{◌≡◌, IsTrue, Bool, true, ◌&&◌, ◌||◌, not, List, [], ◌++◌, if◌then◌else◌, filter, map, zip}
 use Rattle.flow_model.specs.Ty.{Ty}
 use Rattle.flow_model.specs.Flow.{FlowModel}
 use Rattle.flow_model.specs.Assign.{is_in}
@@ -35,6 +35,10 @@ join_facts a b = record {
   captured = a.captured || b.captured;
 }
 
+-- a local is captured on neither of two paths, and was promoted to a type on both
+abbrev pub promoted_on_both : Facts → Facts → Ty → Bool
+promoted_on_both a b t = not (a.captured || b.captured) && (is_in a.chain t && is_in b.chain t)
+
 -- what is known of each local on both paths; the locals are paired by their places
 abbrev pub join_locals : List Facts → List Facts → List Facts
 join_locals ls ms = map (λ pair. join_facts pair.0 pair.1) (zip ls ms)
@@ -45,3 +49,9 @@ join_of a b =
     if b.reachable
     then (if a.reachable then record { reachable = true; locals = join_locals a.locals b.locals } else b)
     else a
+
+-- two paths of the same scope meet that are both reached
+pub record BothReach (a b : FlowModel) : Type 0 where
+  pub same_scope : HaveSameScope a b
+  pub first : IsTrue a.reachable
+  pub second : IsTrue b.reachable

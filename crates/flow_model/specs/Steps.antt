@@ -1,5 +1,5 @@
 -- What an exit, a test for null and code that may run any number of times do to what is known.
-use Rattle.std.specs.Prelude.{false, ◌||◌, List, [], ◌∷◌, ◌++◌, if◌then◌else◌, map}
+use Rattle.std.specs.Prelude.{Bool, false, ◌||◌, List, [], ◌∷◌, ◌++◌, if◌then◌else◌, map}
 use Rattle.flow_model.specs.Ty.{same_type, non_null_of}
 use Rattle.flow_model.specs.Flow.{FlowModel, current_of, is_listed}
 use Rattle.flow_model.specs.declared.locals.LocalId.{LocalId}
@@ -17,11 +17,15 @@ non_null_facts l =
     then l
     else record l { chain = l.chain ++ non_null_of (current_of l) ∷ [] }
 
+-- whether code that writes the one locals and captures the other could change a local
+abbrev pub is_changed : List LocalId → List LocalId → LocalId → Bool
+is_changed written captured var = is_listed written var || is_listed captured var
+
 -- what is known of a local around code that writes the one locals and captures the other: one of these is promoted
 -- to nothing and may have a value
 abbrev pub conservative_facts : List LocalId → List LocalId → Facts → Facts
 conservative_facts written captured l =
-    if is_listed written l.var || is_listed captured l.var
+    if is_changed written captured l.var
     then record l { chain = []; unassigned = false; captured = l.captured || is_listed captured l.var }
     else l
 

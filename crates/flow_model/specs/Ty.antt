@@ -22,12 +22,41 @@ size_of (nullable bare) = size_of bare + 1
 -- whether two types are the same
 abbrev pub same_type : Ty → Ty → Bool
 same_type invalid invalid = true
+same_type invalid never = false
+same_type invalid null = false
+same_type invalid int = false
+same_type invalid bool = false
+same_type invalid (nullable t) = false
+same_type never invalid = false
 same_type never never = true
+same_type never null = false
+same_type never int = false
+same_type never bool = false
+same_type never (nullable t) = false
+same_type null invalid = false
+same_type null never = false
 same_type null null = true
+same_type null int = false
+same_type null bool = false
+same_type null (nullable t) = false
+same_type int invalid = false
+same_type int never = false
+same_type int null = false
 same_type int int = true
+same_type int bool = false
+same_type int (nullable t) = false
+same_type bool invalid = false
+same_type bool never = false
+same_type bool null = false
+same_type bool int = false
 same_type bool bool = true
+same_type bool (nullable t) = false
+same_type (nullable s) invalid = false
+same_type (nullable s) never = false
+same_type (nullable s) null = false
+same_type (nullable s) int = false
+same_type (nullable s) bool = false
 same_type (nullable s) (nullable t) = same_type s t
-same_type _ _ = false
 
 -- a type without its `?`
 abbrev pub bare_of : Ty → Ty

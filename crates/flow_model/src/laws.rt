@@ -1,14 +1,14 @@
 //! Laws of flow models, in the words of their definitions. Each is the contract of a function that
 //! does no work.
 
-ghost use Rattle.std.specs.Prelude.{◌≡◌, ◌≢◌, ◌&&◌, ◌||◌, true, false, not, All, Some, find, IsNone, IsSome, IsTrue, [], ◌∷◌, ◌++◌};
-ghost use Rattle.std.specs.Option.{option_map, option_map_or};
+ghost use Rattle.std.specs.Prelude.{◌≡◌, ◌≢◌, true, false, All, Some, find, IsNone, IsSome, IsTrue, [], ◌∷◌, ◌++◌};
+ghost use Rattle.std.specs.Option.{option_map};
 ghost use Rattle.flow_model.specs.Ty.{admits_null};
 ghost use Rattle.flow_model.specs.Sub.{Sub};
-ghost use Rattle.flow_model.specs.Flow.{AreDistinct, at_local, current_of, declare_of, declares, end_of, facts_of, fresh_facts, is_listed, start_of, PromotesNoCaptured};
-ghost use Rattle.flow_model.specs.Assign.{assign_facts, chain_after, is_in};
-ghost use Rattle.flow_model.specs.Join.{HaveSameScope, join_facts, join_of, scope_of};
-ghost use Rattle.flow_model.specs.Steps.{conservative_of, exit_of, non_null_facts};
+ghost use Rattle.flow_model.specs.Flow.{AreDistinct, at_local, current_in, current_of, declare_of, declared_in, declares, end_of, facts_of, fresh_facts, is_known, start_of, PromotesNoCaptured};
+ghost use Rattle.flow_model.specs.Assign.{assign_of, chain_after, is_in};
+ghost use Rattle.flow_model.specs.Join.{BothReach, HaveSameScope, join_facts, join_of, promoted_on_both, scope_of};
+ghost use Rattle.flow_model.specs.Steps.{conservative_of, exit_of, is_changed, non_null_facts};
 ghost use Rattle.flow_model.specs.declared.locals.Facts.{Facts};
 
 use crate::locals::{Facts, LocalDecl, LocalId};
@@ -24,7 +24,7 @@ pub fn start_knows_its_locals(_vars: &[LocalDecl], _var: LocalId)
 
 /// A local that was just declared has its declared type, and what is known of the others stays.
 pub fn declare_adds_one_local(_flow: &Flow, _local: &LocalDecl, _other: LocalId)
-    ensures current { option_map current_of (facts_of (declare_of _flow.now _local.now) _local.now.var) ≡ Some _local.now.ty }
+    ensures current { current_in (declare_of _flow.now _local.now) _local.now.var ≡ Some _local.now.ty }
     ensures others { _other.0 ≢ _local.now.var.0 → facts_of (declare_of _flow.now _local.now) _other ≡ facts_of _flow.now _other }
 {}
 
@@ -43,9 +43,9 @@ pub fn assign_changes_one_local(
     _written: &DartType,
     _other: LocalId,
 )
-    ensures assigned { IsSome (facts_of _flow.now _var) → option_map_or (λ l. l.assigned) (facts_of (at_local _flow.now _var (assign_facts _rows.now _written.now)) _var) false ≡ true }
-    ensures unassigned { option_map_or (λ l. l.unassigned) (facts_of (at_local _flow.now _var (assign_facts _rows.now _written.now)) _var) false ≡ false }
-    ensures others { _other.0 ≢ _var.0 → facts_of (at_local _flow.now _var (assign_facts _rows.now _written.now)) _other ≡ facts_of _flow.now _other }
+    ensures assigned { IsSome (facts_of _flow.now _var) → is_known (λ l. l.assigned) (assign_of _flow.now _rows.now _var _written.now) _var ≡ true }
+    ensures unassigned { is_known (λ l. l.unassigned) (assign_of _flow.now _rows.now _var _written.now) _var ≡ false }
+    ensures others { _other.0 ≢ _var.0 → facts_of (assign_of _flow.now _rows.now _var _written.now) _other ≡ facts_of _flow.now _other }
 {}
 
 /// A value that was written has each type that its local is promoted to afterwards: the written
@@ -57,13 +57,14 @@ pub fn written_value_has_each_promoted_type(_rows: &Rows, _written: &DartType, _
 /// What is known of a local where two reached paths meet is joined from what is known of it on
 /// each.
 pub fn join_knows_each_local(_a: &Flow, _b: &Flow, _var: LocalId)
-    ensures { HaveSameScope _a.now _b.now → IsTrue _a.now.reachable → IsTrue _b.now.reachable → (l m : Facts) → facts_of _a.now _var ≡ Some l → facts_of _b.now _var ≡ Some m → facts_of (join_of _a.now _b.now) _var ≡ Some (join_facts l m) }
+    ensures { BothReach _a.now _b.now → (l m : Facts) → facts_of _a.now _var ≡ Some l → facts_of _b.now _var ≡ Some m
+        → facts_of (join_of _a.now _b.now) _var ≡ Some (join_facts l m) }
 {}
 
 /// Where two paths meet a local is promoted to what it was promoted to on both of them, unless it
 /// is captured on one.
 pub fn join_promotes_to_what_both_do(_a: &Facts, _b: &Facts, _t: &DartType)
-    ensures { is_in (join_facts _a.now _b.now).chain _t.now ≡ (not (_a.now.captured || _b.now.captured) && (is_in _a.now.chain _t.now && is_in _b.now.chain _t.now)) }
+    ensures { is_in (join_facts _a.now _b.now).chain _t.now ≡ promoted_on_both _a.now _b.now _t.now }
 {}
 
 /// Which of two paths is the first matters for no more than the order of the types.
@@ -88,8 +89,8 @@ pub fn conservative_join_forgets_the_written(
     _captured: &[LocalId],
     _var: LocalId,
 )
-    ensures forgotten { IsTrue (is_listed _written.now _var || is_listed _captured.now _var) → option_map current_of (facts_of (conservative_of _flow.now _written.now _captured.now) _var) ≡ option_map (λ l. l.ty) (facts_of _flow.now _var) }
-    ensures kept { (is_listed _written.now _var || is_listed _captured.now _var) ≡ false → facts_of (conservative_of _flow.now _written.now _captured.now) _var ≡ facts_of _flow.now _var }
+    ensures forgotten { IsTrue (is_changed _written.now _captured.now _var) → current_in (conservative_of _flow.now _written.now _captured.now) _var ≡ declared_in _flow.now _var }
+    ensures kept { is_changed _written.now _captured.now _var ≡ false → facts_of (conservative_of _flow.now _written.now _captured.now) _var ≡ facts_of _flow.now _var }
 {}
 
 /// What two pieces of code could change is forgotten one after the other, or at once: each local
@@ -101,7 +102,8 @@ pub fn conservative_joins_add_up(
     _written_next: &[LocalId],
     _captured_next: &[LocalId],
 )
-    ensures { conservative_of (conservative_of _flow.now _written.now _captured.now) _written_next.now _captured_next.now ≡ conservative_of _flow.now (_written.now ++ _written_next.now) (_captured.now ++ _captured_next.now) }
+    ensures { conservative_of (conservative_of _flow.now _written.now _captured.now) _written_next.now _captured_next.now
+        ≡ conservative_of _flow.now (_written.now ++ _written_next.now) (_captured.now ++ _captured_next.now) }
 {}
 
 /// A local that was found not to be null has a subtype of the type that it had, and one without
@@ -126,7 +128,7 @@ pub fn steps_keep_the_scope(
     ensures declare { HaveSameScope _flow.now _other.now → HaveSameScope (declare_of _flow.now _local.now) (declare_of _other.now _local.now) }
     ensures end { HaveSameScope _flow.now _other.now → HaveSameScope (end_of _flow.now _written.now) (end_of _other.now _written.now) }
     ensures exit { scope_of (exit_of _flow.now) ≡ scope_of _flow.now }
-    ensures assign { scope_of (at_local _flow.now _var (assign_facts _rows.now _type.now)) ≡ scope_of _flow.now }
+    ensures assign { scope_of (assign_of _flow.now _rows.now _var _type.now) ≡ scope_of _flow.now }
     ensures non_null { scope_of (at_local _flow.now _var non_null_facts) ≡ scope_of _flow.now }
     ensures conservative_join { scope_of (conservative_of _flow.now _written.now _captured.now) ≡ scope_of _flow.now }
     ensures join { HaveSameScope _flow.now _other.now → scope_of (join_of _flow.now _other.now) ≡ scope_of _flow.now }
@@ -149,7 +151,7 @@ pub fn no_captured_local_is_promoted(
     ensures declare { PromotesNoCaptured _flow.now → PromotesNoCaptured (declare_of _flow.now _local.now) }
     ensures end { PromotesNoCaptured _flow.now → PromotesNoCaptured (end_of _flow.now _written.now) }
     ensures exit { PromotesNoCaptured _flow.now → PromotesNoCaptured (exit_of _flow.now) }
-    ensures assign { PromotesNoCaptured _flow.now → PromotesNoCaptured (at_local _flow.now _var (assign_facts _rows.now _type.now)) }
+    ensures assign { PromotesNoCaptured _flow.now → PromotesNoCaptured (assign_of _flow.now _rows.now _var _type.now) }
     ensures non_null { PromotesNoCaptured _flow.now → PromotesNoCaptured (at_local _flow.now _var non_null_facts) }
     ensures conservative_join { PromotesNoCaptured _flow.now → PromotesNoCaptured (conservative_of _flow.now _written.now _captured.now) }
     ensures join { PromotesNoCaptured _flow.now → PromotesNoCaptured _other.now → PromotesNoCaptured (join_of _flow.now _other.now) }
