@@ -103,6 +103,17 @@ unopened_row : tokens_from [] 0 0 [] (text_at lexical.CloseParenthesis 0 ∷ tex
 unfolding tokens_from
 unopened_row = refl
 
+-- `{]`: nor does it move where the group that stays open is closed
+left_out_at_the_end_row : tokens_from [] 0 0 [] (text_at lexical.OpenBrace 0 ∷ text_at lexical.CloseBracket 1 ∷ []) ≡ at OpenBrace 0 ∷ closing CloseBrace 1 ∷ []
+unfolding tokens_from
+left_out_at_the_end_row = refl
+
+-- `{(]}`: nor where one is closed that a bracket around it ends
+left_out_before_the_end_row : tokens_from [] 0 0 [] (text_at lexical.OpenBrace 0 ∷ text_at lexical.OpenParenthesis 1 ∷ text_at lexical.CloseBracket 2 ∷ text_at lexical.CloseBrace 3 ∷ [])
+    ≡ at OpenBrace 0 ∷ at OpenParenthesis 1 ∷ closing CloseParenthesis 2 ∷ at CloseBrace 3 ∷ []
+unfolding tokens_from
+left_out_before_the_end_row = refl
+
 -- `(`, and in an interpolation `)`: what is open outside isn't closed inside
 interpolation_row : tokens_from [] 0 0 [] (text_at lexical.OpenParenthesis 0 ∷ text_at lexical.InterpolationOpening 1 ∷ text_at lexical.CloseParenthesis 2 ∷ text_at lexical.InterpolationClosing 3 ∷ [])
     ≡ at OpenParenthesis 0 ∷ at Other 1 ∷ at Other 3 ∷ closing CloseParenthesis 4 ∷ []

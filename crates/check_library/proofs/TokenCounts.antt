@@ -11,7 +11,7 @@ use Rattle.dart_scan.specs.Pieces.{Spelled, pieces}
 use Rattle.dart_scan.specs.Scanned.{Lexeme, is_gap, lexemes, lexemes_from, tokens_behind, tokens_of, words_of, with_word}
 use Rattle.dart_scan.proofs.StepLemmas.{pieces-cover, pieces-some}
 use Rattle.check_library.specs.declared.token.Token.{Token}
-use Rattle.check_library.specs.Tokens.{token_of, closing_at, closings_since, read_as, read_for, tokens_from, grammar_tokens}
+use Rattle.check_library.specs.Tokens.{token_of, closing_at, closings_since, read_as, read_for, end_for, tokens_from, grammar_tokens}
 
 -- as many tokens as lexemes
 length-tokens_behind : (words : List (List ℕ)) (ls : List Lexeme) → length (tokens_behind words ls) ≡ length ls
@@ -87,9 +87,9 @@ tokens_from-few words place offset around (token ∷ tokens) =
     let after : List Open = after_token place token.kind around in
     omega (
       arith,
-      length-append (read_for words offset around token) (tokens_from words (place + 1) token.end after tokens),
+      length-append (read_for words offset around token) (tokens_from words (place + 1) (end_for offset around token) after tokens),
       adds_read words place offset around token,
-      tokens_from-few words (place + 1) token.end after tokens,
+      tokens_from-few words (place + 1) (end_for offset around token) after tokens,
     )
 
 -- at most twice as many tokens as bytes

@@ -12,7 +12,7 @@ use Rattle.dart_tokens.specs.Stack.{BeganBefore, is_closable}
 use Rattle.dart_tokens.proofs.OpenLemmas.{none_open, BeganBefore-later, BeganBefore-closed, BeganBefore-token, is_some-behind_closed, closes_further_out}
 use Rattle.dart_scan.specs.Scanned.{tokens_of, words_of}
 use Rattle.check_library.specs.declared.token.Token.{Token}
-use Rattle.check_library.specs.Tokens.{token_of, read_for, tokens_from, grammar_tokens}
+use Rattle.check_library.specs.Tokens.{token_of, read_for, end_for, tokens_from, grammar_tokens}
 use Rattle.check_library.proofs.BalanceLemmas.{read-opening, read-closing, read-other}
 
 -- a token from a place on closes each of these groups
@@ -156,9 +156,9 @@ read_whole words place offset (group ∷ outer) [] began closed none = absurd (c
 read_whole words place offset around (token ∷ tokens) began closed none =
     let after : List Open = after_token place token.kind around in
     let here = step words place offset around token tokens began closed (left_none (faults_of_token place token.kind around tokens) (faults_from (place + 1) after tokens) none) in
-    let later = read_whole words (place + 1) token.end after tokens (BeganBefore-token place token.kind around began) here.closed
+    let later = read_whole words (place + 1) (end_for offset around token) after tokens (BeganBefore-token place token.kind around began) here.closed
     (right_none (faults_of_token place token.kind around tokens) (faults_from (place + 1) after tokens) none) in
-    ap (λ (read : List Token). read ++ tokens_from words (place + 1) token.end after tokens) here.read ∙ ap (λ (more : List Token). token_of words token ∷ more) later
+    ap (λ (read : List Token). read ++ tokens_from words (place + 1) (end_for offset around token) after tokens) here.read ∙ ap (λ (more : List Token). token_of words token ∷ more) later
 
 pub read_one_for_one : (text : List ℕ) → faults_of_groups (tokens_of text) ≡ [] → grammar_tokens text ≡ map (token_of (words_of text)) (tokens_of text)
 read_one_for_one text none = read_whole (words_of text) 0 0 [] (tokens_of text) tt tt none

@@ -1,4 +1,4 @@
--- The grammar: a unit is one declaration `void main()` with its block. No node lies deeper than 200.
+-- The grammar: a unit is one declaration `void main()` with its block. How deep a node may lie has a limit.
 use Rattle.std.specs.Prelude.{ℕ, zero, suc, ◌+◌, ◌-◌, Bool, true, false, List, [], length, Option, Some, None, is_some, option_map, slice_get}
 use Rattle.std.specs.Option.{option_map_or}
 use denote.Enum.Bare.{sameb}
@@ -13,6 +13,7 @@ use Rattle.readings.specs.Readings.{Rule, token, ◌▹◌, ◌∣◌, make, tur
 use Rattle.check_library.specs.declared.token.Token.{Token}
 use Rattle.check_library.specs.declared.token.Kind.{Kind}
 use Rattle.check_library.specs.declared.token.Kind.TheVariants.{Identifier, Integer, Void, Main, Int, Bool as BoolWord, Print, If, Else, While, True, False, Null, OpenParenthesis, CloseParenthesis, OpenBrace, CloseBrace, Equals, Semicolon, Question, Plus, Less, NotEqual}
+use Rattle.check_library.specs.declared.parse.TheConstants.{DEEPEST}
 use Rattle.check_library.specs.contracts.token.Kind as kind
 use Rattle.check_library.specs.Literals.{literal_of}
 use Rattle.dart_scan.specs.Scanned.{words_of}
@@ -215,7 +216,7 @@ below words (suc room) = record {
 
 -- how deep a node may lie, where the unit lies at depth 0
 abbrev pub deepest : ℕ
-deepest = 200
+deepest = DEEPEST
 
 -- the tree of a whole text, its nodes numbered in reading order; none where the text is no unit
 abbrev pub tree_of : List ℕ → Option Tree

@@ -71,7 +71,84 @@ kind_of lexical.Question lexeme = kind.Question
 kind_of lexical.Plus lexeme = kind.Plus
 kind_of lexical.Less lexeme = kind.Less
 kind_of lexical.BangEquals lexeme = kind.NotEqual
-kind_of _ lexeme = kind.Other
+kind_of lexical.Double lexeme = kind.Other
+kind_of lexical.StringLiteral lexeme = kind.Other
+kind_of lexical.StringOpening lexeme = kind.Other
+kind_of lexical.StringPart lexeme = kind.Other
+kind_of lexical.StringClosing lexeme = kind.Other
+kind_of lexical.UnterminatedString lexeme = kind.Other
+kind_of lexical.InterpolationMark lexeme = kind.Other
+kind_of lexical.InterpolationOpening lexeme = kind.Other
+kind_of lexical.InterpolationClosing lexeme = kind.Other
+kind_of lexical.Assert lexeme = kind.Other
+kind_of lexical.Break lexeme = kind.Other
+kind_of lexical.Case lexeme = kind.Other
+kind_of lexical.Catch lexeme = kind.Other
+kind_of lexical.Class lexeme = kind.Other
+kind_of lexical.Const lexeme = kind.Other
+kind_of lexical.Continue lexeme = kind.Other
+kind_of lexical.Default lexeme = kind.Other
+kind_of lexical.Do lexeme = kind.Other
+kind_of lexical.Enum lexeme = kind.Other
+kind_of lexical.Extends lexeme = kind.Other
+kind_of lexical.Final lexeme = kind.Other
+kind_of lexical.Finally lexeme = kind.Other
+kind_of lexical.For lexeme = kind.Other
+kind_of lexical.In lexeme = kind.Other
+kind_of lexical.Is lexeme = kind.Other
+kind_of lexical.New lexeme = kind.Other
+kind_of lexical.Rethrow lexeme = kind.Other
+kind_of lexical.Return lexeme = kind.Other
+kind_of lexical.Super lexeme = kind.Other
+kind_of lexical.Switch lexeme = kind.Other
+kind_of lexical.This lexeme = kind.Other
+kind_of lexical.Throw lexeme = kind.Other
+kind_of lexical.Try lexeme = kind.Other
+kind_of lexical.Var lexeme = kind.Other
+kind_of lexical.With lexeme = kind.Other
+kind_of lexical.OpenBracket lexeme = kind.Other
+kind_of lexical.CloseBracket lexeme = kind.Other
+kind_of lexical.Comma lexeme = kind.Other
+kind_of lexical.Colon lexeme = kind.Other
+kind_of lexical.Period lexeme = kind.Other
+kind_of lexical.PeriodPeriod lexeme = kind.Other
+kind_of lexical.PeriodPeriodPeriod lexeme = kind.Other
+kind_of lexical.QuestionPeriod lexeme = kind.Other
+kind_of lexical.QuestionPeriodPeriod lexeme = kind.Other
+kind_of lexical.QuestionBracket lexeme = kind.Other
+kind_of lexical.QuestionQuestion lexeme = kind.Other
+kind_of lexical.QuestionQuestionEquals lexeme = kind.Other
+kind_of lexical.EqualsEquals lexeme = kind.Other
+kind_of lexical.Arrow lexeme = kind.Other
+kind_of lexical.Bang lexeme = kind.Other
+kind_of lexical.LessEquals lexeme = kind.Other
+kind_of lexical.LessLess lexeme = kind.Other
+kind_of lexical.LessLessEquals lexeme = kind.Other
+kind_of lexical.Greater lexeme = kind.Other
+kind_of lexical.PlusPlus lexeme = kind.Other
+kind_of lexical.PlusEquals lexeme = kind.Other
+kind_of lexical.Minus lexeme = kind.Other
+kind_of lexical.MinusMinus lexeme = kind.Other
+kind_of lexical.MinusEquals lexeme = kind.Other
+kind_of lexical.Star lexeme = kind.Other
+kind_of lexical.StarEquals lexeme = kind.Other
+kind_of lexical.Slash lexeme = kind.Other
+kind_of lexical.SlashEquals lexeme = kind.Other
+kind_of lexical.Tilde lexeme = kind.Other
+kind_of lexical.TildeSlash lexeme = kind.Other
+kind_of lexical.TildeSlashEquals lexeme = kind.Other
+kind_of lexical.Percent lexeme = kind.Other
+kind_of lexical.PercentEquals lexeme = kind.Other
+kind_of lexical.Ampersand lexeme = kind.Other
+kind_of lexical.AmpersandAmpersand lexeme = kind.Other
+kind_of lexical.AmpersandEquals lexeme = kind.Other
+kind_of lexical.Bar lexeme = kind.Other
+kind_of lexical.BarBar lexeme = kind.Other
+kind_of lexical.BarEquals lexeme = kind.Other
+kind_of lexical.Caret lexeme = kind.Other
+kind_of lexical.CaretEquals lexeme = kind.Other
+kind_of lexical.At lexeme = kind.Other
+kind_of lexical.Hash lexeme = kind.Other
 
 -- the word at a place among the words of the text
 abbrev pub word_at : List (List ℕ) → ℕ → List ℕ
@@ -98,7 +175,7 @@ closings_since bracket offset [] = []
 closings_since bracket offset (group ∷ around) =
     if is_same bracket group.bracket then [] else closing_at offset group.bracket ∷ closings_since bracket offset around
 
--- A token, by the kind of groups that it closes, where these groups are open before it, and where the token before it ends. Where it closes a group, those that were opened since are closed before it; where it closes none, it is left out.
+-- A token, by the kind of groups that it closes, where these groups are open before it, and where the last token that was read ends. Where it closes a group, those that were opened since are closed before it; where it closes none, it is left out.
 abbrev pub read_as : Option Bracket → (offset : ℕ) → List Open → Token → List Token
 read_as None offset around token = token ∷ []
 read_as (Some bracket) offset around token =
@@ -108,11 +185,20 @@ read_as (Some bracket) offset around token =
 abbrev pub read_for : List (List ℕ) → (offset : ℕ) → List Open → TextToken → List Token
 read_for words offset around token = read_as (closes token.kind) offset around (token_of words token)
 
--- what the grammar reads from a place in the text on, where these groups are open, and where the token before it ends; those that are open at the end of the text are closed there
+-- Where the last token that was read ends, behind a token that is read so: its own end, and where it is left out, the end of the one before.
+abbrev pub end_as : Option Bracket → (offset : ℕ) → List Open → (end : ℕ) → ℕ
+end_as None offset around end = end
+end_as (Some bracket) offset around end = if is_some (nearest bracket around) then end else offset
+
+-- where the last token that was read ends, behind a token of the text
+abbrev pub end_for : (offset : ℕ) → List Open → TextToken → ℕ
+end_for offset around token = end_as (closes token.kind) offset around token.end
+
+-- what the grammar reads from a place in the text on, where these groups are open, and where the last token that was read ends; the groups that are open at the end of the text are closed there
 unfoldable pub tokens_from : List (List ℕ) → (place offset : ℕ) → List Open → List TextToken → List Token
 tokens_from words place offset around [] = map (λ group. closing_at offset group.bracket) around
 tokens_from words place offset around (token ∷ tokens) =
-    read_for words offset around token ++ tokens_from words (place + 1) token.end (after_token place token.kind around) tokens
+    read_for words offset around token ++ tokens_from words (place + 1) (end_for offset around token) (after_token place token.kind around) tokens
 
 -- the tokens that the grammar reads of a text
 abbrev pub grammar_tokens : List ℕ → List Token

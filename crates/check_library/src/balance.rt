@@ -3,7 +3,7 @@
 ghost use Rattle.std.specs.Prelude.{◌≡◌, ◌<◌, ◌^◌, true, [], ◌++◌, map, length, Some, IfOk, OnOk};
 ghost use Rattle.dart_tokens.specs.Groups.{after_closing, after_token};
 ghost use Rattle.dart_tokens.specs.Stack.{bracket_of, is_closable};
-ghost use Rattle.check_library.specs.Tokens.{word_at, token_of, closing_at, closings_since, read_for, tokens_from};
+ghost use Rattle.check_library.specs.Tokens.{word_at, token_of, closing_at, closings_since, read_for, end_for, tokens_from};
 
 use crate::kind::{kind_of, kind_of_closing};
 use crate::token::Token;
@@ -50,39 +50,36 @@ fn closing_at(offset: u32, bracket: Bracket) -> Token
     }
 }
 
-/// What the grammar reads of the first tokens of a text, and the groups that are open behind them.
+/// What the grammar reads of the first tokens of a text, where the last token that it reads ends, and
+/// the groups that are open behind them.
 #[derive(Drop)]
 struct Balance {
     tokens: Vec<Token>,
+    end: u32,
     around: OpenGroups,
 }
 
 impl Balance {
-    /// The nearest group of a kind ends, and those that were opened since are closed at an offset.
-    fn close(&mut self, bracket: Bracket, offset: u32) -> Result<(), AllocError>
+    /// The nearest group of a kind ends, and those that were opened since are closed.
+    fn close(&mut self, bracket: Bracket) -> Result<(), AllocError>
         requires { is_closable (bracket_of bracket) self.old.around ≡ true }
-        ensures tokens { OnOk result (self.new.tokens.items ≡ self.old.tokens.items ++ closings_since (bracket_of bracket) offset self.old.around) }
+        ensures tokens { OnOk result (self.new.tokens.items ≡ self.old.tokens.items ++ closings_since (bracket_of bracket) self.old.end self.old.around) }
         ensures around { OnOk result (self.new.around ≡ after_closing (Some (bracket_of bracket)) self.old.around) }
     {
         while let Some(group) = self.around.pop() {
             if group.bracket == bracket {
                 return Ok(());
             }
-            self.tokens.push(closing_at(offset, group.bracket))?;
+            self.tokens.push(closing_at(self.end, group.bracket))?;
         }
         Ok(())
     }
 
-    /// One token more, at a place; the token before it ends at an offset.
-    fn take(
-        &mut self,
-        words: &Words,
-        token: TextToken,
-        place: u32,
-        offset: u32,
-    ) -> Result<(), AllocError>
-        ensures tokens { OnOk result (self.new.tokens.items ≡ self.old.tokens.items ++ read_for words.now offset self.old.around token) }
+    /// One token more, at a place. A bracket that closes no group is left out, and moves no end.
+    fn take(&mut self, words: &Words, token: TextToken, place: u32) -> Result<(), AllocError>
+        ensures tokens { OnOk result (self.new.tokens.items ≡ self.old.tokens.items ++ read_for words.now self.old.end self.old.around token) }
         ensures around { OnOk result (self.new.around ≡ after_token place token.kind self.old.around) }
+        ensures end { OnOk result (self.new.end ≡ end_for self.old.end self.old.around token) }
     {
         let read = token_of(words, token);
         if let Some(bracket) = opens(token.kind) {
@@ -91,19 +88,19 @@ impl Balance {
             if !self.around.can_close(bracket) {
                 return Ok(());
             }
-            self.close(bracket, offset)?;
+            self.close(bracket)?;
         }
         self.tokens.push(read)?;
+        self.end = token.end;
         Ok(())
     }
 
-    /// All that the grammar reads, where the last token ends at an offset: the groups that are open
-    /// are closed there.
-    fn finished(mut self, offset: u32) -> Result<Vec<Token>, AllocError>
-        ensures { IfOk result (λ tokens. tokens.items ≡ self.tokens.items ++ map (λ group. closing_at offset group.bracket) self.around) }
+    /// All that the grammar reads: the groups that are open are closed where the last token ends.
+    fn finished(mut self) -> Result<Vec<Token>, AllocError>
+        ensures { IfOk result (λ tokens. tokens.items ≡ self.tokens.items ++ map (λ group. closing_at self.end group.bracket) self.around) }
     {
         while let Some(group) = self.around.pop() {
-            self.tokens.push(closing_at(offset, group.bracket))?;
+            self.tokens.push(closing_at(self.end, group.bracket))?;
         }
         Ok(self.tokens)
     }
@@ -121,12 +118,11 @@ pub fn balanced(
 {
     let mut balance = Balance {
         tokens: Vec::new(alloc),
+        end: 0,
         around: OpenGroups::new(alloc),
     };
-    let mut offset = 0;
     for (place, token) in tokens.iter().enumerate() {
-        balance.take(words, *token, place as u32, offset)?;
-        offset = token.end;
+        balance.take(words, *token, place as u32)?;
     }
-    balance.finished(offset)
+    balance.finished()
 }

@@ -18,9 +18,9 @@ mod parse;
 mod token;
 mod tree;
 
-pub use laws::{a_text_of_whole_groups_is_read_token_by_token, no_diagnostics_means_no_faults};
+pub use laws::{
+    a_bracket_that_closes_nothing_leaves_no_trace, a_text_of_whole_groups_is_read_token_by_token,
+    no_diagnostics_means_no_faults,
+};
 pub use library::{Checked, Diagnostics, check};
 pub use order::{earlier_and_shorter_come_first, reports_are_in_order};
-
-#[cfg(test)]
-mod tests;

@@ -14,9 +14,6 @@ ghost use Rattle.readings.specs.Agreement.{Apart, Within, either, nothing, Agree
 ghost use Rattle.readings.specs.Parses.{Parses};
 ghost use Rattle.readings.specs.Loops.{Falls, preceded};
 
-#[cfg(test)]
-mod tests;
-
 /// The tokens that were read, where `rest` was left of `tokens`.
 pub fn tokens_read<'a, T>(tokens: &'a [T], rest: &[T]) -> &'a [T]
     ensures { result.now ≡ tokens_read tokens.now rest.now }

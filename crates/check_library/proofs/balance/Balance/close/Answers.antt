@@ -14,7 +14,7 @@ returns-then-eq-clause-tokens c =
     let read : List Token = c.loop-group.self.tokens.items in
     let top : c.loop-group.self.around ≡ open_of c.in-Some.group ∷ c.pop.new.self = c.in-Some.ensures in
     let found = sym (sameb-bracket_of c.in-Some.group.bracket c.args.bracket) ∙ sym c.eq.ensures ∙ c.if-eq.true in
-    let none : closings_since bracket c.args.offset c.loop-group.self.around ≡ [] = ap (closings_since bracket c.args.offset) top ∙ rw found refl in
+    let none : closings_since bracket c.loop-group.self.end c.loop-group.self.around ≡ [] = ap (closings_since bracket c.loop-group.self.end) top ∙ rw found refl in
     sym (c.loop-group.invariant.tokens ∙ ap (λ (closings : List Token). read ++ closings) none ∙ append-nil read)
 
 pub returns-then-eq-clause-around : goal.returns-then-eq-clause-around
@@ -29,7 +29,7 @@ returns-then-eq-clause-around c =
 pub loop-group-preserved : goal.loop-group-preserved
 loop-group-preserved c =
     let bracket = bracket_of c.args.bracket in
-    let offset = c.args.offset in
+    let offset = c.loop-group.self.end in
     let read : List Token = c.loop-group.self.tokens.items in
     let top : c.loop-group.self.around ≡ open_of c.in-Some.group ∷ c.pop.new.self = c.in-Some.ensures in
     let other = sym (sameb-bracket_of c.in-Some.group.bracket c.args.bracket) ∙ sym c.eq.ensures ∙ c.if-eq.false in
@@ -37,6 +37,7 @@ loop-group-preserved c =
     let more : closings_since bracket offset c.loop-group.self.around ≡ closing_at offset (bracket_of c.in-Some.group.bracket) ∷ closings_since bracket offset c.pop.new.self = ap (closings_since bracket offset) top ∙ rw other refl in
     record {
       closable = further.closable;
+      same_end = c.loop-group.invariant.same_end;
       behind = c.loop-group.invariant.behind ∙ ap (behind_closed bracket) top ∙ further.behind;
       tokens = c.loop-group.invariant.tokens ∙ ap (λ (closings : List Token). read ++ closings) more ∙ rw (c.in_ok-push.ensures.items, c.closing_at.ensures, append_assoc) refl;
     }

@@ -10,7 +10,8 @@ invariant-loop-group l =
     record {
       closable : is_closable bracket l.self.around ≡ true;
       behind : behind_closed bracket l.initial.self.around ≡ behind_closed bracket l.self.around;
-      tokens : l.initial.self.tokens.items ++ closings_since bracket l.offset l.initial.self.around ≡ l.self.tokens.items ++ closings_since bracket l.offset l.self.around;
+      same_end : l.self.end ≡ l.initial.self.end;
+      tokens : l.initial.self.tokens.items ++ closings_since bracket l.initial.self.end l.initial.self.around ≡ l.self.tokens.items ++ closings_since bracket l.self.end l.self.around;
     }
 
 abbrev pub decreases-loop-group : goal.decreases-loop-group
