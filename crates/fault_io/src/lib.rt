@@ -7,6 +7,7 @@
 //! a text to any sink. The crate stands on std and on plain texts, and knows no Dart and no JSON.
 #![tactic(auto)]
 
+mod calls;
 mod host_files;
 mod line;
 mod memory;

@@ -1,9 +1,9 @@
 //! Sources and sinks in memory.
 
-ghost use Rattle.std.specs.Prelude.{◌≡◌, ℕ, ◌+◌, ◌-◌, ◌<◌, ◌≤◌, ◌^◌, ◌↔◌, List, [], ◌++◌, length, take, drop, min, IsTrue, Contains, Some, Ok, Err, IfOk, OnOk, OnErr, IsErr};
+ghost use Rattle.std.specs.Prelude.{◌≡◌, ◌≢◌, ℕ, ◌+◌, ◌-◌, ◌<◌, ◌≤◌, ◌^◌, ◌↔◌, List, [], ◌++◌, length, take, drop, min, IsTrue, Contains, Some, Ok, Err, IfOk, OnOk, OnErr, IsErr};
 ghost use Rattle.fault_io.specs.Faults.{one_more, last_count};
 
-use crate::plan::Schedule;
+use crate::plan::{Schedule, raise};
 use crate::traits::{Failed, Sink, Source, WriteRefusal};
 use std::alloc::Global;
 use std::marker::Model;
@@ -64,48 +64,54 @@ impl Source for SteadySource {
     }
 }
 
-/// A sink in memory that never fails and takes all. Contracts see it as the bytes that were
-/// written.
+/// A sink in memory that never fails and takes all.
 #[derive(Drop)]
 pub struct SteadySink {
     bytes: Vec<u8>,
+    shortages: u64,
 }
 
 impl Model for SteadySink {
-    ghost use Rattle.std.specs.Prelude.{ℕ, List};
+    ghost use Rattle.fault_io.specs.Plan.{SteadyWritten};
 
-    ghost Value = { List ℕ };
+    ghost Value = { SteadyWritten };
 
-    ghost view = { λ s. s.bytes.items };
+    ghost view = { λ s. record { bytes = s.bytes.items; shortages = s.shortages } };
 }
 
 impl SteadySink {
     /// A sink to which nothing was written.
     pub fn new(alloc: Global) -> SteadySink
-        ensures { result ≡ [] }
+        ensures { result ≡ record { bytes = []; shortages = 0 } }
     {
         SteadySink {
             bytes: Vec::new(alloc),
+            shortages: 0,
         }
     }
 
     /// The bytes that were written.
     pub fn written(&self) -> &[u8]
-        ensures { result.now ≡ self.now }
+        ensures { result.now ≡ self.now.bytes }
     {
         self.bytes.as_slice()
     }
 }
 
 impl Sink for SteadySink {
-    ghost written = { λ s. Some s };
+    ghost written = { λ s. Some s.bytes };
 
     ghost faults = { λ _. 0 };
+
+    ghost shortages = { λ s. s.shortages };
 
     fn write(&mut self, _alloc: Global, bytes: &[u8]) -> Result<usize, WriteRefusal> {
         match self.bytes.extend_from_slice(bytes) {
             Ok(()) => Ok(bytes.len()),
-            Err(_) => Err(WriteRefusal::Memory),
+            Err(_) => {
+                self.shortages = raise(self.shortages);
+                Err(WriteRefusal::Memory)
+            }
         }
     }
 }
@@ -121,9 +127,9 @@ pub struct MemorySource {
 
 impl Model for MemorySource {
     ghost use Rattle.std.specs.Prelude.{ℕ, List, drop, ◌≤◌, vec_len};
-    ghost use Rattle.fault_io.specs.Plan.{InMemory};
+    ghost use Rattle.fault_io.specs.Plan.{SourceInMemory};
 
-    ghost Value = { InMemory };
+    ghost Value = { SourceInMemory };
 
     ghost view = { λ s. record { bytes = drop s.at s.bytes.items; piece = s.piece; plan = s.schedule } };
 
@@ -190,15 +196,16 @@ pub struct MemorySink {
     bytes: Vec<u8>,
     piece: usize,
     schedule: Schedule,
+    shortages: u64,
 }
 
 impl Model for MemorySink {
     ghost use Rattle.std.specs.Prelude.{ℕ, List, drop, ◌≤◌, vec_len};
-    ghost use Rattle.fault_io.specs.Plan.{InMemory};
+    ghost use Rattle.fault_io.specs.Plan.{SinkInMemory};
 
-    ghost Value = { InMemory };
+    ghost Value = { SinkInMemory };
 
-    ghost view = { λ s. record { bytes = s.bytes.items; piece = s.piece; plan = s.schedule } };
+    ghost view = { λ s. record { bytes = s.bytes.items; piece = s.piece; plan = s.schedule; shortages = s.shortages } };
 
     ghost invariant = { λ s. 1 ≤ s.piece };
 }
@@ -207,12 +214,13 @@ impl MemorySink {
     /// A sink to which nothing was written, of which the calls with these numbers, from 0, fail.
     pub fn new(alloc: Global, piece: usize, fails: Vec<u64>) -> MemorySink
         requires { 1 ≤ piece }
-        ensures { result ≡ record { bytes = []; piece = piece; plan = record { fails = fails.items; calls = 0; faults = 0 } } }
+        ensures { result ≡ record { bytes = []; piece = piece; plan = record { fails = fails.items; calls = 0; faults = 0 }; shortages = 0 } }
     {
         MemorySink {
             bytes: Vec::new(alloc),
             piece,
             schedule: Schedule::new(fails),
+            shortages: 0,
         }
     }
 
@@ -236,6 +244,9 @@ impl MemorySink {
         ensures ok { OnOk result (self.new.plan.faults ≡ self.old.plan.faults) }
         ensures failed { result ≡ Err WriteRefusal.Failed → self.new.plan.faults ≡ one_more self.old.plan.faults }
         ensures memory { result ≡ Err WriteRefusal.Memory → self.new.plan.faults ≡ self.old.plan.faults }
+        ensures countable { self.old.shortages ≤ last_count }
+        ensures short { result ≡ Err WriteRefusal.Memory → self.new.shortages ≡ one_more self.old.shortages }
+        ensures not_short { result ≢ Err WriteRefusal.Memory → self.new.shortages ≡ self.old.shortages }
     {
         if self.schedule.begin() {
             return Err(WriteRefusal::Failed);
@@ -243,7 +254,10 @@ impl MemorySink {
         let n = self.piece.min(bytes.len());
         match self.bytes.extend_from_slice(&bytes[..n]) {
             Ok(()) => Ok(n),
-            Err(_) => Err(WriteRefusal::Memory),
+            Err(_) => {
+                self.shortages = raise(self.shortages);
+                Err(WriteRefusal::Memory)
+            }
         }
     }
 }
@@ -252,6 +266,8 @@ impl Sink for MemorySink {
     ghost written = { λ s. Some s.bytes };
 
     ghost faults = { λ s. s.plan.faults };
+
+    ghost shortages = { λ s. s.shortages };
 
     fn write(&mut self, _alloc: Global, bytes: &[u8]) -> Result<usize, WriteRefusal> {
         self.write_piece(bytes)

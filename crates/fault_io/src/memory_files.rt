@@ -4,6 +4,7 @@ ghost use Rattle.std.specs.Prelude.{◌≡◌, ℕ, ◌+◌, ◌≤◌, ◌^◌,
 ghost use Rattle.fault_io.specs.Faults.{one_more, last_count};
 ghost use Rattle.fault_io.specs.Stored.{are_files, IsListing, bytes_at};
 
+use crate::calls::Calls;
 use crate::plan::Schedule;
 use crate::stored::{bytes_at, listing};
 use crate::traits::{Entry, Files, FilesRefusal};
@@ -11,19 +12,21 @@ use plain_text::{PlainBytes, PlainText};
 use std::alloc::Global;
 use std::marker::Model;
 
-/// A store in memory that never fails. Contracts see it as its files.
+/// A store in memory that never fails.
 #[derive(Drop)]
 pub struct SteadyFiles {
     files: Vec<(PlainText, PlainBytes)>,
+    calls: Calls,
 }
 
 impl Model for SteadyFiles {
-    ghost use Rattle.std.specs.Prelude.{ℕ, List, IsTrue};
+    ghost use Rattle.std.specs.Prelude.{IsTrue};
+    ghost use Rattle.fault_io.specs.Plan.{SteadyStore};
     ghost use Rattle.fault_io.specs.Stored.{are_files};
 
-    ghost Value = { List (List ℕ × List ℕ) };
+    ghost Value = { SteadyStore };
 
-    ghost view = { λ s. s.files.items };
+    ghost view = { λ s. record { files = s.files.items; calls = s.calls } };
 
     ghost invariant = { λ s. IsTrue (are_files s.files.items) };
 }
@@ -32,23 +35,32 @@ impl SteadyFiles {
     /// A store of these files, each a path and its bytes. `are_files` is the test.
     pub fn new(files: Vec<(PlainText, PlainBytes)>) -> SteadyFiles
         requires { IsTrue (are_files files.items) }
-        ensures { result ≡ files.items }
+        ensures { result ≡ record { files = files.items; calls = record { lists = 0; reads = 0 } } }
     {
-        SteadyFiles { files }
+        SteadyFiles {
+            files,
+            calls: Calls::none(),
+        }
     }
 }
 
 impl Files for SteadyFiles {
-    ghost told = { λ s. Some s };
+    ghost told = { λ s. Some s.files };
 
     ghost faults = { λ _. 0 };
 
+    ghost lists = { λ s. s.calls.lists };
+
+    ghost reads = { λ s. s.calls.reads };
+
     fn list(&mut self, alloc: Global, path: &str) -> Result<Option<Vec<Entry>>, FilesRefusal> {
+        self.calls.count_list();
         let found = listing(alloc, self.files.as_slice(), path)?;
         Ok(found)
     }
 
     fn read(&mut self, alloc: Global, path: &str) -> Result<Option<Vec<u8>>, FilesRefusal> {
+        self.calls.count_read();
         let found = bytes_at(alloc, self.files.as_slice(), path)?;
         Ok(found)
     }
@@ -60,6 +72,7 @@ impl Files for SteadyFiles {
 pub struct MemoryFiles {
     files: Vec<(PlainText, PlainBytes)>,
     schedule: Schedule,
+    calls: Calls,
 }
 
 impl Model for MemoryFiles {
@@ -69,7 +82,7 @@ impl Model for MemoryFiles {
 
     ghost Value = { StoreInMemory };
 
-    ghost view = { λ s. record { files = s.files.items; plan = s.schedule } };
+    ghost view = { λ s. record { files = s.files.items; plan = s.schedule; calls = s.calls } };
 
     ghost invariant = { λ s. IsTrue (are_files s.files.items) };
 }
@@ -79,11 +92,12 @@ impl MemoryFiles {
     /// fail. `are_files` is the test.
     pub fn new(files: Vec<(PlainText, PlainBytes)>, fails: Vec<u64>) -> MemoryFiles
         requires { IsTrue (are_files files.items) }
-        ensures { result ≡ record { files = files.items; plan = record { fails = fails.items; calls = 0; faults = 0 } } }
+        ensures { result ≡ record { files = files.items; plan = record { fails = fails.items; calls = 0; faults = 0 }; calls = record { lists = 0; reads = 0 } } }
     {
         MemoryFiles {
             files,
             schedule: Schedule::new(fails),
+            calls: Calls::none(),
         }
     }
 
@@ -103,7 +117,9 @@ impl MemoryFiles {
         ensures ok { OnOk result (self.new.plan.faults ≡ self.old.plan.faults) }
         ensures failed { result ≡ Err FilesRefusal.Failed → self.new.plan.faults ≡ one_more self.old.plan.faults }
         ensures memory { result ≡ Err FilesRefusal.Memory → self.new.plan.faults ≡ self.old.plan.faults }
+        ensures counted { self.new.calls ≡ record self.old.calls { lists = one_more self.old.calls.lists } }
     {
+        self.calls.count_list();
         if self.schedule.begin() {
             return Err(FilesRefusal::Failed);
         }
@@ -125,7 +141,9 @@ impl MemoryFiles {
         ensures ok { OnOk result (self.new.plan.faults ≡ self.old.plan.faults) }
         ensures failed { result ≡ Err FilesRefusal.Failed → self.new.plan.faults ≡ one_more self.old.plan.faults }
         ensures memory { result ≡ Err FilesRefusal.Memory → self.new.plan.faults ≡ self.old.plan.faults }
+        ensures counted { self.new.calls ≡ record self.old.calls { reads = one_more self.old.calls.reads } }
     {
+        self.calls.count_read();
         if self.schedule.begin() {
             return Err(FilesRefusal::Failed);
         }
@@ -140,6 +158,10 @@ impl Files for MemoryFiles {
     ghost told = { λ s. Some s.files };
 
     ghost faults = { λ s. s.plan.faults };
+
+    ghost lists = { λ s. s.calls.lists };
+
+    ghost reads = { λ s. s.calls.reads };
 
     fn list(&mut self, alloc: Global, path: &str) -> Result<Option<Vec<Entry>>, FilesRefusal> {
         self.list_entries(alloc, path)

@@ -48,8 +48,8 @@ impl<R: Read> Source for StdSource<R> {
 }
 
 /// A writer of std as a sink, with a count of its faults: every error is one, and a write that
-/// takes nothing of bytes that there are. It tells no content, and contracts see
-/// it as that count.
+/// takes nothing of bytes that there are. So it never refuses for want of memory. It tells no
+/// content, and contracts see it as that count.
 #[derive(Drop)]
 pub struct StdSink<W: Write> {
     writer: W,
@@ -75,6 +75,8 @@ impl<W: Write> StdSink<W> {
 
 impl<W: Write> Sink for StdSink<W> {
     ghost faults = { λ count. count };
+
+    ghost shortages = { λ _. 0 };
 
     fn write(&mut self, _alloc: Global, bytes: &[u8]) -> Result<usize, WriteRefusal> {
         match self.writer.write(bytes) {

@@ -3,7 +3,7 @@
 use crate::{
     Entry, EntryKind, Failed, Files, FilesRefusal, HostFiles, Line, LineEnd, MemoryFiles,
     MemorySink, MemorySource, Sink, Source, StdSink, StdSource, SteadyFiles, SteadySink,
-    SteadySource, WriteRefusal, are_files, is_path, is_under, read_line, write_all_of,
+    WriteRefusal, are_files, is_path, is_under, read_line, write_all_of,
 };
 use plain_text::{PlainBytes, PlainText};
 use std::alloc::Global;
@@ -16,7 +16,7 @@ fn lines_of<S: Source>(
     source: &mut S,
     max: u64,
     budget: u64,
-) -> Result<(Vec<u8>, LineEnd, u64), Fail> {
+) -> Result<(Vec<u8>, LineEnd), Fail> {
     let mut line = Line::new(alloc, max, budget)?;
     let mut shown = Vec::new(alloc);
     let mut end = LineEnd::Line;
@@ -29,7 +29,7 @@ fn lines_of<S: Source>(
         }
         shown.extend_from_slice(line.bytes())?;
     }
-    Ok((shown, end, line.taken()))
+    Ok((shown, end))
 }
 
 #[test]
@@ -48,22 +48,15 @@ fn lines_are_read_in_pieces_of_any_length(rt: HostRuntime) -> Result<(), Fail> {
         for piece in [1, 3, 65536] {
             let bytes = input.as_bytes().to_vec(alloc)?;
             let mut source = MemorySource::new(bytes, piece, Vec::new(alloc));
-            let (read, ended, _) = lines_of(alloc, &mut source, 4, 14)?;
+            let (read, ended) = lines_of(alloc, &mut source, 4, 14)?;
             assert_eq!(rt; read.as_slice(), shown.as_bytes(), "{input} by {piece}");
             assert_eq!(rt; ended, end, "{input} by {piece}");
         }
+        let mut source = StdSource::new(input.as_bytes());
+        let (read, ended) = lines_of(alloc, &mut source, 4, 14)?;
+        assert_eq!(rt; read.as_slice(), shown.as_bytes(), "{input} by a reader");
+        assert_eq!(rt; ended, end, "{input} by a reader");
     }
-    Ok(())
-}
-
-#[test]
-fn a_budget_ends_the_input(rt: HostRuntime) -> Result<(), Fail> {
-    let alloc = rt.alloc();
-    let mut source = SteadySource::new(b"abcdef".to_vec(alloc)?);
-    let mut line = Line::new(alloc, 10, 4)?;
-    assert_eq!(rt; read_line(&mut source, &mut line)?, LineEnd::InputSpent);
-    assert_eq!(rt; line.taken(), 4);
-    assert_eq!(rt; source.left(), b"ef".as_slice());
     Ok(())
 }
 
@@ -78,17 +71,6 @@ fn a_sink_is_handed_all_that_is_left(rt: HostRuntime) -> Result<(), Fail> {
     let mut sink = SteadySink::new(alloc);
     write_all_of(alloc, &mut sink, b"all")?;
     assert_eq!(rt; sink.written(), b"all".as_slice());
-    Ok(())
-}
-
-#[test]
-fn readers_and_writers_of_std_count_faults(rt: HostRuntime) -> Result<(), Fail> {
-    let alloc = rt.alloc();
-    let mut source = StdSource::new(b"one\ntwo".as_slice());
-    let (read, end, taken) = lines_of(alloc, &mut source, 9, 99)?;
-    assert_eq!(rt; read.as_slice(), b"=one=two".as_slice());
-    assert_eq!(rt; end, LineEnd::End);
-    assert_eq!(rt; taken, 7);
     let mut room = [0u8; 4];
     {
         let mut sink = StdSink::new(room.as_mut_slice());
@@ -132,42 +114,46 @@ fn entries_of<F: Files>(alloc: Global, files: &mut F, path: &str) -> Result<Stri
     Ok(shown)
 }
 
+/// The bytes of a file, or `-` for nothing.
+fn bytes_of<F: Files>(alloc: Global, files: &mut F, path: &str) -> Result<Vec<u8>, Fail> {
+    match files.read(alloc, path)? {
+        Some(bytes) => Ok(bytes),
+        None => Ok(b"-".to_vec(alloc)?),
+    }
+}
+
 #[test]
 fn a_store_in_memory_lists_and_reads(rt: HostRuntime) -> Result<(), Fail> {
     let alloc = rt.alloc();
     let files = three_files(alloc)?;
     assert!(rt; are_files(files.as_slice()));
-    let mut store = SteadyFiles::new(files);
-    let table = [
-        ("/", "lib/ "),
-        ("/lib", "a.dart src/ "),
-        ("/lib/src", "b.dart c.dart "),
-        ("/li", "-"),
-        ("/lib/", "-"),
-        ("/lib/a.dart", "-"),
-        ("", "-"),
-    ];
-    for (path, entries) in table {
-        let shown = entries_of(alloc, &mut store, path)?;
-        assert_eq!(rt; shown.as_str(), entries, "{path}");
-    }
-    let read = store.read(alloc, "/lib/src/b.dart")?.ok_or("absent")?;
-    assert_eq!(rt; read.as_slice(), b"b".as_slice());
-    assert!(rt; store.read(alloc, "/lib/src")?.is_none());
-    Ok(())
-}
-
-#[test]
-fn a_store_in_memory_fails_at_stated_calls(rt: HostRuntime) -> Result<(), Fail> {
-    let alloc = rt.alloc();
+    let mut steady = SteadyFiles::new(files);
     let files = three_files(alloc)?;
     assert!(rt; are_files(files.as_slice()));
-    let mut store = MemoryFiles::new(files, vec![in alloc; 1, 3]?);
-    assert!(rt; store.list(alloc, "/lib")?.is_some());
-    assert!(rt; store.read(alloc, "/lib/a.dart").is_err());
-    assert!(rt; store.read(alloc, "/lib/a.dart")?.is_some());
+    let mut store = MemoryFiles::new(files, vec![in alloc; 0, 3]?);
     assert!(rt; store.list(alloc, "/lib").is_err());
-    assert!(rt; store.list(alloc, "/lib")?.is_some());
+    assert!(rt; store.read(alloc, "/lib/a.dart").is_ok());
+    assert!(rt; store.list(alloc, "/lib").is_ok());
+    assert!(rt; store.read(alloc, "/lib/a.dart").is_err());
+    let table = [
+        ("/", "lib/ ", "-"),
+        ("/lib", "a.dart src/ ", "-"),
+        ("/lib/src", "b.dart c.dart ", "-"),
+        ("/lib/src/b.dart", "-", "b"),
+        ("/li", "-", "-"),
+        ("/lib/", "-", "-"),
+        ("", "-", "-"),
+    ];
+    for (path, entries, bytes) in table {
+        let listed = entries_of(alloc, &mut steady, path)?;
+        assert_eq!(rt; listed.as_str(), entries, "{path}");
+        let read = bytes_of(alloc, &mut steady, path)?;
+        assert_eq!(rt; read.as_slice(), bytes.as_bytes(), "{path}");
+        let listed = entries_of(alloc, &mut store, path)?;
+        assert_eq!(rt; listed.as_str(), entries, "{path}");
+        let read = bytes_of(alloc, &mut store, path)?;
+        assert_eq!(rt; read.as_slice(), bytes.as_bytes(), "{path}");
+    }
     Ok(())
 }
 
@@ -192,21 +178,28 @@ fn files_of_the_host_are_listed_and_read(rt: HostRuntime) -> Result<(), Fail> {
     fs::create_dir_all(&rt, "folder/inner")?;
     fs::write(&rt, "folder/file", b"text".as_slice())?;
     let here = env::current_dir(&rt)?;
-    let mut path = String::from_str(alloc, here.to_str().ok_or("no text")?)?;
-    path.push_str("/folder")?;
-    let mut store = HostFiles::new(&rt);
-    let listed = entries_of(alloc, &mut store, path.as_str())?;
+    let mut store = HostFiles::new(&rt, 3);
+    let table = [
+        ("/folder/inner", "", "-"),
+        ("/folder/file", "-", "tex"),
+        ("/folder/files", "-", "-"),
+        ("/folder/file/inner", "-", "-"),
+        ("/folder/", "-", "-"),
+    ];
+    for (path, entries, bytes) in table {
+        let mut whole = String::from_str(alloc, here.to_str().ok_or("no text")?)?;
+        whole.push_str(path)?;
+        let listed = entries_of(alloc, &mut store, whole.as_str())?;
+        assert_eq!(rt; listed.as_str(), entries, "{path}");
+        let read = bytes_of(alloc, &mut store, whole.as_str())?;
+        assert_eq!(rt; read.as_slice(), bytes.as_bytes(), "{path}");
+    }
+    let mut folder = String::from_str(alloc, here.to_str().ok_or("no text")?)?;
+    folder.push_str("/folder")?;
+    let listed = entries_of(alloc, &mut store, folder.as_str())?;
     assert!(rt;
         listed.as_str() == "file inner/ " || listed.as_str() == "inner/ file ",
         "{listed}"
     );
-    assert!(rt; store.read(alloc, path.as_str())?.is_none());
-    path.push_str("/file")?;
-    let read = store.read(alloc, path.as_str())?.ok_or("absent")?;
-    assert_eq!(rt; read.as_slice(), b"text".as_slice());
-    assert!(rt; store.list(alloc, path.as_str())?.is_none());
-    path.push_str("s")?;
-    assert!(rt; store.read(alloc, path.as_str())?.is_none());
-    assert!(rt; store.list(alloc, path.as_str())?.is_none());
     Ok(())
 }

@@ -1,12 +1,13 @@
 //! What is outside: a source of bytes, a sink for bytes and a store of files, each with a count of
-//! its faults.
+//! its faults. A sink also counts how often it has refused for want of memory, and a store how often
+//! it was called.
 //!
-//! A count of faults starts anywhere, never falls, and stays once it has come to 2^64-1. A call
-//! answers `Failed` exactly where the count rose in it, and then has moved nothing.
+//! A count starts anywhere, never falls, and stays once it has come to 2^64-1. A call answers
+//! `Failed` exactly where the count of faults rose in it, and then has moved nothing.
 
-ghost use Rattle.std.specs.Prelude.{◌≡◌, ℕ, ◌<◌, ◌≤◌, List, [], ◌++◌, length, take, Option, None, Ok, Err, IfOk, OnOk, OnErr, IfErr, IsTrue, option_map};
+ghost use Rattle.std.specs.Prelude.{◌≡◌, ◌≢◌, ℕ, ◌<◌, ◌≤◌, List, [], ◌++◌, length, take, Option, None, Ok, Err, IfOk, OnOk, OnErr, IfErr, IsTrue, option_map};
 ghost use Rattle.std.specs.Option.{ForSome};
-ghost use Rattle.fault_io.specs.Faults.{Rose};
+ghost use Rattle.fault_io.specs.Faults.{Rose, one_more};
 ghost use Rattle.fault_io.specs.Bytes.{without_first, and_then};
 
 use plain_text::PlainText;
@@ -111,6 +112,9 @@ pub trait Sink {
     // how often it has failed
     ghost faults: { Self → ℕ };
 
+    // how often it has refused for want of memory
+    ghost shortages: { Self → ℕ };
+
     /// Takes some bytes from the front of `bytes`, at least one if there is one, and says how many.
     fn write(&mut self, alloc: Global, bytes: &[u8]) -> Result<usize, WriteRefusal>
         ensures bound { IfOk result (λ n. n ≤ length bytes.now) }
@@ -119,7 +123,9 @@ pub trait Sink {
         ensures kept { OnErr result (written self.new ≡ written self.old) }
         ensures ok { OnOk result (faults self.new ≡ faults self.old) }
         ensures failed { result ≡ Err WriteRefusal.Failed → Rose (faults self.old) (faults self.new) }
-        ensures memory { result ≡ Err WriteRefusal.Memory → faults self.new ≡ faults self.old };
+        ensures memory { result ≡ Err WriteRefusal.Memory → faults self.new ≡ faults self.old }
+        ensures short { result ≡ Err WriteRefusal.Memory → Rose (shortages self.old) (shortages self.new) }
+        ensures not_short { result ≢ Err WriteRefusal.Memory → shortages self.new ≡ shortages self.old };
 }
 
 /// A store of files by their paths. A path is absolute and normalized, as `is_path` says; a text
@@ -133,6 +139,12 @@ pub trait Files {
     // how often it has failed
     ghost faults: { Self → ℕ };
 
+    // how often it was asked for a folder
+    ghost lists: { Self → ℕ };
+
+    // how often it was asked for a file
+    ghost reads: { Self → ℕ };
+
     /// The direct entries of a folder, each once and in any order; `None` for all else. `/` is
     /// always a folder.
     fn list(&mut self, alloc: Global, path: &str) -> Result<Option<Vec<Entry>>, FilesRefusal>
@@ -141,7 +153,9 @@ pub trait Files {
         ensures told { told self.new ≡ told self.old }
         ensures ok { OnOk result (faults self.new ≡ faults self.old) }
         ensures failed { result ≡ Err FilesRefusal.Failed → Rose (faults self.old) (faults self.new) }
-        ensures memory { result ≡ Err FilesRefusal.Memory → faults self.new ≡ faults self.old };
+        ensures memory { result ≡ Err FilesRefusal.Memory → faults self.new ≡ faults self.old }
+        ensures listed_once { lists self.new ≡ one_more (lists self.old) }
+        ensures not_read { reads self.new ≡ reads self.old };
 
     /// The bytes of a file; `None` for all else.
     fn read(&mut self, alloc: Global, path: &str) -> Result<Option<Vec<u8>>, FilesRefusal>
@@ -150,5 +164,7 @@ pub trait Files {
         ensures told { told self.new ≡ told self.old }
         ensures ok { OnOk result (faults self.new ≡ faults self.old) }
         ensures failed { result ≡ Err FilesRefusal.Failed → Rose (faults self.old) (faults self.new) }
-        ensures memory { result ≡ Err FilesRefusal.Memory → faults self.new ≡ faults self.old };
+        ensures memory { result ≡ Err FilesRefusal.Memory → faults self.new ≡ faults self.old }
+        ensures read_once { reads self.new ≡ one_more (reads self.old) }
+        ensures not_listed { lists self.new ≡ lists self.old };
 }

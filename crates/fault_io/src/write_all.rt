@@ -1,6 +1,6 @@
 //! Writing all of a text.
 
-ghost use Rattle.std.specs.Prelude.{◌≡◌, ℕ, ◌<◌, ◌≤◌, List, [], ◌++◌, length, take, None, Ok, Err, IfOk, OnOk, OnErr, IfErr};
+ghost use Rattle.std.specs.Prelude.{◌≡◌, ◌≢◌, ℕ, ◌<◌, ◌≤◌, List, [], ◌++◌, length, take, None, Ok, Err, IfOk, OnOk, OnErr, IfErr};
 ghost use Rattle.fault_io.specs.Faults.{Rose};
 ghost use Rattle.fault_io.specs.Bytes.{and_then};
 
@@ -15,6 +15,8 @@ pub fn write_all_of<K: Sink>(alloc: Global, sink: &mut K, bytes: &[u8]) -> Resul
     ensures ok { OnOk result (K.faults sink.new ≡ K.faults sink.old) }
     ensures failed { result ≡ Err WriteRefusal.Failed → Rose (K.faults sink.old) (K.faults sink.new) }
     ensures memory { result ≡ Err WriteRefusal.Memory → K.faults sink.new ≡ K.faults sink.old }
+    ensures short { result ≡ Err WriteRefusal.Memory → Rose (K.shortages sink.old) (K.shortages sink.new) }
+    ensures not_short { result ≢ Err WriteRefusal.Memory → K.shortages sink.new ≡ K.shortages sink.old }
 {
     let mut at = 0;
     while at < bytes.len() {
