@@ -1,0 +1,86 @@
+-- Texts in which nothing is wrong, and their programs.
+use Rattle.std.proofs.Common.{◌≡◌, ◌≢◌, ℕ, suc, ◌==◌, Bool, true, false, if◌then◌else◌, nat_le, List, [], ◌∷◌, length, Option, None, Some, Result, Ok, Err, IfSome, inl, inr, refl, sym, subst, ◌∙◌}
+use Rattle.std.specs.Option.{option_map_or}
+use Rattle.std.specs.Str.{is_utf8}
+use Rattle.dart_text.specs.Edits.{max_text, short_text, text_in_bytes}
+use Rattle.dart_text.specs.Results.{IsUnlessMemory}
+use Rattle.dart_text.specs.declared.text.TextRefusal.{TextRefusal}
+use Rattle.dart_text.specs.declared.text.TextRefusal.TheVariants.{NotUtf8, TooLong, Memory}
+use Rattle.dart_tree.specs.Tree.{Tree}
+use Rattle.proto_json.specs.declared.reply.ErrorRow.{ErrorRow}
+use Rattle.judgement.specs.declared.Fault.{Fault}
+use Rattle.check_library.specs.Grammar.{tree_of}
+use Rattle.check_library.proofs.Reports.{none_found, tree_faults-none}
+use Rattle.check_library.specs.Diagnostics.{no_unit, faults_in, diagnostics}
+use Rattle.check_library.specs.Checked.{IsCheckOf, IsFaultless}
+use Rattle.check_library.specs.declared.library.Checked.{Checked}
+use Rattle.core_ir.specs.Program.{Program}
+use Rattle.core_machine.specs.State.{run_of}
+use Rattle.elaborate.specs.Elaborated.{IsElaborationOf}
+use Rattle.diagnostics.specs.Rendering.{rows_of, lines_of_rows}
+use Rattle.judgement.specs.declared.DiagnosticCode.TheVariants.{FileNotUtf8, ProfileFileLength}
+use Rattle.std.proofs.Math.Dec.{eqb-suc-zero}
+use Rattle.std.proofs.lemmas.Bool.{true≢false}
+use Rattle.dart_server.specs.declared.status.Status.{Status}
+use Rattle.dart_server.specs.declared.status.Status.TheVariants.{Errors}
+use Rattle.dart_server.specs.Run.{no_text, rows_of_file, Prints, ProgramGives, RowsGive}
+use Rattle.dart_server.proofs.WritesLemmas.{Says}
+use Rattle.dart_server.proofs.RunLemmas.{IsSound}
+
+-- where nothing is reported, nothing is wrong
+no_faults : (text : List ℕ) → diagnostics text ≡ [] → faults_in text ≡ []
+unfolding diagnostics
+no_faults text none = none_found (faults_in text) none
+
+-- a list of no length, and one of some
+pub none_of_length : (faults : List Fault) → (length faults == 0) ≡ true → faults ≡ []
+none_of_length [] none = refl
+none_of_length (fault ∷ faults) none = let some : (suc (length faults) == 0) ≡ false = eqb-suc-zero (length faults) in absurd (true≢false (sym none ∙ some))
+
+pub some_of_length : (faults : List Fault) → (length faults == 0) ≡ false → faults ≢ []
+some_of_length [] some none = absurd (true≢false some)
+some_of_length (fault ∷ faults) some none = cc
+
+-- a check without diagnostics is of a text in which nothing is wrong
+pub faultless : (text : List ℕ) (checked : Checked) → IsCheckOf text checked → checked.diagnostics ≡ [] → IsFaultless checked
+faultless text checked check none = record { text = text; check = check; none = no_faults text (sym check.diagnostics ∙ none) }
+
+-- the program of a tree that a text without faults has
+given_by_tree : (faults : Tree → List Fault) (text : List ℕ) (steps : ℕ) (tree : Option Tree) (p : Program) → tree_of text ≡ tree → option_map_or faults tree (no_unit text) ≡ [] → IfSome tree (λ t. IsElaborationOf t p) → IsSound p → (output : List ℕ) (status : Status) → Prints (run_of p steps) output status → ProgramGives text steps output status
+given_by_tree faults text steps None p is none elaborated sound output status prints = cc
+given_by_tree faults text steps (Some tree) p is none elaborated sound output status prints = record { tree = tree; tree_is = is; program = p; program_is = elaborated; prints = prints; sound = sound }
+
+-- what the program of a text without diagnostics prints is the output of the text
+pub given_by_program : (file text : List ℕ) (steps : ℕ) (checked : Checked) (p : Program) → IsCheckOf text checked → checked.diagnostics ≡ [] → IfSome checked.unit (λ t. IsElaborationOf t p) → IsSound p → (output : List ℕ) (status : Status) → Prints (run_of p steps) output status → RowsGive text steps (rows_of file text (diagnostics text)) output status
+given_by_program file text steps checked p check none elaborated sound output status prints =
+    let silent : diagnostics text ≡ [] = sym check.diagnostics ∙ none in
+    let elaborated_tree : IfSome (tree_of text) (λ t. IsElaborationOf t p) = subst (λ (tree : Option Tree). IfSome tree (λ t. IsElaborationOf t p)) check.unit elaborated in
+    let given : ProgramGives text steps output status = given_by_tree _ text steps (tree_of text) p refl (tree_faults-none text (no_faults text silent)) elaborated_tree sound output status prints in
+    subst (λ (faults : List Fault). RowsGive text steps (rows_of file text faults) output status) (sym silent) given
+
+-- the lines of rows are the output, where there are rows
+pub given_by_rows : (file bytes text : List ℕ) (steps : ℕ) (faults : List Fault) → faults ≢ [] → (output : List ℕ) (status : Status) → Says (lines_of_rows (rows_of file text faults)) Errors output status → RowsGive bytes steps (rows_of file text faults) output status
+given_by_rows file bytes text steps [] some output status says = absurd (some refl)
+given_by_rows file bytes text steps (fault ∷ faults) some output status says = says
+
+-- the rows of a file by what its bytes are
+abbrev pub RowsBy : (file bytes : List ℕ) → List ErrorRow → Result (List ℕ) TextRefusal → Type 0
+RowsBy file bytes rows (Ok text) = (text ≡ bytes) × (rows ≡ rows_of file bytes (diagnostics bytes))
+RowsBy file bytes rows (Err NotUtf8) = rows ≡ rows_of file [] (no_text FileNotUtf8 ∷ [])
+RowsBy file bytes rows (Err (TooLong count)) = rows ≡ rows_of file [] (no_text ProfileFileLength ∷ [])
+RowsBy file bytes rows (Err Memory) = Unit {0}
+
+rows_of_short : (file bytes : List ℕ) (short : Bool) → RowsBy file bytes (if short then rows_of file bytes (diagnostics bytes) else rows_of file [] (no_text ProfileFileLength ∷ [])) (if short then Ok bytes else Err (TooLong (length bytes)))
+rows_of_short file bytes true = (refl, refl)
+rows_of_short file bytes false = refl
+
+rows_of_answer : (file bytes : List ℕ) → RowsBy file bytes (rows_of_file file bytes) (text_in_bytes bytes)
+unfolding text_in_bytes short_text
+rows_of_answer file bytes =
+    elim (is_utf8 bytes) as (λ utf8. RowsBy file bytes (if utf8 then (if nat_le (length bytes) max_text then rows_of file bytes (diagnostics bytes) else rows_of file [] (no_text ProfileFileLength ∷ [])) else rows_of file [] (no_text FileNotUtf8 ∷ [])) (if utf8 then (if nat_le (length bytes) max_text then Ok bytes else Err (TooLong (length bytes))) else Err NotUtf8))
+    [ true ↦ rows_of_short file bytes (nat_le (length bytes) max_text) | false ↦ refl ]
+
+-- the rows of a file by what was made of its bytes
+pub rows_of_found : (file bytes : List ℕ) (found : Result (List ℕ) TextRefusal) → IsUnlessMemory found (text_in_bytes bytes) → RowsBy file bytes (rows_of_file file bytes) found
+rows_of_found file bytes found (inl memory) = subst (RowsBy file bytes (rows_of_file file bytes)) (sym memory) tt
+rows_of_found file bytes found (inr is) = subst (RowsBy file bytes (rows_of_file file bytes)) (sym is) (rows_of_answer file bytes)

@@ -1,0 +1,79 @@
+-- The whole output of the program.
+use Rattle.std.specs.Prelude.{◌≡◌, ℕ, ◌<◌, false, List, [], ◌∷◌, ◌++◌, codes, length, take, Option}
+use Rattle.std.specs.Option.{ForSome}
+use Rattle.fault_io.specs.Bytes.{and_then}
+use Rattle.fault_io.specs.Stored.{Stored}
+use Rattle.serve_loop.specs.Served.{Served}
+use Rattle.proto_json.specs.Requests.{max_line}
+use Rattle.serve_loop.specs.declared.end.ServeEnd.{ServeEnd}
+use Rattle.serve_loop.specs.declared.end.ServeEnd.TheVariants as End
+use Rattle.protocol_rules.specs.Turns.{at_start, reply_to, state_after}
+use Rattle.dart_server.specs.Words.{Command, Serve, Run, Refused as NoCommand, command_of}
+use Rattle.dart_server.specs.Run.{RunOutput}
+use Rattle.dart_server.specs.declared.status.Status.{Status}
+use Rattle.dart_server.specs.declared.status.Status.TheVariants.{Done, Errors, Refused, Threw, Memory, StepsSpent, ReadFault, WriteFault, FilesFault, InputSpent}
+
+-- what is written where the words are no command
+abbrev pub usage_line : List ℕ
+usage_line = codes "usage: dart_serve serve|check FILE|run FILE|make N [options]" ++ 10 ∷ []
+
+-- 2^40 bytes: an input that has so many isn't read on
+abbrev pub input_limit : ℕ
+input_limit = 1099511627776
+
+-- the status of an end of serving
+abbrev pub status_for : ServeEnd → Status
+status_for End.Done = Done
+status_for End.InputSpent = InputSpent
+status_for End.ReadFault = ReadFault
+status_for End.WriteFault = WriteFault
+status_for End.Memory = Memory
+status_for End.SinkMemory = Memory
+
+-- Under `serve`: the replies to the lines of the input, over the texts then current, as far as the end of serving says.
+pub record ServeOutput (told : Option Stored) (input : List ℕ) (old new left : Option (List ℕ)) (faults faults' : ℕ) (status : Status) : Type 0 where
+  pub end : ServeEnd
+  pub status_is : status ≡ status_for end
+  pub served : Served (λ _. false) (λ s. reply_to s told) (λ s. state_after s told) max_line input_limit at_start input old new left faults faults' end
+
+-- a front of the usage line that isn't all of it
+abbrev pub PartOfUsage : Option (List ℕ) → Option (List ℕ) → Type 0
+PartOfUsage old new = (n : ℕ) × (n < length usage_line) × (new ≡ and_then old (take n usage_line))
+
+-- what is written where the words are refused
+abbrev pub RefusedOutput : Status → Option (List ℕ) → Option (List ℕ) → Type 0
+RefusedOutput Refused old new = new ≡ and_then old usage_line
+RefusedOutput WriteFault old new = PartOfUsage old new
+RefusedOutput Memory old new = PartOfUsage old new
+RefusedOutput Done old new = ⊥
+RefusedOutput Errors old new = ⊥
+RefusedOutput Threw old new = ⊥
+RefusedOutput StepsSpent old new = ⊥
+RefusedOutput ReadFault old new = ⊥
+RefusedOutput FilesFault old new = ⊥
+RefusedOutput InputSpent old new = ⊥
+
+-- The statuses that the program may have: under `serve` those of its ends, under `run` those of a run, for other words that of the refusal, or of a sink that didn't take the usage line.
+abbrev pub MayEnd : Command → Status → Type 0
+MayEnd Serve Done = Unit {0}
+MayEnd Serve Memory = Unit {0}
+MayEnd Serve ReadFault = Unit {0}
+MayEnd Serve WriteFault = Unit {0}
+MayEnd Serve InputSpent = Unit {0}
+MayEnd (Run file steps) Done = Unit {0}
+MayEnd (Run file steps) Errors = Unit {0}
+MayEnd (Run file steps) Refused = Unit {0}
+MayEnd (Run file steps) Memory = Unit {0}
+MayEnd (Run file steps) StepsSpent = Unit {0}
+MayEnd (Run file steps) WriteFault = Unit {0}
+MayEnd (Run file steps) FilesFault = Unit {0}
+MayEnd NoCommand Refused = Unit {0}
+MayEnd NoCommand Memory = Unit {0}
+MayEnd NoCommand WriteFault = Unit {0}
+MayEnd _ _ = ⊥
+
+-- What the program writes, and its status: one field for each command.
+pub record Output (words : List (List ℕ)) (told : Option Stored) (from : Option (List ℕ)) (old new left : Option (List ℕ)) (faults faults' : ℕ) (status : Status) : Type 0 where
+  pub serves : command_of words ≡ Serve → ForSome from (λ input. ServeOutput told input old new left faults faults' status)
+  pub runs : (file : List ℕ) (steps : ℕ) → command_of words ≡ Run file steps → RunOutput file steps told old new status
+  pub refuses : command_of words ≡ NoCommand → RefusedOutput status old new

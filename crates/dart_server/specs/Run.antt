@@ -1,0 +1,122 @@
+-- What a run of a file writes, and how it ends.
+use Rattle.std.specs.Prelude.{◌≡◌, ◌≢◌, ◌⊎◌, ℕ, ◌<◌, Bool, true, List, [], ◌∷◌, ◌++◌, Option, None, Some, Result, Ok, Err, if◌then◌else◌, codes, length, take, nat_eq, nat_le}
+use Rattle.std.specs.List.{ends_with}
+use Rattle.std.specs.Option.{ForSome}
+use Rattle.std.specs.Str.{is_utf8}
+use Rattle.dart_text.specs.Edits.{max_text}
+use Rattle.fault_io.specs.Bytes.{and_then}
+use Rattle.fault_io.specs.Faults.{Rose}
+use Rattle.fault_io.specs.Stored.{Stored, bytes_at}
+use Rattle.fault_io.specs.declared.traits.WriteRefusal.{WriteRefusal}
+use Rattle.fault_io.specs.declared.traits.WriteRefusal.TheVariants as Cut
+use Rattle.proto_json.specs.declared.reply.ErrorRow.{ErrorRow}
+use Rattle.judgement.specs.declared.Fault.{Fault}
+use Rattle.judgement.specs.declared.DiagnosticCode.{DiagnosticCode}
+use Rattle.judgement.specs.declared.DiagnosticCode.TheVariants.{FileNotUtf8, ProfileFileLength}
+use Rattle.dart_tree.specs.Tree.{Tree}
+use Rattle.check_library.specs.Grammar.{tree_of}
+use Rattle.check_library.specs.Diagnostics.{diagnostics}
+use Rattle.diagnostics.specs.Rendering.{rows_of, lines_of_rows}
+use Rattle.core_ir.specs.Program.{Program}
+use Rattle.core_machine.specs.Steps.{Kind}
+use Rattle.core_machine.specs.State.{Outcome, Went, Done as Ended, Wrong, run_of}
+use Rattle.elaborate.specs.Elaborated.{IsElaborationOf}
+use Rattle.dart_server.specs.declared.status.Status.{Status}
+use Rattle.dart_server.specs.declared.status.Status.TheVariants.{Done, Errors, Refused, Memory, StepsSpent, WriteFault, FilesFault}
+
+-- the name of a library ends in `.dart`
+abbrev pub is_library : List ℕ → Bool
+is_library file = ends_with nat_eq file (codes ".dart")
+
+-- the bytes of a library, where the store gave these for the file
+abbrev pub library_of : (file : List ℕ) → Option (List ℕ) → Option (List ℕ)
+library_of file given = if is_library file then given else None
+
+-- what is written where there is no library of the name
+abbrev pub no_library_line : List ℕ
+no_library_line = codes "dart_serve: no such library" ++ 10 ∷ []
+
+-- the last line of a run that hasn't ended within its steps
+abbrev pub steps_spent_line : List ℕ
+steps_spent_line = codes "steps spent" ++ 10 ∷ []
+
+-- the one diagnostic of a file that holds no text, at the beginning of the file
+abbrev pub no_text : DiagnosticCode → Fault
+no_text code = record { span = record { start = 0; end = 0 }; code = code }
+
+-- the rows of a file: that its bytes aren't UTF-8, else that they are too many, else those of its text
+abbrev pub rows_of_file : (file bytes : List ℕ) → List ErrorRow
+rows_of_file file bytes =
+    if is_utf8 bytes
+    then (if nat_le (length bytes) max_text then rows_of file bytes (diagnostics bytes) else rows_of file [] (no_text ProfileFileLength ∷ []))
+    else rows_of file [] (no_text FileNotUtf8 ∷ [])
+
+-- the whole output of a run whose steps lead there, and its status: what it printed, and where it hasn't ended, that its steps are spent; no run goes wrong
+abbrev pub Prints : Outcome → (output : List ℕ) → Status → Type 0
+Prints (Ended s) output status = (output ≡ s.output) × (status ≡ Done)
+Prints (Went s) output status = (output ≡ s.output ++ steps_spent_line) × (status ≡ StepsSpent)
+Prints (Wrong kind) output status = ⊥
+
+-- the output and the status of a text in which nothing is wrong: those of its core program after so many steps; no number of steps of that program goes wrong
+pub record ProgramGives (text : List ℕ) (steps : ℕ) (output : List ℕ) (status : Status) : Type 0 where
+  pub tree : Tree
+  pub tree_is : tree_of text ≡ Some tree
+  pub program : Program
+  pub program_is : IsElaborationOf tree program
+  pub prints : Prints (run_of program steps) output status
+  pub sound : (n : ℕ) (kind : Kind) → run_of program n ≢ Wrong kind
+
+-- the output and the status of a file that has these rows: their lines, or where there are none, those of its program
+abbrev pub RowsGive : (bytes : List ℕ) (steps : ℕ) → List ErrorRow → (output : List ℕ) → Status → Type 0
+RowsGive bytes steps [] output status = ProgramGives bytes steps output status
+RowsGive bytes steps (row ∷ rows) output status = (output ≡ lines_of_rows (row ∷ rows)) × (status ≡ Errors)
+
+-- the output and the status of a run, by the bytes of the library
+abbrev pub RunGives : (file : List ℕ) (steps : ℕ) → Option (List ℕ) → (output : List ℕ) → Status → Type 0
+RunGives file steps None output status = (output ≡ no_library_line) × (status ≡ Refused)
+RunGives file steps (Some bytes) output status = RowsGive bytes steps (rows_of_file file bytes) output status
+
+-- an output is written whole
+pub record IsWhole (gives : List ℕ → Status → Type 0) (old new : Option (List ℕ)) (status : Status) : Type 0 where
+  pub output : List ℕ
+  pub given : gives output status
+  pub written : new ≡ and_then old output
+
+-- a front of an output is written
+pub record IsFront (gives : List ℕ → Status → Type 0) (old new : Option (List ℕ)) : Type 0 where
+  pub output : List ℕ
+  pub status : Status
+  pub given : gives output status
+  pub size : ℕ
+  pub written : new ≡ and_then old (take size output)
+
+-- what is written: the whole output, or where the sink refuses a front of it that isn't all; where memory is wanting a front, or nothing
+abbrev pub Writes : (gives : List ℕ → Status → Type 0) → (old new : Option (List ℕ)) → Result Status WriteRefusal → Type 0
+Writes gives old new (Ok status) = IsWhole gives old new status
+Writes gives old new (Err Cut.Failed) = (front : IsFront gives old new) × (front.size < length front.output)
+Writes gives old new (Err Cut.Memory) = (new ≡ old) ⊎ IsFront gives old new
+
+-- the sink's count of faults rises exactly where it fails
+abbrev pub Counts : Result Status WriteRefusal → (faults faults' : ℕ) → Type 0
+Counts (Ok status) faults faults' = faults' ≡ faults
+Counts (Err Cut.Failed) faults faults' = Rose faults faults'
+Counts (Err Cut.Memory) faults faults' = faults' ≡ faults
+
+-- the status of an end
+abbrev pub status_after : Result Status WriteRefusal → Status
+status_after (Ok status) = status
+status_after (Err Cut.Failed) = WriteFault
+status_after (Err Cut.Memory) = Memory
+
+-- what is written, and the status, where the end says it
+pub record IsEnd (gives : List ℕ → Status → Type 0) (old new : Option (List ℕ)) (status : Status) : Type 0 where
+  pub end : Result Status WriteRefusal
+  pub status_is : status ≡ status_after end
+  pub writes : Writes gives old new end
+
+-- Under `run`: the output of the file's bytes as the store gives them; nothing, where the store fails, which is asked only for a library.
+pub record RunOutput (file : List ℕ) (steps : ℕ) (told : Option Stored) (old new : Option (List ℕ)) (status : Status) : Type 0 where
+  pub bytes : Option (List ℕ)
+  pub bytes_are : ForSome told (λ files. bytes ≡ bytes_at files file)
+  pub fails : status ≡ FilesFault → (is_library file ≡ true) × (new ≡ old)
+  pub ends : status ≢ FilesFault → IsEnd (RunGives file steps (library_of file bytes)) old new status

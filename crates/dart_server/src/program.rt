@@ -1,0 +1,104 @@
+//! The program over a source, a sink and a store of files.
+
+ghost use Rattle.std.specs.Prelude.{◌≡◌, ◌≢◌};
+ghost use Rattle.std.specs.Option.{ForSome};
+ghost use Rattle.fault_io.specs.Faults.{Rose};
+ghost use Rattle.dart_server.specs.Words.{Serve, Refused, command_of};
+ghost use Rattle.dart_server.specs.Output.{Output, ServeOutput, RefusedOutput, MayEnd};
+
+use crate::run::run;
+use crate::session::Session;
+use crate::status::{Status, status_of};
+use crate::words::{Command, command_of};
+use fault_io::{Files, Sink, Source, WriteRefusal, write_all_of};
+use plain_text::PlainText;
+use serve_loop::serve;
+use std::alloc::Global;
+
+/// The most bytes of a line, its line feed aside: 16 MiB.
+const LINE_LIMIT: u64 = 16_777_216;
+
+/// An input has fewer bytes than this.
+const INPUT_LIMIT: u64 = 1_099_511_627_776;
+
+/// What is written where the words are no command.
+const USAGE: &[u8] = b"usage: dart_serve serve|check FILE|run FILE|make N [options]\n";
+
+/// Writes the usage line.
+fn refuse<K: Sink>(alloc: Global, sink: &mut K) -> Status
+    ensures output { RefusedOutput result (K.written sink.old) (K.written sink.new) }
+    ensures fault { result ≡ Status.WriteFault → Rose (K.faults sink.old) (K.faults sink.new) }
+    ensures no_fault { result ≢ Status.WriteFault → K.faults sink.new ≡ K.faults sink.old }
+    ensures statuses { MayEnd Refused result }
+{
+    match write_all_of(alloc, sink, USAGE) {
+        Ok(()) => Status::Refused,
+        Err(WriteRefusal::Failed) => Status::WriteFault,
+        Err(WriteRefusal::Memory) => Status::Memory,
+    }
+}
+
+/// Answers the lines of the source.
+fn serve_lines<S: Source, K: Sink, F: Files>(
+    alloc: Global,
+    source: &mut S,
+    sink: &mut K,
+    files: &mut F,
+) -> Status
+    ensures output { ForSome (S.left source.old) (λ input. ServeOutput (F.told files.old) input (K.written sink.old) (K.written sink.new) (S.left source.new) (F.faults files.old) (F.faults files.new) result) }
+    ensures statuses { MayEnd Serve result }
+    ensures read_fault { result ≡ Status.ReadFault → Rose (S.faults source.old) (S.faults source.new) }
+    ensures no_read_fault { result ≢ Status.ReadFault → S.faults source.new ≡ S.faults source.old }
+    ensures write_fault { result ≡ Status.WriteFault → Rose (K.faults sink.old) (K.faults sink.new) }
+    ensures no_write_fault { result ≢ Status.WriteFault → K.faults sink.new ≡ K.faults sink.old }
+    ensures store { F.faults files.new ≡ F.faults files.old }
+    ensures told { F.told files.new ≡ F.told files.old }
+{
+    let mut session = Session::new(alloc);
+    let end = serve(
+        alloc,
+        LINE_LIMIT,
+        INPUT_LIMIT,
+        source,
+        sink,
+        &mut session,
+        files,
+    );
+    status_of(end)
+}
+
+/// The program: `words` are those behind its name. Under `serve` it answers the lines of the
+/// source, one by one, until the source ends; under `run` it runs the program of a file; other words
+/// are refused by the usage line.
+///
+/// `output` is the theorem of the program. Under `serve` what was written, for every input in
+/// whatever pieces, is the replies that the rules of the protocol define, and each reply to
+/// `analysis.getErrors` lists exactly the diagnostics that the rules of the language define, from
+/// nothing, for the text then current. Under `run` it is the diagnostics of the file, or where it
+/// has none, what its program prints, of which no number of steps goes wrong. The other clauses say
+/// when each fault comes: a count of faults rises, or stands at its end, exactly where the status
+/// says so; only `serve` reads the source, and only under `run` may the store of files fail.
+pub fn dart_main<S: Source, K: Sink, F: Files>(
+    alloc: Global,
+    words: &[PlainText],
+    source: &mut S,
+    sink: &mut K,
+    files: &mut F,
+) -> Status
+    ensures output { Output words.now (F.told files.old) (S.left source.old) (K.written sink.old) (K.written sink.new) (S.left source.new) (F.faults files.old) (F.faults files.new) result }
+    ensures statuses { MayEnd (command_of words.now) result }
+    ensures read_fault { result ≡ Status.ReadFault → Rose (S.faults source.old) (S.faults source.new) }
+    ensures no_read_fault { result ≢ Status.ReadFault → S.faults source.new ≡ S.faults source.old }
+    ensures write_fault { result ≡ Status.WriteFault → Rose (K.faults sink.old) (K.faults sink.new) }
+    ensures no_write_fault { result ≢ Status.WriteFault → K.faults sink.new ≡ K.faults sink.old }
+    ensures files_fault { result ≡ Status.FilesFault → Rose (F.faults files.old) (F.faults files.new) }
+    ensures no_files_fault { result ≢ Status.FilesFault → F.faults files.new ≡ F.faults files.old }
+    ensures unread { command_of words.now ≢ Serve → source.new ≡ source.old }
+    ensures told { F.told files.new ≡ F.told files.old }
+{
+    match command_of(words) {
+        Command::Serve => serve_lines(alloc, source, sink, files),
+        Command::Run { file, steps } => run(alloc, sink, files, file, steps),
+        Command::Refused => refuse(alloc, sink),
+    }
+}
