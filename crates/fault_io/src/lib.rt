@@ -28,6 +28,3 @@ pub use standard::{StdSink, StdSource};
 pub use stored::are_files;
 pub use traits::{Entry, EntryKind, Failed, Files, FilesRefusal, Sink, Source, WriteRefusal};
 pub use write_all::write_all_of;
-
-#[cfg(test)]
-mod tests;

@@ -1,5 +1,5 @@
 use Rattle.std.proofs.Common.{◌≡◌, ℕ, ◌+◌, ◌<◌, Bool, true, false, List, [], ◌∷◌, ◌++◌, take, drop, Option, Some, unwrap_or, refl, sym, ◌∙◌, ap, arith, append_assoc}
-use Rattle.std.proofs.lemmas.List.{append-nil, map_push}
+use Rattle.std.proofs.lemmas.List.{append-nil, drop_all, map_push}
 use Rattle.fault_io.specs.Bytes.{and_then}
 use Rattle.fault_io.specs.Lines.{input_lines}
 use Rattle.fault_io.specs.Reading.{Reading}
@@ -56,10 +56,12 @@ module _ {State : Type 0} (uses : Event → Bool) (reply : State → Event → B
     -- no line more was read
     pub served_stop : (end : ServeEnd) (r' : Reading) (left' : Option (List ℕ)) → r'.budget ≡ budget → left' ≡ Some (drop r'.taken input) → StopsAt end input (lines_in p.marked) r'
         → Served uses reply next max budget s input old now left' f fnow end
-    served_stop Done r' left' b l h = rw (← b) (record { marked = p.marked; marks = p.marks; lines = h.0; written = p.written }, h.1)
-    served_stop InputSpent r' left' b l h = rw (← b) (record { marked = p.marked; marks = p.marks; lines = h.0; written = p.written }, h.1)
-    served_stop ReadFault r' left' b l h = record { taken = r'.taken; left_is = l; marked = p.marked; marks = p.marks; lines = h.0; written = p.written }
-    served_stop Memory r' left' b l h = rw (← b) (record { marked = p.marked; more = h.0; mid = fnow; marks = p.marks; no_less = omega arith; lines = h.1; written = p.written })
+    served_stop Done r' left' b l h = rw (← b) (record { marked = p.marked; marks = p.marks; lines = h.0; written = p.written }, h.1, l ∙ ap (λ xs. Some xs) (drop_all r'.taken input h.2))
+    served_stop InputSpent r' left' b l h =
+        rw (← b) (record { marked = p.marked; marks = p.marks; lines = h.0; written = p.written }, record { left_is = l ∙ ap (λ n. Some (drop n input)) h.1; fits = omega (arith, h.1, h.2); within = omega arith })
+    served_stop ReadFault r' left' b l h = record { taken = r'.taken; takes = record { left_is = l; fits = h.2; within = omega (arith, h.1, b) }; marked = p.marked; marks = p.marks; lines = h.0; written = p.written }
+    served_stop Memory r' left' b l h =
+        rw (← b) (record { taken = r'.taken; takes = record { left_is = l; fits = h.4; within = h.3 }; marked = p.marked; more = h.0; mid = fnow; marks = p.marks; no_less = omega arith; lines = h.1; first = h.2; written = p.written })
     served_stop WriteFault r' left' b l h = absurd h
     served_stop SinkMemory r' left' b l h = absurd h
 
@@ -86,13 +88,24 @@ module _ {State : Type 0} (uses : Event → Bool) (reply : State → Event → B
             short = short';
             written = written' ∙ ap (λ o. and_then o (take n (reply_bytes reply max (state_after next max s p.marked) (t.line, mark)))) p.written ∙ and_then-and_then old _ _;
             taken = r'.taken;
-            left_is = l;
+            takes = record { left_is = l; fits = t.stands.fits; within = omega (arith, t.stands.within, b) };
             ahead = t.ahead;
           }
 
       -- a line was read, and its reply isn't written whole
       pub served_part : (end : ServeEnd) (new : Option (List ℕ)) (f' : ℕ) → PartOfReply end (uses (event_shown r'.bytes too_long)) (reply state (event_shown r'.bytes too_long)) now new fnow f' → Served uses reply next max budget s input old new left' f f' end
-      served_part Memory new f' h = record { marked = p.marked; more = t.line ∷ t.more; mid = fnow; marks = p.marks; no_less = h.1; lines = t.next ∙ ap (λ n. input_lines n input) b; written = h.0 ∙ p.written }
+      served_part Memory new f' h = record {
+        taken = r'.taken;
+        takes = record { left_is = l; fits = t.stands.fits; within = omega (arith, t.stands.within, b) };
+        marked = p.marked;
+        more = t.line ∷ t.more;
+        mid = fnow;
+        marks = p.marks;
+        no_less = h.1;
+        lines = t.next ∙ ap (λ n. input_lines n input) b;
+        first = t.first;
+        written = h.0 ∙ p.written;
+      }
       served_part WriteFault new f' h = served_cut new f' h
       served_part SinkMemory new f' h = served_cut new f' h
       served_part Done new f' h = absurd h

@@ -1,8 +1,8 @@
-use Rattle.std.proofs.Common.{◌≡◌, ◌≢◌, ℕ, ◌+◌, ◌-◌, ◌<◌, ◌≤◌, Bool, true, false, List, [], ◌∷◌, ◌++◌, take, drop, refl, sym, ◌∙◌, ap, arith, append_assoc, ltb, lt-ltb, le-ltb, inl, inr}
-use Rattle.std.proofs.lemmas.List.{append-nil}
-use Rattle.std.proofs.lemmas.Bool.{cases_lt}
+use Rattle.std.proofs.Common.{◌≡◌, ◌≢◌, ℕ, ◌+◌, ◌-◌, ◌<◌, ◌≤◌, Bool, true, false, List, [], ◌∷◌, ◌++◌, take, drop, refl, sym, ◌∙◌, ap, arith, append_assoc, ltb, lt-ltb, le-ltb, eqb, length, inl, inr}
+use Rattle.std.proofs.lemmas.List.{append-nil, length-append}
+use Rattle.std.proofs.lemmas.Bool.{cases_lt, cases_Bool, or_parts}
 use Rattle.std.proofs.Math.Seq.{take-add}
-use Rattle.fault_io.specs.Lines.{has_line_feed, lines_of}
+use Rattle.fault_io.specs.Lines.{has_line_feed, lines_of, begin_line}
 use Rattle.fault_io.specs.LineLaws.{lines_of-line, lines_of-last}
 use Rattle.serve_loop.specs.Replies.{text_of}
 use Rattle.serve_loop.specs.Turn.{AreLines}
@@ -41,3 +41,41 @@ ltb-sub t l b h k =
 pub lines_of-whole : (line : List ℕ) → line ≢ [] → has_line_feed line ≡ false → lines_of true line ≡ line ∷ []
 lines_of-whole [] n h = absurd (n refl)
 lines_of-whole (x ∷ xs) n h = lines_of-last x xs h
+
+text_of-begin : (x : ℕ) (lines : List (List ℕ)) → length (text_of (begin_line false x lines)) ≤ length (text_of lines) + 1
+text_of-begin x [] = omega arith
+text_of-begin x (l ∷ ls) = omega arith
+
+-- the finished lines of some bytes, each with its line feed, are no longer than these
+text_of-lines_of : (xs : List ℕ) → length (text_of (lines_of false xs)) ≤ length xs
+text_of-lines_of [] = omega arith
+text_of-lines_of (x ∷ xs) =
+    elim (cases_Bool (eqb x 10)) [
+      | inl t ↦ rw t (omega (arith, text_of-lines_of xs))
+      | inr f ↦ rw f (omega (arith, text_of-begin x (lines_of false xs), text_of-lines_of xs))
+    ]
+
+behind-begin : (x : ℕ) (lines : List (List ℕ)) → drop 1 (begin_line false x lines) ≡ drop 1 lines
+behind-begin x [] = refl
+behind-begin x (l ∷ ls) = refl
+
+behind-less : (lines : List (List ℕ)) → length (text_of (drop 1 lines)) ≤ length (text_of lines)
+behind-less [] = omega arith
+behind-less (l ∷ ls) = omega (arith, length-append (l ++ 10 ∷ []) (text_of ls))
+
+-- so are those behind the first, which has one byte at least
+behind-lines_of : (xs : List ℕ) → length (text_of (drop 1 (lines_of false xs))) ≤ length xs - 1
+behind-lines_of [] = omega arith
+behind-lines_of (x ∷ xs) =
+    elim (cases_Bool (eqb x 10)) [
+      | inl t ↦ rw t (omega (arith, text_of-lines_of xs))
+      | inr f ↦ rw (f, behind-begin x (lines_of false xs)) (omega (arith, behind-less (lines_of false xs), text_of-lines_of xs))
+    ]
+
+-- and where the first line feed stands behind a part
+pub behind-part : (part rest : List ℕ) → has_line_feed part ≡ false → length (text_of (drop 1 (lines_of false (part ++ rest)))) ≤ length rest - 1
+behind-part [] rest n = behind-lines_of rest
+behind-part (x ∷ part) rest n =
+    let p = or_parts (eqb x 10) (has_line_feed part) n in
+    let f : eqb x 10 ≡ false = p.0 in
+    rw (f, behind-begin x (lines_of false (part ++ rest))) (behind-part part rest p.1)

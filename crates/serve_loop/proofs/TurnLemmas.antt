@@ -12,8 +12,9 @@ use Rattle.fault_io.specs.LineLaws.{lines_of-line, lines_of-open}
 use Rattle.fault_io.specs.LineLaws.{unread_split}
 use Rattle.serve_loop.specs.Event.{event_of_line, event_shown}
 use Rattle.serve_loop.specs.Replies.{text_of}
-use Rattle.serve_loop.specs.Turn.{Stands, Step}
-use Rattle.serve_loop.proofs.TextLemmas.{text_of-push, AreLines-push, lines_of-text_of, take_further, ltb-sub, lines_of-whole}
+use Rattle.serve_loop.specs.Turn.{Stands, AreFirst, Step}
+use Rattle.fault_io.specs.declared.line.TheConstants.{PIECE}
+use Rattle.serve_loop.proofs.TextLemmas.{text_of-push, AreLines-push, lines_of-text_of, take_further, ltb-sub, lines_of-whole, behind-part}
 
 -- what a reading at a place of the input sees
 module _ (input : List ℕ) (lines : List (List ℕ)) (r : Reading) (s : Stands input lines r) (o : r.at_end ≡ false) where
@@ -28,6 +29,17 @@ module _ (input : List ℕ) (lines : List (List ℕ)) (r : Reading) (s : Stands 
       ap (λ e. lines_of e (take r.budget input)) (sym ends_is) ∙ ap (λ ys. lines_of (ends r (drop r.taken input)) ys) all_bytes
       ∙ lines_of-text_of _ lines _ (s.before_end o).1
 
+  -- the lines that were read stand first, where the first line feed since stands behind a part
+  pub first_are : (taken : ℕ) (part rest : List ℕ) → r.taken ≤ taken → has_line_feed part ≡ false → r.kept ++ take (taken - r.taken) (drop r.taken input) ≡ part ++ rest
+      → length rest - 1 ≤ PIECE → AreFirst input lines taken
+  first_are taken part rest t n e small =
+      let a = take_further input (text_of lines) r.kept r.taken taken t (s.before_end o).0 in
+      record {
+        unanswered = lines_of false (part ++ rest);
+        feeds = sym (ap (λ ys. lines_of false ys) (a ∙ ap (λ ys. text_of lines ++ ys) e) ∙ lines_of-text_of false lines (part ++ rest) (s.before_end o).1);
+        ahead = omega (arith, behind-part part rest n, small);
+      }
+
 -- what a call that read from r to r' knows
 pub record Moves (input : List ℕ) (r r' : Reading) : Type 0 where
   pub budget : r'.budget ≡ r.budget
@@ -35,7 +47,7 @@ pub record Moves (input : List ℕ) (r r' : Reading) : Type 0 where
   pub taken : r.taken ≤ r'.taken
   pub within : r'.taken ≤ r'.budget
   pub fits : r'.taken - r.taken ≤ length (drop r.taken input)
-  pub kept : length r'.kept ≤ 65536
+  pub kept : length r'.kept ≤ PIECE
 
 module _ (input : List ℕ) (lines : List (List ℕ)) (r r' : Reading) (s : Stands input lines r) (o : r.at_end ≡ false) (m : Moves input r r') where
   in_input : r'.taken ≤ length input
@@ -61,6 +73,7 @@ module _ (input : List ℕ) (lines : List (List ℕ)) (r r' : Reading) (s : Stan
         next = sym (all_lines input lines r s o ∙ ap (λ ys. lines ++ ys) (ap (λ ys. lines_of (ends r xs) ys) p ∙ lines_of-line (ends r xs) line _ none)) ∙ ap (λ n. input_lines n input) (sym m.budget);
         shown = shown;
         ahead = omega (arith, n, full, m.kept);
+        first = first_are input lines r s o r'.taken line (10 ∷ r'.kept) m.taken none k (omega (arith, m.kept));
         stands = record {
           within = m.within;
           fits = in_input;
@@ -71,6 +84,12 @@ module _ (input : List ℕ) (lines : List (List ℕ)) (r r' : Reading) (s : Stan
   step too_long line shown (none, inr (a, e, ne, p, q)) =
       let xs = drop r.taken input in
       let lt : length input < r.budget = ltb-true _ _ (sym (ends_is input lines r s o) ∙ e) in
+      let gone : length input ≤ r'.taken =
+      omega (arith, lt, in_input, m.budget, m.taken, ap length q, length-append r'.kept (take (r'.budget - r'.taken) (drop (r'.taken - r.taken) xs)), length-take (r'.budget - r'.taken) (drop (r'.taken - r.taken) xs), length-drop (r'.taken - r.taken) xs, length-drop r.taken input) in
+      let rest : length xs ≤ r'.taken - r.taken = omega (arith, gone, length-drop r.taken input) in
+      let room : length xs ≤ r.budget - r.taken = omega (arith, lt, length-drop r.taken input) in
+      let same : r.kept ++ take (r'.taken - r.taken) xs ≡ line ++ [] =
+      ap (λ ys. r.kept ++ ys) (take_all (r'.taken - r.taken) xs rest ∙ sym (take_all (r.budget - r.taken) xs room)) ∙ p ∙ sym (append-nil line) in
       let all : lines ++ line ∷ [] ≡ input_lines r.budget input =
       sym (all_lines input lines r s o ∙ ap (λ ys. lines ++ ys) (rw (e, p) (lines_of-whole line ne none))) in
       let b : input ≡ text_of lines ++ line = sym (take_all r.budget input (omega arith)) ∙ all_bytes input lines r s o ∙ ap (λ ys. text_of lines ++ ys) p in
@@ -83,11 +102,12 @@ module _ (input : List ℕ) (lines : List (List ℕ)) (r r' : Reading) (s : Stan
         next = rw m.budget all;
         shown = shown;
         ahead = omega (arith, n, k, in_input);
+        first = first_are input lines r s o r'.taken line [] m.taken none same (omega arith);
         stands = record {
           within = m.within;
           fits = in_input;
           before_end = λ z. absurd (false≢true (sym z ∙ a));
-          past_end = λ _. rw m.budget (all, lt);
+          past_end = λ _. rw m.budget (all, lt, gone);
         };
       }
 
@@ -102,29 +122,38 @@ module _ (input : List ℕ) (lines : List (List ℕ)) (r r' : Reading) (s : Stan
       step true h.0 (rw (lt-leb _ _ long) refl) h.3
 
 module _ (input : List ℕ) (lines : List (List ℕ)) (r r' : Reading) (s : Stands input lines r) (b : r'.budget ≡ r.budget) where
-  pub end_stop : (r.at_end ≡ false → (unread r (drop r.taken input) ≡ []) × (ends r (drop r.taken input) ≡ true)) → StopsAt Done input lines r'
-  end_stop h =
+  pub end_stop : r.taken ≤ r'.taken → (r.at_end ≡ false → (unread r (drop r.taken input) ≡ []) × (ends r (drop r.taken input) ≡ true)) → StopsAt Done input lines r'
+  end_stop t h =
       elim (cases_Bool r.at_end) [
-        | inl t ↦ rw b (s.past_end t)
+        | inl past ↦
+            let k = s.past_end past in
+            rw b (k.0, k.1, omega (arith, k.2, t))
         | inr o ↦
             let k = h o in
             let all : input_lines r.budget input ≡ lines = all_lines input lines r s o ∙ rw k.0 (append-nil lines) in
-            rw b (sym all, ltb-true _ _ (sym (ends_is input lines r s o) ∙ k.1))
+            let short : length input < r.budget = ltb-true _ _ (sym (ends_is input lines r s o) ∙ k.1) in
+            let xs = drop r.taken input in
+            let gone : length input ≤ r'.taken = omega (arith, short, t, ap length k.0, length-append r.kept (take (r.budget - r.taken) xs), length-take (r.budget - r.taken) xs, length-drop r.taken input) in
+            rw b (sym all, short, gone)
       ]
 
-  pub spent_stop : r.at_end ≡ false → (has_line_feed (unread r (drop r.taken input)) ≡ false) × (ends r (drop r.taken input) ≡ false) → StopsAt Spent input lines r'
-  spent_stop o k =
+  pub spent_stop : r.at_end ≡ false → r'.taken ≡ r'.budget → (has_line_feed (unread r (drop r.taken input)) ≡ false) × (ends r (drop r.taken input) ≡ false) → StopsAt Spent input lines r'
+  spent_stop o spent k =
       let none : lines_of (ends r (drop r.taken input)) (unread r (drop r.taken input)) ≡ [] = rw k.1 (lines_of-open (unread r (drop r.taken input)) k.0) in
       let all : input_lines r.budget input ≡ lines = all_lines input lines r s o ∙ rw none (append-nil lines) in
-      rw b (sym all, ltb-false _ _ (sym (ends_is input lines r s o) ∙ k.1))
+      let long : r.budget ≤ length input = ltb-false _ _ (sym (ends_is input lines r s o) ∙ k.1) in
+      (rw b (sym all), spent, omega (arith, spent, b, long))
 
-  pub memory_stop : r.at_end ≡ false → StopsAt Memory input lines r'
-  memory_stop o = (lines_of (ends r (drop r.taken input)) (unread r (drop r.taken input)), rw b (sym (all_lines input lines r s o)))
+  pub memory_stop : r.at_end ≡ false → r.taken ≤ r'.taken → r'.taken ≤ r'.budget → r'.taken - r.taken ≤ length (drop r.taken input) → length r'.kept ≤ PIECE
+      → (part : List ℕ) → has_line_feed part ≡ false → r.kept ++ take (r'.taken - r.taken) (drop r.taken input) ≡ part ++ r'.kept → StopsAt Memory input lines r'
+  memory_stop o t w f small part n e =
+      let fits : r'.taken ≤ length input = omega (arith, f, t, s.fits, length-drop r.taken input) in
+      (lines_of (ends r (drop r.taken input)) (unread r (drop r.taken input)), rw b (sym (all_lines input lines r s o)), first_are input lines r s o r'.taken part r'.kept t n e (omega (arith, small)), w, fits)
 
-  pub fault_stop : r.at_end ≡ false → r.taken ≤ r'.taken → r'.taken - r.taken ≤ length (drop r.taken input)
+  pub fault_stop : r.at_end ≡ false → r.taken ≤ r'.taken → r'.taken ≤ r'.budget → r'.taken - r.taken ≤ length (drop r.taken input)
       → has_line_feed (r.kept ++ take (r'.taken - r.taken) (drop r.taken input)) ≡ false → StopsAt ReadFault input lines r'
-  fault_stop o t f n =
+  fault_stop o t w f n =
       let a = take_further input (text_of lines) r.kept r.taken r'.taken t (s.before_end o).0 in
       let all : lines_of false (take r'.taken input) ≡ lines =
       ap (λ ys. lines_of false ys) a ∙ lines_of-text_of false lines _ (s.before_end o).1 ∙ rw (lines_of-open _ n) (append-nil lines) in
-      (sym all, omega (arith, f, t, s.fits, length-drop r.taken input))
+      (sym all, w, omega (arith, f, t, s.fits, length-drop r.taken input))

@@ -4,4 +4,3 @@ pub mod Marks
 pub mod Turn
 pub mod Parts
 pub mod Served
-pub mod Echo

@@ -37,6 +37,7 @@ pub trait Answerer {
             × (option_map (λ v. v.items) bytes ≡ reply (state self.old) (F.told files.old) (event_of heard.entry) mark)
             × (state self.new ≡ next (state self.old) (F.told files.old) (event_of heard.entry) mark)) }
         ensures unused { uses (event_of heard.entry) ≡ false → F.faults files.new ≡ F.faults files.old }
+        ensures uncalled { uses (event_of heard.entry) ≡ false → (F.lists files.new ≡ F.lists files.old) × (F.reads files.new ≡ F.reads files.old) }
         ensures told { F.told files.new ≡ F.told files.old }
         ensures no_less { F.faults files.old ≤ F.faults files.new };
 }

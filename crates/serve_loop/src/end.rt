@@ -11,8 +11,8 @@ pub enum ServeEnd {
     ReadFault,
     /// The sink failed; the last reply may be written in part.
     WriteFault,
-    /// Want of memory between two replies.
+    /// Want of memory between two replies, which are whole.
     Memory,
-    /// Want of memory in the sink; the last reply may be written in part.
+    /// Want of memory in the sink, whose count of it rose; the last reply may be written in part.
     SinkMemory,
 }

@@ -17,6 +17,3 @@ pub use end::ServeEnd;
 pub use heard::Heard;
 pub use laws::lines_law;
 pub use turns::serve;
-
-#[cfg(test)]
-mod tests;

@@ -28,7 +28,7 @@ fn next_line<S: Source>(source: &mut S, line: &mut Line) -> Result<bool, ServeEn
     ensures left { (input : List ℕ) → S.left source.old ≡ Some (drop line.old.taken input) → S.left source.new ≡ Some (drop line.new.taken input) }
     ensures fault { result ≡ Err ServeEnd.ReadFault → Rose (S.faults source.old) (S.faults source.new) }
     ensures no_fault { result ≢ Err ServeEnd.ReadFault → S.faults source.new ≡ S.faults source.old }
-    ensures no_sink { (result ≢ Err ServeEnd.WriteFault) }
+    ensures no_sink { (result ≢ Err ServeEnd.WriteFault) × (result ≢ Err ServeEnd.SinkMemory) }
 {
     match read_line(source, line) {
         Ok(LineEnd::Line) => Ok(false),
@@ -65,8 +65,11 @@ fn reply_to<K: Sink, A: Answerer, F: Files>(
     ensures err { IfErr result (λ end. PartOfReply end (A.uses (event_of heard.entry)) (A.reply (A.state answerer.old) (F.told files.old) (event_of heard.entry)) (K.written sink.old) (K.written sink.new) (F.faults files.old) (F.faults files.new)) }
     ensures told { F.told files.new ≡ F.told files.old }
     ensures unused { A.uses (event_of heard.entry) ≡ false → F.faults files.new ≡ F.faults files.old }
+    ensures uncalled { A.uses (event_of heard.entry) ≡ false → (F.lists files.new ≡ F.lists files.old) × (F.reads files.new ≡ F.reads files.old) }
     ensures fault { result ≡ Err ServeEnd.WriteFault → Rose (K.faults sink.old) (K.faults sink.new) }
     ensures no_fault { result ≢ Err ServeEnd.WriteFault → K.faults sink.new ≡ K.faults sink.old }
+    ensures short { result ≡ Err ServeEnd.SinkMemory → Rose (K.shortages sink.old) (K.shortages sink.new) }
+    ensures not_short { result ≢ Err ServeEnd.SinkMemory → K.shortages sink.new ≡ K.shortages sink.old }
 {
     let Ok(reply) = answerer.answer(alloc, heard, files) else {
         return Err(ServeEnd::Memory);
@@ -96,11 +99,14 @@ pub fn serve<S: Source, K: Sink, A: Answerer, F: Files>(
     ensures served { ForSome (S.left source.old) (λ input.
         Served A.uses (λ s. A.reply s (F.told files.old)) (λ s. A.next s (F.told files.old)) line_limit input_limit (A.state answerer.old) input (K.written sink.old) (K.written sink.new) (S.left source.new) (F.faults files.old) (F.faults files.new) result) }
     ensures unused { ((event : Event) → A.uses event ≡ false) → F.faults files.new ≡ F.faults files.old }
+    ensures uncalled { ((event : Event) → A.uses event ≡ false) → (F.lists files.new ≡ F.lists files.old) × (F.reads files.new ≡ F.reads files.old) }
     ensures told { F.told files.new ≡ F.told files.old }
     ensures read_fault { result ≡ ServeEnd.ReadFault → Rose (S.faults source.old) (S.faults source.new) }
     ensures no_read_fault { result ≢ ServeEnd.ReadFault → S.faults source.new ≡ S.faults source.old }
     ensures write_fault { result ≡ ServeEnd.WriteFault → Rose (K.faults sink.old) (K.faults sink.new) }
     ensures no_write_fault { result ≢ ServeEnd.WriteFault → K.faults sink.new ≡ K.faults sink.old }
+    ensures short { result ≡ ServeEnd.SinkMemory → Rose (K.shortages sink.old) (K.shortages sink.new) }
+    ensures not_short { result ≢ ServeEnd.SinkMemory → K.shortages sink.new ≡ K.shortages sink.old }
 {
     let Ok(mut line) = Line::new(alloc, line_limit, input_limit) else {
         return ServeEnd::Memory;

@@ -39,19 +39,27 @@ loop-is_too_long-preserved g c =
           (c.next_line.ensures.budget ∙ i.budget) (c.next_line.ensures.left input p.left_is) t _ _ k.0 _ k.1 k.2 k.3;
       told = search rules;
       unused = λ no. c.in_default-reply_to.ensures.unused (no _) ∙ i.unused no;
+      uncalled = λ no.
+          let k = c.in_default-reply_to.ensures.uncalled (no _) in
+          let before = i.uncalled no in
+          (k.0 ∙ before.0, k.1 ∙ before.1);
       reads = search rules;
       writes = search rules;
+      shortages = search rules;
     }
 
 pub returns-in_default-clause-served : goal.returns-in_default-clause-served
 returns-in_default-clause-served g c = λ input e.
     record {
+      taken = 0;
+      takes = record { left_is = e; fits = omega arith; within = omega arith };
       marked = [];
       more = input_lines c.args.input_limit input;
       mid = g.F.Files.faults c.args.files.now;
       marks = no_marks _ _ _;
       no_less = omega arith;
       lines = refl;
+      first = record { unanswered = []; feeds = refl; ahead = omega arith };
       written = sym (and_then-nil _);
     }
 
@@ -70,6 +78,8 @@ loop-is_too_long-init g c =
       };
       told = refl;
       unused = λ no. refl;
+      uncalled = λ no. (refl, refl);
       reads = refl;
       writes = refl;
+      shortages = refl;
     })

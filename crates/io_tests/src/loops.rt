@@ -1,7 +1,7 @@
 //! Whole runs of the loop over an answerer that echoes.
 
-use crate::{Answerer, Heard, ServeEnd, serve};
 use fault_io::{Files, MemorySink, MemorySource, SteadyFiles};
+use serve_loop::{Answerer, Heard, ServeEnd, serve};
 use std::alloc::{AllocError, Global};
 use std::test::Fail;
 
@@ -14,7 +14,7 @@ impl Answerer for Echo {
     type State = ();
 
     ghost use Rattle.std.specs.Prelude.{false};
-    ghost use Rattle.serve_loop.specs.Echo.{echo_of};
+    ghost use Rattle.io_tests.specs.Echo.{echo_of};
 
     ghost state = { λ _. tt };
 

@@ -1,6 +1,6 @@
 //! Lines, sinks and stores, by tables, and the adapters to the system.
 
-use crate::{
+use fault_io::{
     Entry, EntryKind, Failed, Files, FilesRefusal, HostFiles, Line, LineEnd, MemoryFiles,
     MemorySink, MemorySource, Sink, Source, StdSink, StdSource, SteadyFiles, SteadySink,
     WriteRefusal, are_files, is_path, is_under, read_line, write_all_of,
