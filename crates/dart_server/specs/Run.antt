@@ -1,6 +1,5 @@
 -- What a run of a file writes, and how it ends.
-use Rattle.std.specs.Prelude.{◌≡◌, ◌≢◌, ◌⊎◌, ℕ, ◌<◌, Bool, true, List, [], ◌∷◌, ◌++◌, Option, None, Some, Result, Ok, Err, if◌then◌else◌, codes, length, take, nat_eq, nat_le}
-use Rattle.std.specs.List.{ends_with}
+use Rattle.std.specs.Prelude.{◌≡◌, ◌≢◌, ◌⊎◌, ℕ, ◌<◌, true, List, [], ◌∷◌, ◌++◌, Option, None, Some, Result, Ok, Err, if◌then◌else◌, codes, length, take, nat_le}
 use Rattle.std.specs.Option.{ForSome}
 use Rattle.std.specs.Str.{is_utf8}
 use Rattle.dart_text.specs.Edits.{max_text}
@@ -21,12 +20,9 @@ use Rattle.core_ir.specs.Program.{Program}
 use Rattle.core_machine.specs.Steps.{Kind}
 use Rattle.core_machine.specs.State.{Outcome, Went, Done as Ended, Wrong, run_of}
 use Rattle.elaborate.specs.Elaborated.{IsElaborationOf}
+use Rattle.protocol_rules.specs.Turns.{is_library}
 use Rattle.dart_server.specs.declared.status.Status.{Status}
 use Rattle.dart_server.specs.declared.status.Status.TheVariants.{Done, Errors, Refused, Memory, StepsSpent, WriteFault, FilesFault}
-
--- the name of a library ends in `.dart`
-abbrev pub is_library : List ℕ → Bool
-is_library file = ends_with nat_eq file (codes ".dart")
 
 -- the bytes of a library, where the store gave these for the file
 abbrev pub library_of : (file : List ℕ) → Option (List ℕ) → Option (List ℕ)

@@ -15,9 +15,6 @@ mod session;
 mod status;
 mod words;
 
-pub use host::on_host;
+pub use host::{on_host, words_of};
 pub use program::dart_main;
 pub use status::Status;
-
-#[cfg(test)]
-mod tests;

@@ -1,10 +1,9 @@
 //! A session: what a client has given, and the replies to its requests.
 
-ghost use Rattle.std.specs.Prelude.{◌≡◌, nat_eq, codes, Some, IfOk, option_map, option_copied};
-ghost use Rattle.std.specs.List.{ends_with};
+ghost use Rattle.std.specs.Prelude.{◌≡◌, Some, IfOk, option_map, option_copied};
 ghost use Rattle.serve_loop.specs.Event.{event_of, line as line_event};
 ghost use Rattle.proto_json.specs.Requests.{answer};
-ghost use Rattle.protocol_rules.specs.Turns.{at_start, invalid_turn, overlays_turn, update_turn, analyzed, errors_turn, asked_turn, request_turn, bytes_of};
+ghost use Rattle.protocol_rules.specs.Turns.{at_start, invalid_turn, overlays_turn, update_turn, is_library, analyzed, errors_turn, asked_turn, request_turn, bytes_of};
 ghost use Rattle.dart_server.specs.Said.{Gives, Answered};
 
 use check_library::check;
@@ -73,9 +72,9 @@ fn update(
     }
 }
 
-/// The name ends in `.dart`.
+/// Whether the name is that of a library: it ends in `.dart`.
 pub fn is_dart(file: &str) -> bool
-    ensures { result ≡ ends_with nat_eq file.now (codes ".dart") }
+    ensures { result ≡ is_library file.now }
 {
     file.ends_with(".dart")
 }

@@ -66,9 +66,13 @@ update_turn s id files = updated_turn s id (applied files s.overlays)
 abbrev pub unserved_turn : Contents → List ℕ → Turn
 unserved_turn s id = refused_turn s id UnknownRequest
 
--- the text of a file, if it is analyzed: its name ends in `.dart`, and it has an overlay
+-- the name of a library ends in `.dart`
+abbrev pub is_library : List ℕ → Bool
+is_library file = ends_with nat_eq file (codes ".dart")
+
+-- the text of a file, if it is analyzed: it is a library, and it has an overlay
 abbrev pub analyzed : Contents → List ℕ → Option (List ℕ)
-analyzed s file = if ends_with nat_eq file (codes ".dart") then text_in file s.overlays else None
+analyzed s file = if is_library file then text_in file s.overlays else None
 
 -- the errors of a text: the diagnostics that the rules give, from nothing, for the text as it now stands; a refusal where there is no text
 abbrev pub errors_body : List ℕ → Option (List ℕ) → ReplyBody

@@ -2,7 +2,8 @@ use Rattle.std.proofs.Common.{◌≡◌, ◌∙◌, true, false, ℕ, List, Opti
 use Rattle.std.specs.Option.{ForSome, option_map}
 use Rattle.fault_io.specs.Stored.{bytes_at}
 use Rattle.fault_io.specs.declared.traits.WriteRefusal.TheVariants.{Memory}
-use Rattle.dart_server.specs.Run.{is_library, RowsGive, RunGives, Writes, rows_of_file}
+use Rattle.protocol_rules.specs.Turns.{is_library}
+use Rattle.dart_server.specs.Run.{RowsGive, RunGives, Writes, rows_of_file}
 use Rattle.dart_server.proofs.EndLemmas.{run_output, told_bytes, told_bytes_are, no_library, none_of_other, all_of_library, store_failed}
 use Rattle.dart_server.proofs.run.run.Goals as goal
 
