@@ -64,7 +64,7 @@ fn update(
     ensures { IfOk result (λ said. Gives said contents.new (update_turn contents.old id files.now)) }
 {
     let mut overlays = contents.overlays.copy()?;
-    match overlays.apply(alloc, files) {
+    match overlays.apply(files) {
         Ok(()) => Ok(put_in_place(contents, id, overlays)),
         Err(OverlayRefusal::BadChange { .. }) => Ok(refused(id, Code::InvalidOverlayChange)),
         Err(OverlayRefusal::TooLong { .. }) => Ok(refused(id, Code::ProfileLimit)),

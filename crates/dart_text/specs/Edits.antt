@@ -2,14 +2,15 @@
 use Rattle.std.specs.Prelude.{ℕ, ◌+◌, List, ◌++◌, length, take, drop, nat_le, nat_lt, if◌then◌else◌, Result, Ok, Err}
 use Rattle.std.specs.Str.{is_utf8}
 use Rattle.dart_text.specs.Units.{units_of, text_of, splits_pair}
+use Rattle.dart_text.specs.declared.text.TheConstants.{MAX_TEXT}
 use Rattle.dart_text.specs.declared.text.TextRefusal.{TextRefusal}
 use Rattle.dart_text.specs.declared.text.TextRefusal.TheVariants as text_refusal
 use Rattle.dart_text.specs.declared.edit.EditRefusal.{EditRefusal}
 use Rattle.dart_text.specs.declared.edit.EditRefusal.TheVariants.{OutOfRange, SplitsPair, TooLong}
 
--- the most bytes that the text of a file has, 4 MiB
+-- the most bytes that the text of a file has
 abbrev pub max_text : ℕ
-max_text = 4194304
+max_text = MAX_TEXT
 
 -- the text of a file, if it is short enough
 unfoldable pub short_text : List ℕ → Result (List ℕ) TextRefusal

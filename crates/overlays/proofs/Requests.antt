@@ -1,21 +1,25 @@
 -- Edits and files one after another: one more, the first that is refused, and the end.
-use Rattle.std.proofs.Common.{◌≡◌, ◌≢◌, ℕ, ◌+◌, ◌<◌, ◌≤◌, List, [], ◌∷◌, length, get_or, drop, ◌++◌, Option, Result, Ok, Err, refl, sym, ap, ◌∙◌, ◌⊎◌, inl, inr}
+use Rattle.std.proofs.Common.{◌≡◌, ◌≢◌, ℕ, ◌+◌, ◌<◌, ◌≤◌, List, [], ◌∷◌, length, get_or, drop, ◌++◌, Option, Some, None, Result, Ok, Err, refl, sym, ap, ◌∙◌, ◌⊎◌, inl, inr}
 use Rattle.std.specs.List.{All}
-use Rattle.std.specs.Prelude.{IfOk, MatchResult}
+use Rattle.std.specs.Prelude.{IfOk}
+use Rattle.std.proofs.lemmas.Bool.{le-leb}
 use Rattle.std.proofs.lemmas.List.{at_drop_more, at_drop_all}
 use Rattle.std.proofs.lemmas.List.Elements.{All-head, All-tail}
 use Rattle.std.proofs.lemmas.Result.{IfOk-weaker}
-use Rattle.dart_text.specs.Edits.{edited}
+use Rattle.dart_text.specs.Edits.{edited, max_text}
 use Rattle.dart_text.specs.declared.edit.EditRefusal.{EditRefusal}
 use Rattle.dart_text.specs.declared.edit.EditRefusal.TheVariants as edit_refusal
 use Rattle.proto_json.specs.declared.overlay.FileOverlay.{FileOverlay}
+use Rattle.proto_json.specs.declared.overlay.Overlay.{Overlay}
+use Rattle.proto_json.specs.declared.overlay.Overlay.TheVariants.{Add, Change, Remove}
 use Rattle.proto_json.specs.declared.overlay.OverlayEdit.{OverlayEdit}
-use Rattle.overlays.specs.Tables.{PathsAndTexts, IsInOrder, text_in, with_text}
-use Rattle.overlays.specs.Applied.{go_on, edited_by, text_after, apply_on, applied}
+use Rattle.overlays.specs.Tables.{PathsAndTexts, IsInOrder, text_in, put_text, drop_text, with_text}
+use Rattle.overlays.specs.Applied.{go_on, edited_by, changed, text_after, apply_on, applied}
+use Rattle.overlays.specs.OneFile.{one_applied, GivesOneFile}
 use Rattle.overlays.specs.Results.{IsUnlessMemory, IsEditedUnlessMemory}
 use Rattle.overlays.specs.declared.refusal.OverlayRefusal.{OverlayRefusal}
 use Rattle.overlays.specs.declared.refusal.OverlayRefusal.TheVariants.{Memory}
-use Rattle.overlays.proofs.LookUps.{text_in-with, text_in-with_other, order-with}
+use Rattle.overlays.proofs.LookUps.{text_in-with_other, order-with}
 
 -- a text after an edit
 abbrev pub after_edit : List ℕ → OverlayEdit → Result (List ℕ) EditRefusal
@@ -140,14 +144,50 @@ others-applied other (file ∷ files) table all =
       | Err refusal ↦ tt
     ]
 
--- a request of one file gives it the text that its overlay makes, or is refused as this is
-pub text-applied : (file : FileOverlay) (table : PathsAndTexts) → MatchResult (text_after file.path file.overlay (text_in file.path table)) (λ text. IfOk (applied (file ∷ []) table) (λ after. text_in file.path after ≡ text)) (λ refusal. applied (file ∷ []) table ≡ Err refusal)
+-- the text of an overlay, by what it does
+text_added : (path content : List ℕ) (old : Option (List ℕ)) → length content ≤ max_text → text_after path (Add content) old ≡ Ok (Some content)
+unfolding text_after
+text_added path content old short = rw (le-leb (length content) max_text short) refl
+
+text_changed : (path old text : List ℕ) (edits : List OverlayEdit) → edited_by edits old ≡ Ok text → text_after path (Change edits) (Some old) ≡ Ok (Some text)
+unfolding text_after
+text_changed path old text edits is = ap (changed path) is
+
+text_removed : (path : List ℕ) (old : Option (List ℕ)) → text_after path Remove old ≡ Ok None
+unfolding text_after
+text_removed path old = refl
+
+-- a request of one file applies the text that its overlay makes, or is refused as this is
+one_of : (file : FileOverlay) (table : PathsAndTexts) (answer : Result (Option (List ℕ)) OverlayRefusal) → text_after file.path file.overlay (text_in file.path table) ≡ answer → one_applied file table ≡ apply_on (λ after. Ok after) file.path table answer
 unfolding applied
-text-applied file table =
-    elim (text_after file.path file.overlay (text_in file.path table)) as (λ r. MatchResult r (λ text. IfOk (apply_on (applied []) file.path table r) (λ after. text_in file.path after ≡ text)) (λ refusal. apply_on (applied []) file.path table r ≡ Err refusal)) [
-      | Ok text ↦ text_in-with file.path text table
-      | Err refusal ↦ refl
-    ]
+one_of file table (Ok text) is = ap (apply_on (applied []) file.path table) is
+one_of file table (Err refusal) is = ap (apply_on (applied []) file.path table) is
+
+pub one_file : (file : FileOverlay) (table : PathsAndTexts) → GivesOneFile file table
+one_file file table = record {
+  added = λ content is short.
+      one_of file table (Ok (Some content)) (ap (λ (o : Overlay). text_after file.path o (text_in file.path table)) is ∙ text_added file.path content (text_in file.path table) short);
+  changed = λ edits old text is there done.
+      one_of file table (Ok (Some text))
+      (ap (λ (o : Overlay). text_after file.path o (text_in file.path table)) is
+      ∙ (ap (text_after file.path (Change edits)) there ∙ text_changed file.path old text edits done));
+  removed = λ is.
+      one_of file table (Ok None) (ap (λ (o : Overlay). text_after file.path o (text_in file.path table)) is ∙ text_removed file.path (text_in file.path table));
+  refused = λ refusal is. one_of file table (Err refusal) is;
+}
+
+-- no files, no edits and one edit
+pub no_files : (table : PathsAndTexts) → applied [] table ≡ Ok table
+unfolding applied
+no_files table = refl
+
+pub no_edits : (text : List ℕ) → edited_by [] text ≡ Ok text
+unfolding edited_by
+no_edits text = refl
+
+pub one_edit : (text : List ℕ) (edit : OverlayEdit) → edited_by (edit ∷ []) text ≡ after_edit text edit
+unfolding edited_by
+one_edit text edit = elim (after_edit text edit) as (λ r. go_on (edited_by []) r ≡ r) [ Ok after ↦ refl | Err refusal ↦ refl ]
 
 -- what more edits or files make of an answer that is known
 pub edits_go_on : (edits others : List OverlayEdit) (text after : List ℕ) → edited_by edits text ≡ Ok after → edited_by (edits ++ others) text ≡ edited_by others after

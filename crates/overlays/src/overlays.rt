@@ -47,12 +47,12 @@ impl Overlays {
     /// The files of a request change, gain or lose their texts, all of them or none: after a refusal
     /// the overlays are as before. It costs a copy of the pointers to all texts, for each file a
     /// search and a move of the pointers behind it, and for a changed one a copy of its text.
-    pub fn apply(&mut self, alloc: Global, files: &[FileOverlay]) -> Result<(), OverlayRefusal>
+    pub fn apply(&mut self, files: &[FileOverlay]) -> Result<(), OverlayRefusal>
         ensures { Applies result self.old self.new (applied files.now self.old) }
     {
         let mut changed = self.copy()?;
         for file in files {
-            changed.apply_file(alloc, file)?;
+            changed.apply_file(file)?;
         }
         *self = changed;
         Ok(())
@@ -96,12 +96,13 @@ impl Overlays {
     }
 
     // One file of a request changes, gains or loses its text.
-    fn apply_file(&mut self, alloc: Global, file: &FileOverlay) -> Result<(), OverlayRefusal>
+    fn apply_file(&mut self, file: &FileOverlay) -> Result<(), OverlayRefusal>
         ensures { Applies result self.old self.new (applied (file.now ∷ []) self.old) }
     {
+        let alloc = *self.entries.allocator();
         match text_after(alloc, file, self.text(file.path.as_str()))? {
             Some(text) => {
-                self.put(alloc, &file.path, text)?;
+                self.put(&file.path, text)?;
                 Ok(())
             }
             None => {
@@ -112,11 +113,11 @@ impl Overlays {
     }
 
     // The file at the path has this text from now on.
-    fn put(&mut self, alloc: Global, path: &PlainText, text: Text) -> Result<(), AllocError>
+    fn put(&mut self, path: &PlainText, text: Text) -> Result<(), AllocError>
         ensures ok { OnOk result (self.new ≡ put_text path.now text self.old) }
         ensures err { OnErr result (self.new ≡ self.old) }
     {
-        let entry = Entry::new(alloc, path, text)?;
+        let entry = Entry::new(*self.entries.allocator(), path, text)?;
         match self.search(path.as_str()) {
             Ok(place) => {
                 self.entries[place] = entry;

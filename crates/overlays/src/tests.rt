@@ -52,7 +52,7 @@ fn files_of(alloc: Global, request: &str) -> Result<FileOverlays, Fail> {
 // Applies a request, and tells what becomes of it.
 fn outcome_of(alloc: Global, overlays: &mut Overlays, request: &str) -> Result<String, Fail> {
     let files = files_of(alloc, request)?;
-    let said = match overlays.apply(alloc, files.as_slice()) {
+    let said = match overlays.apply(files.as_slice()) {
         Ok(()) => String::from_str(alloc, "done")?,
         Err(OverlayRefusal::BadChange { path }) => format!(in alloc; "{} stays", path.as_str())?,
         Err(OverlayRefusal::TooLong { path, bytes }) => {
