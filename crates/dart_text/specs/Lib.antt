@@ -4,3 +4,4 @@ pub mod Edits
 pub mod Results
 pub mod Cursors
 pub mod Parts
+pub mod Pieces

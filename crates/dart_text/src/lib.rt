@@ -8,12 +8,16 @@
 
 mod cursor;
 mod edit;
+mod edited_text;
 mod laws;
+mod piece;
+mod pieces;
 mod position;
 mod positions;
 mod text;
 
 pub use edit::EditRefusal;
+pub use edited_text::EditedText;
 pub use position::Position;
 pub use positions::Positions;
 pub use text::{MAX_TEXT, Text, TextRefusal};

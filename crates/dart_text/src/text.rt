@@ -1,6 +1,6 @@
 //! The text of a file.
 
-ghost use Rattle.std.specs.Prelude.{◌≡◌, ◌≤◌, length, IfOk, IsCharBoundary};
+ghost use Rattle.std.specs.Prelude.{◌≡◌, ◌≤◌, length, IfOk, IsCharBoundary, string_bytes};
 ghost use Rattle.std.specs.List.{replace_range};
 ghost use Rattle.dart_text.specs.Edits.{max_text, short_edit, short_text, text_in_bytes};
 ghost use Rattle.dart_text.specs.Lines.{position_of};
@@ -83,6 +83,14 @@ impl Text {
         }
         let text = String::from_str(alloc, text)?;
         Ok(Text { text })
+    }
+
+    /// The text that the string holds, which takes no memory.
+    pub(crate) fn of_short(text: String) -> Text
+        requires { length (string_bytes text) ≤ max_text }
+        ensures { result ≡ string_bytes text }
+    {
+        Text { text }
     }
 
     /// The text itself.
