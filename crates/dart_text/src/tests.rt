@@ -1,74 +1,52 @@
 //! Edits and positions of small texts, and the longest text.
 
-use crate::{EditRefusal, MAX_TEXT, Position, Positions, Text, TextRefusal};
+use crate::{EditRefusal, EditedText, MAX_TEXT, Position, Positions, Text, TextRefusal};
 use std::alloc::{AllocError, Global};
 use std::test::Fail;
 
 #[test]
 fn edits_count_code_units(rt: HostRuntime) -> Result<(), Fail> {
+    let range = |length| Some(EditRefusal::OutOfRange { length });
+    let pair = |at| Some(EditRefusal::SplitsPair { at });
+    let last = u64::MAX;
     let cases = [
-        ("", 0, 0, "", ""),
-        ("", 0, 0, "a😀", "a😀"),
-        ("abc", 0, 0, "x", "xabc"),
-        ("abc", 3, 0, "x", "abcx"),
-        ("abc", 1, 1, "", "ac"),
-        ("abc", 0, 3, "", ""),
-        ("abc", 1, 1, "xyz", "axyzc"),
-        ("é€b", 1, 1, "e", "éeb"),
-        ("a😀b", 1, 2, "", "ab"),
-        ("a😀b", 3, 1, "😀", "a😀😀"),
-        ("😀😀", 2, 0, "-", "😀-😀"),
-        ("a\r\nb\n", 2, 1, "", "a\rb\n"),
-        ("a\nb", 1, 1, "\r\n", "a\r\nb"),
+        ("", 0, 0, "", "", None),
+        ("", 0, 0, "a😀", "a😀", None),
+        ("abc", 0, 0, "x", "xabc", None),
+        ("abc", 3, 0, "x", "abcx", None),
+        ("abc", 1, 1, "xyz", "axyzc", None),
+        ("abc", 0, 3, "", "", None),
+        ("é€b", 1, 1, "e", "éeb", None),
+        ("a😀b", 1, 2, "", "ab", None),
+        ("a😀b", 3, 1, "😀", "a😀😀", None),
+        ("😀😀", 2, 0, "-", "😀-😀", None),
+        ("a\r\nb\n", 2, 1, "", "a\rb\n", None),
+        // the range is told before a pair, and the start of the edit before its end
+        ("", 0, 1, "xy", "", range(0)),
+        ("abc", 4, 0, "xy", "abc", range(3)),
+        ("abc", 3, 1, "xy", "abc", range(3)),
+        ("a😀b", 2, 3, "xy", "a😀b", range(4)),
+        ("abc", 1, last, "xy", "abc", range(3)),
+        ("abc", last, last, "xy", "abc", range(3)),
+        ("a😀b", 2, 0, "xy", "a😀b", pair(2)),
+        ("a😀b", 0, 2, "xy", "a😀b", pair(2)),
+        ("😀😀", 1, 2, "xy", "😀😀", pair(1)),
     ];
-    for (text, offset, length, with, want) in cases {
+    for (text, offset, length, with, want, refusal) in cases {
         let mut edited = Text::from_str(rt.alloc(), text)?;
-        edited.edit(offset, length, with)?;
-        assert_eq!(rt; edited.as_str(), want, "{text:?} at {offset}");
-    }
-    Ok(())
-}
-
-// Whether the edit is refused so, and leaves the text as it was.
-fn is_refused(
-    alloc: Global,
-    text: &str,
-    offset: u64,
-    length: u64,
-    refusal: EditRefusal,
-) -> Result<bool, TextRefusal> {
-    let mut edited = Text::from_str(alloc, text)?;
-    let done = edited.edit(offset, length, "xy");
-    Ok(done == Err(refusal) && edited.as_str() == text)
-}
-
-#[test]
-fn refused_edits_change_nothing(rt: HostRuntime) -> Result<(), Fail> {
-    let cases = [
-        ("", 0, 1, EditRefusal::OutOfRange { length: 0 }),
-        ("abc", 4, 0, EditRefusal::OutOfRange { length: 3 }),
-        ("abc", 3, 1, EditRefusal::OutOfRange { length: 3 }),
-        ("a😀b", 0, 5, EditRefusal::OutOfRange { length: 4 }),
-        ("a😀b", 2, 3, EditRefusal::OutOfRange { length: 4 }),
-        ("abc", 1, u64::MAX, EditRefusal::OutOfRange { length: 3 }),
-        ("abc", u64::MAX, 1, EditRefusal::OutOfRange { length: 3 }),
-        (
-            "abc",
-            u64::MAX,
-            u64::MAX,
-            EditRefusal::OutOfRange { length: 3 },
-        ),
-        ("a😀b", 2, 0, EditRefusal::SplitsPair { at: 2 }),
-        ("a😀b", 2, 2, EditRefusal::SplitsPair { at: 2 }),
-        ("a😀b", 0, 2, EditRefusal::SplitsPair { at: 2 }),
-        ("a😀b", 1, 1, EditRefusal::SplitsPair { at: 2 }),
-        ("😀😀", 1, 2, EditRefusal::SplitsPair { at: 1 }),
-    ];
-    for (text, offset, length, refusal) in cases {
-        assert!(rt;
-            is_refused(rt.alloc(), text, offset, length, refusal)?,
+        let mut pieces = EditedText::of(rt.alloc(), &edited)?;
+        assert_eq!(rt;
+            edited.edit(offset, length, with).err(),
+            refusal,
             "{text:?} at {offset}"
         );
+        assert_eq!(rt; edited.as_str(), want, "{text:?} at {offset}");
+        assert_eq!(rt;
+            pieces.edit(offset, length, with).err(),
+            refusal,
+            "{text:?} at {offset}"
+        );
+        assert_eq!(rt; pieces.to_text()?.as_str(), want, "{text:?} at {offset}");
     }
     Ok(())
 }
@@ -89,10 +67,34 @@ fn a_text_has_at_most_4_mebibytes(rt: HostRuntime) -> Result<(), Fail> {
     let mut letters = longest(alloc)?;
     assert_eq!(rt; letters.len(), MAX_TEXT);
     let mut text = Text::from_str(alloc, letters.as_str())?;
-    let refusal = EditRefusal::TooLong { bytes: 4_194_305 };
-    assert_eq!(rt; text.edit(0, 0, "x"), Err(refusal));
-    assert_eq!(rt; text.edit(0, 1, "é"), Err(refusal));
-    text.edit(0, 2, "é")?;
+    let mut pieces = EditedText::of(alloc, &text)?;
+    let longer = Some(EditRefusal::TooLong { bytes: 4_194_305 });
+    let edits = [
+        (0, 0, "x", longer),
+        (0, 1, "é", longer),
+        (0, 2, "é", None),
+        (4_194_302, 1, "é", longer),
+        // over many pieces, at the end of some, and all of them
+        (1_000_000, 2_000_000, "x😀y", None),
+        (2_048, 0, "-", None),
+        (2_048, 2_048, "", None),
+        (1, 1_500_000, "é", None),
+        (0, 692_261, letters.as_str(), None),
+        (4_194_304, 0, "", None),
+    ];
+    for (offset, length, with, refusal) in edits {
+        assert_eq!(rt;
+            text.edit(offset, length, with).err(),
+            refusal,
+            "at {offset}"
+        );
+        assert_eq!(rt;
+            pieces.edit(offset, length, with).err(),
+            refusal,
+            "at {offset}"
+        );
+        assert!(rt; pieces.to_text()?.as_str() == text.as_str(), "at {offset}");
+    }
     assert_eq!(rt; text.as_str().len(), MAX_TEXT);
     letters.push('e')?;
     let refused = Text::from_str(alloc, letters.as_str()).err();
@@ -116,42 +118,83 @@ fn a_text_is_utf8(rt: HostRuntime) -> Result<(), Fail> {
 
 #[test]
 fn lines_end_at_line_feeds(rt: HostRuntime) -> Result<(), Fail> {
-    let offsets = [0, 1, 2, 3, 4, u32::MAX];
+    // in any order, and some again
+    let offsets = [3, 0, 4, 4, 1, u32::MAX, 2, 2];
     let cases = [
-        ("", [(1, 1), (1, 1), (1, 1), (1, 1), (1, 1), (1, 1)]),
-        ("a\n\nb", [(1, 1), (1, 2), (2, 1), (3, 1), (3, 2), (3, 2)]),
-        ("\r\na\rb", [(1, 1), (1, 2), (2, 1), (2, 2), (2, 3), (2, 4)]),
-        ("é\n€\n", [(1, 1), (1, 2), (2, 1), (2, 2), (3, 1), (3, 1)]),
-        ("😀a\n", [(1, 1), (1, 2), (1, 3), (1, 4), (2, 1), (2, 1)]),
+        (
+            "",
+            [
+                (1, 1),
+                (1, 1),
+                (1, 1),
+                (1, 1),
+                (1, 1),
+                (1, 1),
+                (1, 1),
+                (1, 1),
+            ],
+        ),
+        (
+            "a\n\nb",
+            [
+                (3, 1),
+                (1, 1),
+                (3, 2),
+                (3, 2),
+                (1, 2),
+                (3, 2),
+                (2, 1),
+                (2, 1),
+            ],
+        ),
+        (
+            "\r\na\rb",
+            [
+                (2, 2),
+                (1, 1),
+                (2, 3),
+                (2, 3),
+                (1, 2),
+                (2, 4),
+                (2, 1),
+                (2, 1),
+            ],
+        ),
+        (
+            "é\n€\n",
+            [
+                (2, 2),
+                (1, 1),
+                (3, 1),
+                (3, 1),
+                (1, 2),
+                (3, 1),
+                (2, 1),
+                (2, 1),
+            ],
+        ),
+        (
+            "😀a\n",
+            [
+                (1, 4),
+                (1, 1),
+                (2, 1),
+                (2, 1),
+                (1, 2),
+                (2, 1),
+                (1, 3),
+                (1, 3),
+            ],
+        ),
     ];
     for (text, want) in cases {
         let text = Text::from_str(rt.alloc(), text)?;
+        let mut positions = Positions::of(&text);
         for (offset, (line, column)) in offsets.iter().zip(want) {
             let position = Position { line, column };
             assert_eq!(rt; text.line_column(*offset), position, "{text:?} at {offset}");
+            assert_eq!(rt; positions.at(*offset), position, "{text:?} at {offset}");
         }
-    }
-    Ok(())
-}
-
-#[test]
-fn positions_come_in_any_order(rt: HostRuntime) -> Result<(), Fail> {
-    let text = Text::from_str(rt.alloc(), "a\n😀c\nd")?;
-    let mut positions = Positions::of(&text);
-    let cases = [
-        (6, (3, 1)),
-        (0, (1, 1)),
-        (3, (2, 2)),
-        (3, (2, 2)),
-        (4, (2, 3)),
-        (3, (2, 2)),
-        (2, (2, 1)),
-        (99, (3, 2)),
-        (1, (1, 2)),
-    ];
-    for (offset, (line, column)) in cases {
-        let position = Position { line, column };
-        assert_eq!(rt; positions.at(offset), position, "at {offset}");
     }
     Ok(())
 }

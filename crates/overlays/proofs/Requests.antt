@@ -13,7 +13,7 @@ use Rattle.proto_json.specs.declared.overlay.FileOverlay.{FileOverlay}
 use Rattle.proto_json.specs.declared.overlay.Overlay.{Overlay}
 use Rattle.proto_json.specs.declared.overlay.Overlay.TheVariants.{Add, Change, Remove}
 use Rattle.proto_json.specs.declared.overlay.OverlayEdit.{OverlayEdit}
-use Rattle.overlays.specs.Tables.{PathsAndTexts, IsInOrder, text_in, put_text, drop_text, with_text}
+use Rattle.overlays.specs.Tables.{PathsAndTexts, IsInOrder, text_in, with_text}
 use Rattle.overlays.specs.Applied.{go_on, edited_by, changed, text_after, apply_on, applied}
 use Rattle.overlays.specs.OneFile.{one_applied, GivesOneFile}
 use Rattle.overlays.specs.Results.{IsUnlessMemory, IsEditedUnlessMemory}

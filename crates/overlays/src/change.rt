@@ -7,7 +7,7 @@ ghost use Rattle.overlays.specs.Results.{IsUnlessMemory, IsEditedUnlessMemory};
 ghost use Rattle.proto_json.specs.declared.overlay.Overlay.TheVariants.{Add, Change};
 
 use crate::refusal::OverlayRefusal;
-use dart_text::{EditRefusal, Text, TextRefusal};
+use dart_text::{EditRefusal, EditedText, Text, TextRefusal};
 use plain_text::PlainText;
 use proto_json::{FileOverlay, Overlay, OverlayEdit};
 use std::alloc::Global;
@@ -24,7 +24,7 @@ pub(crate) fn text_after(
     match &file.overlay {
         Overlay::Add { content } => added(alloc, &file.path, content),
         Overlay::Change { edits } => match old {
-            Some(text) => changed(&file.path, text, edits.as_slice()),
+            Some(text) => changed(alloc, &file.path, text, edits.as_slice()),
             None => Err(OverlayRefusal::bad_change(&file.path)?),
         },
         Overlay::Remove => Ok(None),
@@ -51,13 +51,14 @@ fn added(
 // The text that is there, changed.
 #[tactic(auto, unfolding(crate::specs::Applied::text_after))]
 fn changed(
+    alloc: Global,
     path: &PlainText,
     text: &Text,
     edits: &[OverlayEdit],
 ) -> Result<Option<Text>, OverlayRefusal>
     ensures { IsUnlessMemory result (text_after path.now (Change edits.now) (Some text.now)) }
 {
-    match edited_by(text, edits) {
+    match edited_by(alloc, text, edits) {
         Ok(text) => Ok(Some(text)),
         Err(EditRefusal::OutOfRange { .. }) => Err(OverlayRefusal::bad_change(path)?),
         Err(EditRefusal::SplitsPair { .. }) => Err(OverlayRefusal::bad_change(path)?),
@@ -67,12 +68,13 @@ fn changed(
 }
 
 // The text after these edits, each of which applies to the text that the one before it leaves.
-fn edited_by(text: &Text, edits: &[OverlayEdit]) -> Result<Text, EditRefusal>
+fn edited_by(alloc: Global, text: &Text, edits: &[OverlayEdit]) -> Result<Text, EditRefusal>
     ensures { IsEditedUnlessMemory result (edited_by edits.now text.now) }
 {
-    let mut edited = text.copy()?;
+    let mut edited = EditedText::of(alloc, text)?;
     for edit in edits {
         edited.edit(edit.offset, edit.length, edit.replacement.as_str())?;
     }
-    Ok(edited)
+    let text = edited.to_text()?;
+    Ok(text)
 }

@@ -1,4 +1,4 @@
-use Rattle.std.proofs.Common.{inr, sym, ◌∙◌, arith}
+use Rattle.std.proofs.Common.{inr, Ok, sym, ap, ◌∙◌, arith}
 use Rattle.std.proofs.lemmas.Result.{err_from_is_err_and}
 use Rattle.overlays.proofs.Requests.{one_more_edit, refused_edit, no_more_edits}
 use Rattle.overlays.proofs.change.edited_by.Goals as goal
@@ -19,4 +19,4 @@ loop-edit-preserved c =
 
 -- no edit is left
 pub returns : goal.returns
-returns c = inr (sym (c.loop-edit.invariant ∙ no_more_edits c.args.edits.now c.loop-edit.edit-index c.loop-edit.edited (omega arith)))
+returns c = inr (ap Ok c.in_ok-text.ensures ∙ sym (c.loop-edit.invariant ∙ no_more_edits c.args.edits.now c.loop-edit.edit-index c.loop-edit.edited (omega arith)))
