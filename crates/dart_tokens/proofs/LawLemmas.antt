@@ -5,7 +5,7 @@ use Rattle.std.proofs.lemmas.Option.{same_Some, slice_get_within, IfSome_then}
 use Rattle.std.proofs.Math.Logic.{⊎_elim}
 use Rattle.dart_tokens.specs.declared.token.Token.{Token}
 use Rattle.dart_tokens.specs.declared.token.Kind.{Kind}
-use Rattle.dart_tokens.specs.declared.token.Kind.TheVariants.{CloseParenthesis, CloseBracket, CloseBrace, InterpolationClosing}
+use Rattle.dart_tokens.specs.Kinds.{Sort, Closing, sort_of, opened_by, closed_by}
 use Rattle.dart_tokens.specs.Groups.{Bracket, Round, Square, Curly, Interpolation, Open, GroupEnd, is_same, is_open, opens, closes, closes_group, nearest, behind_closed, after_closing, after_opening, after_token, group_end}
 use Rattle.dart_tokens.specs.Stack.{BeganBefore}
 use Rattle.dart_tokens.specs.Pairs.{opens_at, closes_at, partner_at, ArePaired}
@@ -16,31 +16,31 @@ use Rattle.dart_tokens.proofs.FaultLemmas.{opens_none}
 
 -- Kinds.
 
-is_same-true : (a b : Bracket) → is_same a b ≡ true → a ≡ b
+pub is_same-true : (a b : Bracket) → is_same a b ≡ true → a ≡ b
 is_same-true Round Round e = refl
 is_same-true Square Square e = refl
 is_same-true Curly Curly e = refl
 is_same-true Interpolation Interpolation e = refl
 is_same-true _ _ e = absurd (cc)
 
-is_same-refl : (a : Bracket) → is_same a a ≡ true
+pub is_same-refl : (a : Bracket) → is_same a a ≡ true
 is_same-refl Round = refl
 is_same-refl Square = refl
 is_same-refl Curly = refl
 is_same-refl Interpolation = refl
 
 -- what closes a group opens none
+opened-closed : (sort : Sort) → is_some (closed_by sort) ≡ true → opened_by sort ≡ None
+opened-closed (Closing bracket) e = refl
+opened-closed _ e = absurd (cc)
+
 pub opens-closes : (kind : Kind) → is_some (closes kind) ≡ true → opens kind ≡ None
-opens-closes CloseParenthesis e = refl
-opens-closes CloseBracket e = refl
-opens-closes CloseBrace e = refl
-opens-closes InterpolationClosing e = refl
-opens-closes _ e = absurd (cc)
+opens-closes kind e = opened-closed (sort_of kind) e
 
 -- Open groups and the tokens that opened them.
 
 -- each was opened by a token of its kind
-abbrev Opened : List Token → List Open → Type 0
+abbrev pub Opened : List Token → List Open → Type 0
 Opened tokens [] = Unit {0}
 Opened tokens (group ∷ outer) = (opens_at tokens group.place ≡ Some group.bracket) × Opened tokens outer
 
@@ -58,7 +58,7 @@ Opened-opening : (place : ℕ) (kind : Kind) (opening : Option Bracket) (tokens 
 Opened-opening place kind None tokens around at each = Opened-closing (closes kind) tokens around each
 Opened-opening place kind (Some bracket) tokens around at each = (at, each)
 
-Opened-around : (place : ℕ) (tokens : List Token) → Opened tokens (around_before place tokens)
+pub Opened-around : (place : ℕ) (tokens : List Token) → Opened tokens (around_before place tokens)
 Opened-around zero tokens = tt
 Opened-around (suc place) tokens =
     let before = Opened-around place tokens in
@@ -67,18 +67,18 @@ Opened-around (suc place) tokens =
 
 -- The nearest open group of a kind.
 
-record IsNearest (bracket : Bracket) (tokens : List Token) (around : List Open) (place : ℕ) : Type 0 where
-  stays : is_open place around ≡ true
-  kind : opens_at tokens place ≡ Some bracket
-  gone : IsSomeAnd (behind_closed bracket around) (λ after. is_open place after ≡ false)
+pub record IsNearestOpen (bracket : Bracket) (tokens : List Token) (around : List Open) (place : ℕ) : Type 0 where
+  pub stays : is_open place around ≡ true
+  pub kind : opens_at tokens place ≡ Some bracket
+  pub gone : IsSomeAnd (behind_closed bracket around) (λ after. is_open place after ≡ false)
 
-nearest_is : (bracket : Bracket) (tokens : List Token) (around : List Open) (place behind : ℕ) → BeganBefore behind around → Opened tokens around → nearest bracket around ≡ Some place → IsNearest bracket tokens around place
+pub nearest_is : (bracket : Bracket) (tokens : List Token) (around : List Open) (place behind : ℕ) → BeganBefore behind around → Opened tokens around → nearest bracket around ≡ Some place → IsNearestOpen bracket tokens around place
 nearest_is bracket tokens [] place behind began each e = absurd (cc)
 nearest_is bracket tokens (group ∷ outer) place behind began each e =
     found (is_same bracket group.bracket) (is_same Interpolation group.bracket) refl refl (λ h. nearest_is bracket tokens outer place group.place began.1 each.1 h) e
   where
-    found : (same border : Bool) → is_same bracket group.bracket ≡ same → is_same Interpolation group.bracket ≡ border → (nearest bracket outer ≡ Some place → IsNearest bracket tokens outer place) →
-        (if same then Some group.place else (if border then None else nearest bracket outer)) ≡ Some place → IsNearest bracket tokens (group ∷ outer) place
+    found : (same border : Bool) → is_same bracket group.bracket ≡ same → is_same Interpolation group.bracket ≡ border → (nearest bracket outer ≡ Some place → IsNearestOpen bracket tokens outer place) →
+        (if same then Some group.place else (if border then None else nearest bracket outer)) ≡ Some place → IsNearestOpen bracket tokens (group ∷ outer) place
     found true border s b more h =
         let here : group.place ≡ place = same_Some group.place place h in
         record {
@@ -92,7 +92,7 @@ nearest_is bracket tokens (group ∷ outer) place behind began each e =
         record { stays = or_right (group.place == place) (is_open place outer) outer_is.stays; kind = outer_is.kind; gone = rw (s, b) outer_is.gone }
 
 -- none of the kind that is open began later
-nearest_is_latest : (bracket : Bracket) (tokens : List Token) (around : List Open) (place other behind : ℕ) → BeganBefore behind around → Opened tokens around → nearest bracket around ≡ Some place →
+pub nearest_is_latest : (bracket : Bracket) (tokens : List Token) (around : List Open) (place other behind : ℕ) → BeganBefore behind around → Opened tokens around → nearest bracket around ≡ Some place →
     is_open other around ≡ true → opens_at tokens other ≡ Some bracket → other ≤ place
 nearest_is_latest bracket tokens [] place other behind began each e stays kind = absurd (cc)
 nearest_is_latest bracket tokens (group ∷ outer) place other behind began each e stays kind =
@@ -161,7 +161,7 @@ paired tokens opening closing some partner =
 -- Groups that have ended, and groups that are open.
 
 -- behind the token that opens it a group is open, or its partner is behind us
-ended_or_open : (place k : ℕ) (tokens : List Token) → place ≤ length tokens → k < place → is_some (opens_at tokens k) ≡ true →
+pub ended_or_open : (place k : ℕ) (tokens : List Token) → place ≤ length tokens → k < place → is_some (opens_at tokens k) ≡ true →
     (is_open k (around_before place tokens) ≡ true) ⊎ ((end : ℕ) × (partner_at tokens k ≡ Some end) × (end < place))
 ended_or_open zero k tokens within less opener = absurd (omega (arith, less))
 ended_or_open (suc place) k tokens within less opener =
@@ -187,19 +187,6 @@ ended_or_open (suc place) k tokens within less opener =
         (λ ended. inr (ended.0, ended.1, omega (arith, ended.2)))
         (before (omega (arith, less, ne))))
         (cases_eq k place)
-
-pub nearest_closed : (tokens : List Token) (opening between closing end : ℕ) → is_some (closes_at tokens closing) ≡ true → partner_at tokens closing ≡ Some opening → opening < between → between < closing →
-    opens_at tokens between ≡ closes_at tokens closing → partner_at tokens between ≡ Some end → end < closing
-nearest_closed tokens opening between closing end some partner later before kind at =
-    let c = closes_by tokens closing opening some partner in
-    let closes_is : closes_at tokens closing ≡ Some c.bracket = rw c.at c.closes_is in
-    let opens_is : opens_at tokens between ≡ Some c.bracket = kind ∙ closes_is in
-    let within : closing ≤ length tokens = omega (arith, slice_get_within tokens closing c.token c.at) in
-    ⊎_elim
-    (λ stays. let early = nearest_is_latest c.bracket tokens (around_before closing tokens) opening between closing (BeganBefore-around closing tokens) (Opened-around closing tokens) c.nearest_is stays opens_is in
-    absurd (omega (arith, early, later)))
-    (λ ended. let same : end ≡ ended.0 = same_Some end ended.0 (sym at ∙ ended.1) in omega (arith, same, ended.2))
-    (ended_or_open closing between tokens within before (rw opens_is refl))
 
 -- Groups lie one in another.
 

@@ -8,3 +8,4 @@ pub mod LawLemmas
 pub mod WordLemmas
 pub mod MarkLemmas
 pub mod FaultLaws
+pub mod NearestLaws

@@ -3,43 +3,22 @@ use Rattle.std.specs.Prelude.{ℕ, ◌+◌, ◌==◌, Bool, true, false, not, �
 use Rattle.std.specs.Option.{option_map_or}
 use Rattle.std.specs.List.{list_any}
 use Rattle.dart_tokens.specs.declared.token.Kind.{Kind}
-use Rattle.dart_tokens.specs.declared.token.Kind.TheVariants.{OpenParenthesis, CloseParenthesis, OpenBracket, QuestionBracket, CloseBracket, OpenBrace, CloseBrace, InterpolationOpening, InterpolationClosing}
 use Rattle.dart_tokens.specs.declared.token.Token.{Token}
+pub use Rattle.dart_tokens.specs.Kinds.{Bracket, Round, Square, Curly, Interpolation, opens, closes}
 use Rattle.dart_tokens.specs.declared.groups.GroupFault.{GroupFault}
 use Rattle.dart_tokens.specs.declared.groups.GroupFaultKind.{GroupFaultKind}
 use Rattle.dart_tokens.specs.declared.groups.GroupFaultKind.TheVariants.{UnclosedGroup, UnopenedGroup}
 
--- the kinds of groups
-pub data Bracket : Type 0 where
-  Round : Bracket
-  Square : Bracket
-  Curly : Bracket
-  Interpolation : Bracket
-
--- the group that a token opens; `?[` opens one as `[` does
-abbrev pub opens : Kind → Option Bracket
-opens OpenParenthesis = Some Round
-opens OpenBracket = Some Square
-opens QuestionBracket = Some Square
-opens OpenBrace = Some Curly
-opens InterpolationOpening = Some Interpolation
-opens _ = None
-
--- the group that a token closes
-abbrev pub closes : Kind → Option Bracket
-closes CloseParenthesis = Some Round
-closes CloseBracket = Some Square
-closes CloseBrace = Some Curly
-closes InterpolationClosing = Some Interpolation
-closes _ = None
-
 -- both are of one kind
 abbrev pub is_same : Bracket → Bracket → Bool
 is_same Round Round = true
+is_same Round _ = false
 is_same Square Square = true
+is_same Square _ = false
 is_same Curly Curly = true
+is_same Curly _ = false
 is_same Interpolation Interpolation = true
-is_same _ _ = false
+is_same Interpolation _ = false
 
 -- a group that is open: its kind, and the place of the token that opens it
 pub record Open : Type 0 where

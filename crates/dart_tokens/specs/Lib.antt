@@ -1,9 +1,9 @@
 pub mod Words
 pub mod Marks
+pub mod Kinds
 pub mod Groups
 pub mod Stack
 pub mod Pairing
 pub mod Faults
 pub mod Rows
-pub mod Reserved
 pub mod Pairs

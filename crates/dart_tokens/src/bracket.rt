@@ -1,7 +1,7 @@
 //! The kinds of groups, and the tokens that open and close them.
 
 ghost use Rattle.std.specs.Prelude.{◌≡◌, option_map};
-ghost use Rattle.dart_tokens.specs.Groups.{closes, opens};
+ghost use Rattle.dart_tokens.specs.Kinds.{closes, opens};
 ghost use Rattle.dart_tokens.specs.Stack.{bracket_of};
 
 use crate::token::Kind;

@@ -1,12 +1,13 @@
 //! Laws of groups, marks and words, over their definitions alone.
 
-ghost use Rattle.std.specs.Prelude.{◌≡◌, ◌≢◌, ◌↔◌, ◌<◌, ◌≤◌, ◌⊎◌, ℕ, All, Contains, IfSome, IsSome, IsSomeAnd, IsTrue, bytes_eq, length, nat_eq, take};
+ghost use Rattle.std.specs.Prelude.{◌≡◌, ◌≢◌, ◌↔◌, ◌<◌, ◌≤◌, ◌⊎◌, ℕ, All, Contains, IfSome, IsSome, IsSomeAnd, IsTrue, bytes_eq, length, nat_eq, not, take};
 ghost use Rattle.std.specs.List.{list_any, starts_with};
 ghost use Rattle.dart_tokens.specs.Groups.{Interpolation, fault_at, faults_of};
 ghost use Rattle.dart_tokens.specs.Marks.{first_mark, marks};
 ghost use Rattle.dart_tokens.specs.Rows.{named_words};
-ghost use Rattle.dart_tokens.specs.Words.{kind_of_word};
-ghost use Rattle.dart_tokens.specs.Pairs.{ArePaired, closes_at, opens_at, partner_at};
+ghost use Rattle.dart_tokens.specs.Words.{is_reserved, kind_of_word, names_of_no_type};
+ghost use Rattle.dart_tokens.specs.Kinds.{is_identifier, is_reserved_word, names_no_type};
+ghost use Rattle.dart_tokens.specs.Pairs.{ArePaired, CanClose, ClosesAround, EndsBehind, IsNearest, closes_at, opens_at, partner_at};
 
 use crate::groups::GroupFaultKind;
 use crate::token::{Kind, Token};
@@ -17,10 +18,24 @@ pub fn partners_are_mutual(_tokens: &[Token])
     ensures { (opening closing : ℕ) → IsSome (closes_at _tokens.now closing) → partner_at _tokens.now closing ≡ Some opening → ArePaired _tokens.now opening closing }
 {}
 
-/// A bracket closes the nearest open group of its kind: one that was opened in between has ended.
+/// A bracket closes the nearest group that it can close: of its kind, open there, and begun behind
+/// each interpolation that is open there, or with the last of them.
 pub fn the_nearest_group_is_closed(_tokens: &[Token])
-    ensures { (opening between closing end : ℕ) → IsSome (closes_at _tokens.now closing) → partner_at _tokens.now closing ≡ Some opening → opening < between → between < closing
-        → opens_at _tokens.now between ≡ closes_at _tokens.now closing → partner_at _tokens.now between ≡ Some end → end < closing }
+    ensures { (closing opening : ℕ) → IsSome (closes_at _tokens.now closing) → (partner_at _tokens.now closing ≡ Some opening ↔ IsNearest _tokens.now closing opening) }
+{}
+
+/// A bracket is unopened where there is no group that it can close.
+pub fn an_unopened_bracket_can_close_no_group(_tokens: &[Token])
+    ensures { (closing : ℕ) → Contains (faults_of _tokens.now) (fault_at closing GroupFaultKind.UnopenedGroup)
+        ↔ (IsSome (closes_at _tokens.now closing) × ((opening : ℕ) → CanClose _tokens.now closing opening → ⊥)) }
+{}
+
+/// A group ends behind the bracket that opens it: before the one that closes it, or a group around it,
+/// or at the end of all tokens. What is no bracket has no partner.
+pub fn a_group_ends_where_it_or_one_around_it_is_closed(_tokens: &[Token])
+    ensures ends { (opening : ℕ) → IsSome (opens_at _tokens.now opening) → IsSomeAnd (partner_at _tokens.now opening) (EndsBehind _tokens.now opening) }
+    ensures there { (opening end : ℕ) → IsSome (opens_at _tokens.now opening) → partner_at _tokens.now opening ≡ Some end → ClosesAround _tokens.now end opening ⊎ (end ≡ length _tokens.now) }
+    ensures others { (place : ℕ) → opens_at _tokens.now place ≡ None → closes_at _tokens.now place ≡ None → partner_at _tokens.now place ≡ None }
 {}
 
 /// Of two groups the later one lies in the earlier one, or begins behind its end.
@@ -55,4 +70,17 @@ pub fn the_mark_is_the_longest(_text: &[u8])
 pub fn words_have_their_kinds(_word: &[u8])
     ensures named { All (λ row. kind_of_word row.0 ≡ row.1) named_words }
     ensures others { IsTrue (list_any (λ row. bytes_eq _word.now row.0) named_words) ⊎ (kind_of_word _word.now ≡ Kind.Identifier) }
+{}
+
+/// A word that isn't reserved is an identifier, and no reserved one is. The identifiers that name no
+/// types are the built-in ones other than `dynamic` and `Function`, and the words of asynchronous code.
+pub fn words_are_identifiers_or_reserved(_word: &[u8])
+    ensures identifier { is_identifier (kind_of_word _word.now) ≡ not (is_reserved _word.now) }
+    ensures reserved { is_reserved_word (kind_of_word _word.now) ≡ is_reserved _word.now }
+    ensures types { names_no_type (kind_of_word _word.now) ≡ list_any (λ row. bytes_eq _word.now row.0) names_of_no_type }
+{}
+
+/// Words are distinct: each kind is that of one word, but for the one of all other identifiers.
+pub fn words_are_distinct(_word: &[u8], _other: &[u8])
+    ensures { kind_of_word _word.now ≡ kind_of_word _other.now → (_word.now ≡ _other.now) ⊎ (kind_of_word _word.now ≡ Kind.Identifier) }
 {}

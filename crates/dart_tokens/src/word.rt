@@ -2,7 +2,6 @@
 
 ghost use Rattle.std.specs.Prelude.{◌≡◌, map};
 ghost use Rattle.dart_tokens.specs.declared.token.Kind.TheVariants as kind;
-ghost use Rattle.dart_tokens.specs.Reserved.{is_kind_of_reserved};
 ghost use Rattle.dart_tokens.specs.Rows.{words_from};
 ghost use Rattle.dart_tokens.specs.Words.{is_reserved, kind_beside, kind_of_word};
 
@@ -175,47 +174,5 @@ fn kind_among(word: &[u8], rows: &[Row]) -> Kind
 pub fn is_reserved(word: &[u8]) -> bool
     ensures { result ≡ is_reserved word.now }
 {
-    is_kind_of_reserved(kind_of_word(word))
-}
-
-/// Whether a kind is that of a reserved word.
-fn is_kind_of_reserved(kind: Kind) -> bool
-    ensures { result ≡ is_kind_of_reserved kind }
-{
-    match kind {
-        Kind::Assert => true,
-        Kind::Break => true,
-        Kind::Case => true,
-        Kind::Catch => true,
-        Kind::Class => true,
-        Kind::Const => true,
-        Kind::Continue => true,
-        Kind::Default => true,
-        Kind::Do => true,
-        Kind::Else => true,
-        Kind::Enum => true,
-        Kind::Extends => true,
-        Kind::False => true,
-        Kind::Final => true,
-        Kind::Finally => true,
-        Kind::For => true,
-        Kind::If => true,
-        Kind::In => true,
-        Kind::Is => true,
-        Kind::New => true,
-        Kind::Null => true,
-        Kind::Rethrow => true,
-        Kind::Return => true,
-        Kind::Super => true,
-        Kind::Switch => true,
-        Kind::This => true,
-        Kind::Throw => true,
-        Kind::True => true,
-        Kind::Try => true,
-        Kind::Var => true,
-        Kind::Void => true,
-        Kind::While => true,
-        Kind::With => true,
-        _ => false,
-    }
+    kind_of_word(word).is_reserved_word()
 }
