@@ -1,18 +1,23 @@
 -- The table on a few small trees, computed.
-use Rattle.std.specs.Prelude.{◌≡◌, ℕ, ◌+◌, true, false, List, [], ◌∷◌, Some, None, refl, map}
-use Rattle.std.specs.FinMap.{gets}
+use Rattle.std.specs.Prelude.{◌≡◌, ℕ, ◌+◌, true, false, List, [], ◌∷◌, ◌++◌, Some, None, refl, map}
+use Rattle.std.specs.FinMap.{get, gets}
 use Rattle.dart_tree.specs.declared.places.Place.{Place}
 use Rattle.dart_tree.specs.declared.nodes.Name.{Name}
 use Rattle.dart_tree.specs.declared.nodes.Operator.{Operator}
 use Rattle.dart_tree.specs.declared.nodes.OperatorKind.{OperatorKind}
 use Rattle.dart_tree.specs.declared.nodes.OperatorKind.TheVariants.{Plus, Less, NotEqual}
 use Rattle.dart_tree.specs.declared.nodes.Radix.TheVariants.{Decimal, Hexadecimal}
-use Rattle.dart_tree.specs.Tree.{Tree, Trees, no_more, more, absent, present, name, integer, boolean, null_literal, binary, int_type, declare, assign, eval, if_statement, while_statement, block}
+use Rattle.dart_tree.specs.Tree.{Tree, Trees, no_more, more, absent, present, name, integer, boolean, null_literal, binary, int_type, bool_type, declare, assign, eval, if_statement, while_statement, block}
 use Rattle.flow_model.specs.Sub.{no_rows}
+use Rattle.flow_model.specs.Flow.{FlowModel, facts_of}
+use Rattle.flow_model.specs.declared.locals.Facts.{Facts}
+use Rattle.flow_model.specs.declared.locals.LocalId.{LocalId}
 use Rattle.judgement.specs.declared.Fault.{Fault}
 use Rattle.judgement.specs.declared.DiagnosticCode.{DiagnosticCode}
-use Rattle.judgement.specs.declared.DiagnosticCode.TheVariants.{ArgumentType, ConditionNotBool, IntegerLiteralOutOfRange, ReferencedBeforeDeclaration, UnassignedRead, UncheckedNullableUse, UndefinedOperator}
-use Rattle.judgement.specs.Judgement.{faults_of}
+use Rattle.judgement.specs.declared.DiagnosticCode.TheVariants.{ArgumentType, ConditionNotBool, DuplicateDefinition, IntegerLiteralOutOfRange, InvalidAssignment, ReferencedBeforeDeclaration, UnassignedRead, UncheckedNullableUse, UndefinedOperator}
+use Rattle.judgement.specs.Names.{Names}
+use Rattle.judgement.specs.Rows.{fault_at}
+use Rattle.judgement.specs.Judgement.{run, faults_of}
 
 -- a node with this number, at the range of one code unit with the same offset
 abbrev at : ℕ → Place
@@ -100,3 +105,9 @@ assigned_by_both :
     (block (at 31) (more (declare (at 32) (int_type (at 32) false) (variable 32) absent) (more (eval (at 33) (x 33)) no_more)))) no_more))))
     ≡ (UnassignedRead, 33) ∷ []
 assigned_by_both = simp gets refl
+
+-- `bool x = 1;` where the block has declared x before: the name is wrong, and so is the initializer that doesn't fit it; nothing comes into scope
+declared_again : (names : Names) (m : FlowModel) (var : LocalId) (local : Facts) → get names 0 ≡ Some var → facts_of m var ≡ Some local
+    → run no_rows names (declare (at 10) (bool_type (at 10)) (variable 11) (present (one 12))) m
+    ≡ record { after = m; faults = fault_at (at 12) InvalidAssignment ++ fault_at (at 11) DuplicateDefinition }
+declared_again names m var local means known = rw (means, known) refl

@@ -1,6 +1,6 @@
 -- The judgement of trees.
-use Rattle.std.specs.Prelude.{List, [], Option, None, if◌then◌else◌}
-use Rattle.std.specs.FinMap.{empty, get}
+use Rattle.std.specs.Prelude.{Bool, true, false, List, [], Option, None, if◌then◌else◌}
+use Rattle.std.specs.FinMap.{empty}
 use Rattle.dart_tree.specs.Tree.{Tree, Trees, Part, no_more, more, absent, present, name, integer, boolean, null_literal, binary, int_type, bool_type, declare, assign, eval, print, if_statement, while_statement, block, function, unit}
 use Rattle.dart_tree.specs.Places.{place_of}
 use Rattle.dart_tree.specs.declared.nodes.Name.{Name}
@@ -9,7 +9,7 @@ use Rattle.flow_model.specs.Flow.{FlowModel, start_of, end_of}
 use Rattle.flow_model.specs.declared.locals.LocalId.{LocalId}
 use Rattle.flow_model.specs.declared.subtyping.Rows.{Rows}
 use Rattle.judgement.specs.declared.Fault.{Fault}
-use Rattle.judgement.specs.Names.{Names, names_within, locals_of}
+use Rattle.judgement.specs.Names.{Names, named_by, names_within, locals_of}
 use Rattle.judgement.specs.Written.{written_in}
 use Rattle.judgement.specs.Rows.{Value, Outcome, of_type, just, value_then, and_then, integer_row, boolean_row, name_row, operator_row, assign_row, declare_row, initialize_row, if_row, while_row, loop_head}
 
@@ -17,13 +17,45 @@ use Rattle.judgement.specs.Rows.{Value, Outcome, of_type, just, value_then, and_
 abbrev pub type_of : Tree → Ty
 type_of (int_type at nullable) = if nullable then nullable_of int else int
 type_of (bool_type at) = bool
-type_of _ = invalid
+type_of (name at word) = invalid
+type_of (integer at literal) = invalid
+type_of (boolean at value) = invalid
+type_of (null_literal at) = invalid
+type_of (binary at operator left right) = invalid
+type_of (declare at declared variable initial) = invalid
+type_of (assign at target value) = invalid
+type_of (eval at value) = invalid
+type_of (print at value) = invalid
+type_of (if_statement at condition then_block else_block) = invalid
+type_of (while_statement at condition body) = invalid
+type_of (block at statements) = invalid
+type_of (function at body) = invalid
+type_of (unit at main) = invalid
+
+-- whether an expression is the literal `null`
+abbrev pub is_null_literal : Tree → Bool
+is_null_literal (null_literal at) = true
+is_null_literal (name at word) = false
+is_null_literal (integer at literal) = false
+is_null_literal (boolean at value) = false
+is_null_literal (binary at operator left right) = false
+is_null_literal (int_type at nullable) = false
+is_null_literal (bool_type at) = false
+is_null_literal (declare at declared variable initial) = false
+is_null_literal (assign at target value) = false
+is_null_literal (eval at value) = false
+is_null_literal (print at value) = false
+is_null_literal (if_statement at condition then_block else_block) = false
+is_null_literal (while_statement at condition body) = false
+is_null_literal (block at statements) = false
+is_null_literal (function at body) = false
+is_null_literal (unit at main) = false
 
 -- the local that a comparison of these two sides compares with the literal `null`
 abbrev pub compared_local : Names → Tree → Tree → Option LocalId
-compared_local names (name at word) (null_literal at_null) = get names word
-compared_local names (null_literal at_null) (name at word) = get names word
-compared_local names _ _ = None
+compared_local names left right =
+    if is_null_literal right then named_by names left
+    else (if is_null_literal left then named_by names right else None)
 
 -- what an expression gives: of an operator the left side is judged before the right; trees of other forms, which never stand there, have no type
 abbrev pub evaluate : Rows → Names → Tree → FlowModel → Value
@@ -34,7 +66,17 @@ evaluate rows names (null_literal at) m = of_type null m
 evaluate rows names (binary at operator left right) m =
     operator_row rows operator.kind operator.span (place_of right) (compared_local names left right) (evaluate rows names left m)
     (evaluate rows names right (evaluate rows names left m).after)
-evaluate rows names _ m = of_type invalid m
+evaluate rows names (int_type at nullable) m = of_type invalid m
+evaluate rows names (bool_type at) m = of_type invalid m
+evaluate rows names (declare at declared variable initial) m = of_type invalid m
+evaluate rows names (assign at target value) m = of_type invalid m
+evaluate rows names (eval at value) m = of_type invalid m
+evaluate rows names (print at value) m = of_type invalid m
+evaluate rows names (if_statement at condition then_block else_block) m = of_type invalid m
+evaluate rows names (while_statement at condition body) m = of_type invalid m
+evaluate rows names (block at statements) m = of_type invalid m
+evaluate rows names (function at body) m = of_type invalid m
+evaluate rows names (unit at main) m = of_type invalid m
 
 -- what a declaration gives: the initializer is judged before the local comes into scope
 abbrev pub declare_local : Rows → Names → Name → Ty → Part → FlowModel → Outcome
@@ -55,7 +97,15 @@ abbrev mutual
       while_row rows (place_of condition) (evaluate rows names condition (loop_head m (written_in names body))) (run rows names body)
   run rows names (block at statements) m =
       and_then (run_all rows (names_within names statements) statements m) (λ after. just (end_of after (locals_of statements)))
-  run rows names _ m = just m
+  run rows names (name at word) m = just m
+  run rows names (integer at literal) m = just m
+  run rows names (boolean at value) m = just m
+  run rows names (null_literal at) m = just m
+  run rows names (binary at operator left right) m = just m
+  run rows names (int_type at nullable) m = just m
+  run rows names (bool_type at) m = just m
+  run rows names (function at body) m = just m
+  run rows names (unit at main) m = just m
 
   -- statements, one after another
   pub run_all : Rows → Names → Trees → FlowModel → Outcome
@@ -72,4 +122,16 @@ abbrev pub faults_of : Rows → Tree → List Fault
 faults_of rows (unit at main) = faults_of rows main
 faults_of rows (function at body) = faults_of rows body
 faults_of rows (block at statements) = (run rows empty (block at statements) (start_of [])).faults
-faults_of rows _ = []
+faults_of rows (name at word) = []
+faults_of rows (integer at literal) = []
+faults_of rows (boolean at value) = []
+faults_of rows (null_literal at) = []
+faults_of rows (binary at operator left right) = []
+faults_of rows (int_type at nullable) = []
+faults_of rows (bool_type at) = []
+faults_of rows (declare at declared variable initial) = []
+faults_of rows (assign at target value) = []
+faults_of rows (eval at value) = []
+faults_of rows (print at value) = []
+faults_of rows (if_statement at condition then_block else_block) = []
+faults_of rows (while_statement at condition body) = []

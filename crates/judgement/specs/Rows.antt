@@ -136,11 +136,11 @@ declare_row names variable ty m =
     (λ var. if is_some (facts_of m var) then complains variable.at DuplicateDefinition m else just (declare_of m (declared_local ty var false)))
     (get names variable.word) (just m)
 
--- what follows the initializer, which has this type: the local comes into scope with its value, unless the block has declared its name before
+-- what follows the initializer, which has this type and must fit: the local comes into scope with its value, unless the block has declared its name before
 abbrev pub initialize_row : Rows → Names → Name → Ty → Place → Ty → FlowModel → Outcome
 initialize_row rows names variable ty at value m =
     option_map_or
-    (λ var. if is_some (facts_of m var) then complains variable.at DuplicateDefinition m
+    (λ var. if is_some (facts_of m var) then record { after = m; faults = fit_faults rows at value ty ++ fault_at variable.at DuplicateDefinition }
     else record { after = at_local (declare_of m (declared_local ty var true)) var (assign_facts rows value); faults = fit_faults rows at value ty })
     (get names variable.word) (just m)
 
