@@ -1,6 +1,6 @@
 -- What the code of the judge does with a row of the judgement.
 use Rattle.std.specs.Prelude.{◌≡◌, List, [], ◌++◌, Option, None}
-use Rattle.dart_tree.specs.Tree.{Tree, binary}
+use Rattle.dart_tree.specs.Tree.{Tree, name, integer, boolean, null_literal, binary, int_type, bool_type, declare, assign, eval, print, if_statement, while_statement, block, function, unit}
 use Rattle.dart_tree.specs.declared.places.Place.{Place}
 use Rattle.flow_model.specs.Flow.{FlowModel}
 use Rattle.flow_model.specs.declared.locals.LocalId.{LocalId}
@@ -62,7 +62,21 @@ as_condition rows at value = record value { faults = value.faults ++ condition_f
 abbrev pub typed_operands : Rows → Names → Tree → FlowModel → List NodeFacts
 typed_operands rows names (binary at operator left right) m =
     typed_expression rows names left m ++ typed_expression rows names right (evaluate rows names left m).after
-typed_operands rows names _ m = []
+typed_operands rows names (name at word) m = []
+typed_operands rows names (integer at literal) m = []
+typed_operands rows names (boolean at value) m = []
+typed_operands rows names (null_literal at) m = []
+typed_operands rows names (int_type at nullable) m = []
+typed_operands rows names (bool_type at) m = []
+typed_operands rows names (declare at declared variable initial) m = []
+typed_operands rows names (assign at target value) m = []
+typed_operands rows names (eval at value) m = []
+typed_operands rows names (print at value) m = []
+typed_operands rows names (if_statement at condition then_block else_block) m = []
+typed_operands rows names (while_statement at condition body) m = []
+typed_operands rows names (block at statements) m = []
+typed_operands rows names (function at body) m = []
+typed_operands rows names (unit at main) m = []
 
 -- what is said of a statement or a block that stands at the place, from the local that it changes and what is known before and after it
 abbrev pub said_at : Place → Option LocalId → (before after : FlowModel) → NodeFacts

@@ -1,3 +1,4 @@
 pub mod Declarations
 pub mod Judged
+pub mod Loops
 pub mod Shadows

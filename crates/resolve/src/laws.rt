@@ -1,20 +1,19 @@
 //! Laws of names and of loops, in the words of their definitions. Each is the contract of a function
 //! that does no work.
 
-ghost use Rattle.std.specs.Prelude.{◌≡◌, false, IsTrue, Some, None};
-ghost use Rattle.std.specs.Option.{option_map};
+ghost use Rattle.std.specs.Prelude.{◌≡◌, Some, None};
 ghost use Rattle.std.specs.FinMap.{get};
 ghost use Rattle.dart_tree.specs.Tree.{trees_of};
 ghost use Rattle.dart_tree.specs.declared.nodes.Name.{Name};
-ghost use Rattle.flow_model.specs.Flow.{current_of, facts_of, is_listed};
+ghost use Rattle.flow_model.specs.Flow.{FlowModel};
 ghost use Rattle.judgement.specs.Names.{local_of, names_within};
 ghost use Rattle.judgement.specs.Written.{written_in};
-ghost use Rattle.judgement.specs.Rows.{loop_head};
 ghost use Rattle.resolve.specs.Declarations.{first_declared};
+ghost use Rattle.resolve.specs.Loops.{Forgets, IsJudgedFrom};
 
 use crate::names::NamesInScope;
-use dart_tree::{Block, Stmt};
-use flow_model::{Flow, LocalId};
+use dart_tree::{Block, Expr, Place, Stmt};
+use flow_model::{Flow, Rows};
 
 /// A name that a block declares, wherever in the block, means in all of it the local of its first
 /// declaration there, whatever it means around the block. Any other name means what it means around
@@ -28,14 +27,16 @@ pub fn a_block_has_the_names_that_it_declares(
     ensures others { first_declared (trees_of _statements.now) _word ≡ None → get (names_within _around.now (trees_of _statements.now)) _word ≡ get _around.now _word }
 {}
 
-/// At the head of a loop a local that the body writes has its declared type. What is known of any
-/// other is what was known before the loop.
+/// A loop is judged from one model at its head, whichever model comes before it: its condition from
+/// there, and its body from where the condition is true. There a local that the body writes has its
+/// declared type, and of any other is known what was known before the loop.
 pub fn a_loop_head_forgets_what_its_body_writes(
-    _flow: &Flow,
+    _rows: &Rows,
     _names: &NamesInScope,
+    _at: Place,
+    _condition: &Expr,
     _body: &Block,
-    _var: LocalId,
+    _before: &Flow,
 )
-    ensures forgotten { IsTrue (is_listed (written_in _names.now _body.now) _var) → option_map current_of (facts_of (loop_head _flow.now (written_in _names.now _body.now)) _var) ≡ option_map (λ l. l.ty) (facts_of _flow.now _var) }
-    ensures kept { is_listed (written_in _names.now _body.now) _var ≡ false → facts_of (loop_head _flow.now (written_in _names.now _body.now)) _var ≡ facts_of _flow.now _var }
+    ensures { (head : FlowModel) × IsJudgedFrom _rows.now _names.now _at _condition.now _body.now _before.now head × Forgets (written_in _names.now _body.now) _before.now head }
 {}

@@ -5,7 +5,8 @@ ghost use Rattle.dart_tree.specs.Places.{place_of};
 ghost use Rattle.flow_model.specs.Flow.{facts_of};
 ghost use Rattle.judgement.specs.Rows as row;
 ghost use Rattle.judgement.specs.Judgement.{evaluate};
-ghost use Rattle.judgement.specs.Typed.{named_by, said_of_value, typed_expression};
+ghost use Rattle.judgement.specs.Names.{named_by};
+ghost use Rattle.judgement.specs.Typed.{said_of_value, typed_expression};
 ghost use Rattle.resolve.specs.Judged.{Evaluates, RowEvaluates, as_condition, reported, typed_operands};
 
 use super::operators::{compared_local, judge_operator};

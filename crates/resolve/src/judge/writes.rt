@@ -88,8 +88,8 @@ pub(super) fn declare(
     }
 }
 
-// A declaration with an initializer, once that is judged: the local comes into scope with its value,
-// unless it is there already.
+// A declaration with an initializer, once that is judged: it must have the declared type, and the
+// local comes into scope with its value, unless it is there already.
 pub(super) fn initialize(
     context: Context,
     names: &NamesInScope,
@@ -102,11 +102,11 @@ pub(super) fn initialize(
 {
     match names.meaning(name.word) {
         Some(var) => {
+            check_fit(context.rows, value, &ty, faults)?;
             if value.after.is_in_scope(var) {
                 report(name.at.span, DiagnosticCode::DuplicateDefinition, faults)?;
                 return value.after.clone();
             }
-            check_fit(context.rows, value, &ty, faults)?;
             let mut declared = value.after.copy(context.alloc)?;
             declare_with_value(context, &local(var, ty, true), &value.ty, &mut declared)?;
             Ok(Rc::new(context.alloc, declared)?)
