@@ -4,7 +4,7 @@ use Rattle.std.specs.Option.{ForSome}
 use Rattle.fault_io.specs.Bytes.{and_then}
 use Rattle.fault_io.specs.Stored.{Stored}
 use Rattle.serve_loop.specs.Served.{Served}
-use Rattle.proto_json.specs.Requests.{max_line}
+use Rattle.proto_json.specs.declared.request.TheConstants.{MAX_LINE}
 use Rattle.serve_loop.specs.declared.end.ServeEnd.{ServeEnd}
 use Rattle.serve_loop.specs.declared.end.ServeEnd.TheVariants as End
 use Rattle.protocol_rules.specs.Turns.{at_start, reply_to, state_after}
@@ -34,7 +34,7 @@ status_for End.SinkMemory = Memory
 pub record ServeOutput (told : Option Stored) (input : List ℕ) (old new left : Option (List ℕ)) (faults faults' : ℕ) (status : Status) : Type 0 where
   pub end : ServeEnd
   pub status_is : status ≡ status_for end
-  pub served : Served (λ _. false) (λ s. reply_to s told) (λ s. state_after s told) max_line input_limit at_start input old new left faults faults' end
+  pub served : Served (λ _. false) (λ s. reply_to s told) (λ s. state_after s told) MAX_LINE input_limit at_start input old new left faults faults' end
 
 -- a front of the usage line that isn't all of it
 abbrev pub PartOfUsage : Option (List ℕ) → Option (List ℕ) → Type 0

@@ -9,7 +9,8 @@ use Rattle.std.proofs.lemmas.List.Elements.{All-contains}
 use Rattle.json.specs.Print.{escape_byte, escape, quoted}
 use Rattle.serde_json.specs.Data.{Num, unsigned, negative, float, Data, null, boolean, number, string, array, object, Items, no_items, item, Members, no_members, member}
 use Rattle.serde_json.specs.Written.{number_text, comma_if, compact_text, items_text, members_text}
-use Rattle.proto_json.specs.Replies.{IsOneLine, line_feed}
+use Rattle.fault_io.specs.Lines.{line_feed}
+use Rattle.proto_json.specs.Replies.{IsOneLine}
 
 -- the byte is no control character
 abbrev is_shown : ℕ → Bool

@@ -8,7 +8,8 @@ use Rattle.serde_json.specs.Data.{Data, Members, no_members, member}
 use Rattle.serde_json.specs.Find.{get, as_object}
 use Rattle.serde_json.specs.Read.{read}
 use Rattle.proto_json.specs.Parameters.{overlay_of, files_of, update_of, set_roots_of, request_with, request_without, request_of, has_paths, text_at, texts_at}
-use Rattle.proto_json.specs.Requests.{Head, head_with, head_of, head_by, params_of, line_data, max_line, method_named, answer, answer_to, answer_to_method, answer_to_params}
+use Rattle.proto_json.specs.declared.request.TheConstants.{MAX_LINE}
+use Rattle.proto_json.specs.Requests.{Head, head_with, head_of, head_by, params_of, line_data, method_named, answer, answer_to, answer_to_method, answer_to_params}
 use Rattle.proto_json.specs.declared.request.Asked.{Asked}
 use Rattle.proto_json.specs.declared.request.Method.{Method}
 use Rattle.proto_json.specs.declared.request.Method.TheVariants as method
@@ -101,7 +102,7 @@ line_data-in_order line = when IsInOrder (is_utf8 line) (read line) (IsInOrder-r
 head_by-in_order : (line : List ℕ) → IfSome (head_by line) HasParamsInOrder
 unfolding head_by
 head_by-in_order line =
-    when HasParamsInOrder (nat_le (length line) max_line) (option_and_then head_of (line_data line))
+    when HasParamsInOrder (nat_le (length line) MAX_LINE) (option_and_then head_of (line_data line))
     (IfSome-and_then IsInOrder HasParamsInOrder head_of head_of-in_order (line_data line) (line_data-in_order line))
 
 -- a request whose paths are normalized keeps what holds of it

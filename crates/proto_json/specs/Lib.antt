@@ -3,3 +3,4 @@ pub mod Parameters
 pub mod Requests
 pub mod Heads
 pub mod Replies
+pub mod RowTexts

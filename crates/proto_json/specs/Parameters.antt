@@ -1,6 +1,9 @@
 -- Which requests parameters give.
 use Rattle.std.specs.Prelude.{ℕ, Bool, List, [], ◌∷◌, ◌++◌, map, if◌then◌else◌, codes, bytes_eq, Option, Some, None, option_map, option_and_then}
-use Rattle.std.specs.List.{list_all}
+use Rattle.std.specs.Cmp.Lexicographic.{slice_cmp}
+use Rattle.std.specs.List.{list_all, AllPass}
+use Rattle.std.specs.List.Sorted.{IsStrictlySortedBy}
+use Rattle.std.specs.Ordering.{nat_cmp}
 use Rattle.serde_json.specs.Data.{Data, Items, no_items, item, Members, no_members, member}
 use Rattle.serde_json.specs.Find.{get, as_str, as_number, as_u64, as_array, as_object}
 use Rattle.fault_io.specs.Paths.{is_path}
@@ -107,3 +110,11 @@ paths_of GetWork = []
 -- each path of a request is absolute and normalized
 abbrev pub has_paths : Request → Bool
 has_paths request = list_all is_path (paths_of request)
+
+-- paths, each of which is absolute and normalized
+abbrev pub ArePaths : List (List ℕ) → Type 0
+ArePaths = AllPass is_path
+
+-- the paths of files rise, compared byte by byte: none comes twice
+abbrev pub RiseByPath : List FileOverlay → Type 0
+RiseByPath files = IsStrictlySortedBy (slice_cmp nat_cmp) (map (λ file. file.path) files)

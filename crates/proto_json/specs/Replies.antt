@@ -1,5 +1,6 @@
 -- Which bytes a reply is.
 use Rattle.std.specs.Prelude.{◌≡◌, ℕ, List, [], ◌∷◌, ◌++◌, codes, map, Contains}
+use Rattle.fault_io.specs.Lines.{line_feed}
 use Rattle.serde_json.specs.Data.{Data, Items, number, unsigned, string, array, object, no_members, member}
 use Rattle.serde_json.specs.View.{items_of}
 use Rattle.serde_json.specs.Written.{compact_text}
@@ -63,10 +64,6 @@ reply_data id (Work parses links checks) =
 reply_data id (Error code) =
     object (member (codes "error") (object (member (codes "code") (string (name_of code)) (member (codes "message") (string (message_of code)) no_members)))
     (member (codes "id") (string id) no_members))
-
--- the byte that ends a line
-abbrev pub line_feed : ℕ
-line_feed = 10
 
 -- the text of the object with no space, and a line feed
 abbrev pub reply_line : List ℕ → ReplyBody → List ℕ

@@ -10,12 +10,9 @@ use Rattle.proto_json.specs.declared.request.Asked.{Asked}
 use Rattle.proto_json.specs.declared.request.Method.{Method}
 use Rattle.proto_json.specs.declared.request.Method.TheVariants as method
 use Rattle.proto_json.specs.declared.request.Request.{Request}
+use Rattle.proto_json.specs.declared.request.TheConstants.{MAX_LINE}
 use Rattle.proto_json.specs.declared.request.RequestRefusal.{RequestRefusal}
 use Rattle.proto_json.specs.declared.request.RequestRefusal.TheVariants.{Refused, Memory}
-
--- the most bytes of a line that is a request
-abbrev pub max_line : ℕ
-max_line = 16777216
 
 -- the JSON value that a line is, if it is UTF-8 and `serde_json` reads it
 unfoldable pub line_data : List ℕ → Option Data
@@ -77,7 +74,7 @@ answer_to_head h = answer_to_method h.id (method_named h.method) h.params
 
 -- the request object of a line that is not too long
 unfoldable pub head_by : List ℕ → Option Head
-head_by line = if nat_le (length line) max_line then option_and_then head_of (line_data line) else None
+head_by line = if nat_le (length line) MAX_LINE then option_and_then head_of (line_data line) else None
 
 -- the line is a request object, or it is refused before its method is looked at
 abbrev pub answer_to : Option Head → Result Asked RequestRefusal
@@ -91,3 +88,7 @@ answer line = answer_to (head_by line)
 -- the result is the answer, unless memory was wanting
 abbrev pub IsUnlessMemory : {T : Type 0} → Result T RequestRefusal → Result T RequestRefusal → Type 0
 IsUnlessMemory result answer = (result ≡ Err Memory) ⊎ (result ≡ answer)
+
+-- the line is this request, and its reply repeats this id
+abbrev pub IsAsked : (line id : List ℕ) → Request → Type 0
+IsAsked line id request = answer line ≡ Ok record { id = id; request = request }

@@ -14,13 +14,17 @@ mod parameters;
 mod paths;
 mod reply;
 mod request;
+mod text;
+mod write;
 
 pub use code::Code;
 pub use laws::{files_of_an_update_rise_by_path, paths_of_a_request_are_normalized};
 pub use overlay::{FileOverlay, FileOverlays, Overlay, OverlayEdit, OverlayEdits};
 pub use paths::Paths;
-pub use reply::{ErrorKind, ErrorRow, ErrorRows, Location, ReplyBody, Severity, write_reply};
+pub use reply::{ErrorKind, ErrorRow, ErrorRows, Location, ReplyBody, Severity};
 pub use request::{Asked, MAX_LINE, Request, RequestRefusal, read_request};
+pub use text::{FixedText, SharedText};
+pub use write::write_reply;
 
 #[cfg(test)]
 mod tests;

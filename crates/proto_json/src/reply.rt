@@ -1,14 +1,10 @@
-//! Replies, written as a line.
+//! What a reply says.
 
-ghost use Rattle.std.specs.Prelude.{◌≡◌, IfOk};
-ghost use Rattle.serde_json.specs.View.{view, items_view};
-ghost use Rattle.proto_json.specs.declared.reply.ReplyBody.TheVariants.{Error};
-ghost use Rattle.proto_json.specs.Replies.{severity_name, kind_name, location_data, row_data, rows_data, reply_data, reply_line, IsOneLine};
+ghost use Rattle.std.specs.Prelude.{◌≡◌};
+ghost use Rattle.proto_json.specs.Replies.{severity_name, kind_name};
 
 use crate::code::Code;
-use plain_text::PlainText;
-use serde_json::{Value, json};
-use std::alloc::{AllocError, Global};
+use crate::text::{FixedText, SharedText};
 use std::marker::Model;
 
 /// How grave an error is: the protocol's AnalysisErrorSeverity.
@@ -50,8 +46,8 @@ impl ErrorKind {
 /// The place of an error: the protocol's Location, without its optional members.
 #[derive(Debug, Drop)]
 pub struct Location {
-    /// The path of the file.
-    pub file: PlainText,
+    /// The path of the file, which the errors of a file share.
+    pub file: SharedText,
     /// Where the place starts, in UTF-16 units from the start of the file, from 0.
     pub offset: u32,
     /// How long it is, in UTF-16 units.
@@ -66,10 +62,10 @@ pub struct Location {
 #[derive(Debug, Drop)]
 pub struct ErrorRow {
     /// The name of the broken rule, such as `unassigned_read`.
-    pub code: PlainText,
+    pub code: FixedText,
     pub location: Location,
     /// The sentence that a person reads.
-    pub message: PlainText,
+    pub message: FixedText,
     pub severity: Severity,
     /// The member `type`.
     pub kind: ErrorKind,
@@ -121,82 +117,4 @@ pub enum ReplyBody {
     },
     /// The request is refused.
     Error(Code),
-}
-
-fn location_value(alloc: Global, location: &Location) -> Result<Value, AllocError>
-    ensures { IfOk result (λ value. view value ≡ location_data location.now) }
-{
-    json!(in alloc; {
-        "file": location.file.as_str(),
-        "length": location.length,
-        "offset": location.offset,
-        "startColumn": location.start_column,
-        "startLine": location.start_line
-    })
-}
-
-fn row_value(alloc: Global, row: &ErrorRow) -> Result<Value, AllocError>
-    ensures { IfOk result (λ value. view value ≡ row_data row.now) }
-{
-    let location = location_value(alloc, &row.location)?;
-    json!(in alloc; {
-        "code": row.code.as_str(),
-        "location": location,
-        "message": row.message.as_str(),
-        "severity": row.severity.name(),
-        "type": row.kind.name()
-    })
-}
-
-fn row_values(alloc: Global, rows: &[ErrorRow]) -> Result<Vec<Value>, AllocError>
-    ensures { IfOk result (λ values. items_view values.items ≡ rows_data rows.now) }
-{
-    let mut values = Vec::new(alloc);
-    for row in rows {
-        let value = row_value(alloc, row)?;
-        values.push(value)?;
-    }
-    Ok(values)
-}
-
-fn refusal_value(alloc: Global, id: &str, code: Code) -> Result<Value, AllocError>
-    ensures { IfOk result (λ value. view value ≡ reply_data id.now (Error code)) }
-{
-    let error = json!(in alloc; {"code": code.name(), "message": code.message()})?;
-    json!(in alloc; {"error": error, "id": id})
-}
-
-fn reply_value(alloc: Global, id: &str, body: &ReplyBody) -> Result<Value, AllocError>
-    ensures { IfOk result (λ value. view value ≡ reply_data id.now body.now) }
-{
-    match body {
-        ReplyBody::Plain => json!(in alloc; {"id": id}),
-        ReplyBody::Errors(rows) => {
-            let errors = Value::Array(row_values(alloc, rows.as_slice())?);
-            let outcome = json!(in alloc; {"errors": errors})?;
-            json!(in alloc; {"id": id, "result": outcome})
-        }
-        ReplyBody::Work {
-            parses,
-            links,
-            checks,
-        } => {
-            let work = json!(in alloc; {"checks": *checks, "links": *links, "parses": *parses})?;
-            json!(in alloc; {"id": id, "result": work})
-        }
-        ReplyBody::Error(code) => refusal_value(alloc, id, *code),
-    }
-}
-
-/// The line of a reply, in compact JSON with sorted keys, its line feed included.
-pub fn write_reply(alloc: Global, id: &str, body: &ReplyBody) -> Result<Vec<u8>, AllocError>
-    ensures exact { IfOk result (λ bytes. bytes.items ≡ reply_line id.now body.now) }
-
-    // Whatever texts the reply holds, they don't break its line.
-    ensures one_line { IfOk result (λ bytes. IsOneLine bytes.items) }
-{
-    let value = reply_value(alloc, id, body)?;
-    let mut line = value.to_vec(alloc)?;
-    line.push(b'\n')?;
-    Ok(line)
 }
