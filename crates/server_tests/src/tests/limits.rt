@@ -1,4 +1,4 @@
-//! Lines and texts as long as the limits allow, and longer.
+//! Lines and texts as long as the limits allow, and longer; edits of long texts.
 
 use super::{Fails, Part, bytes_of, ran, store};
 use dart_server::Status;
@@ -6,6 +6,13 @@ use std::test::Fail;
 
 /// 64 letters.
 const LETTERS: &str = "xxxxxxxxxxxxxxxxxxxxxxxxxxxxxxxxxxxxxxxxxxxxxxxxxxxxxxxxxxxxxxxx";
+
+/// 64 blanks.
+const BLANKS: &str = "                                                                ";
+
+/// The request for the errors of `/a.dart`, of 68 bytes.
+const GET: &str =
+    "{\"id\":\"1\",\"method\":\"analysis.getErrors\",\"params\":{\"file\":\"/a.dart\"}}";
 
 const DONE: &str = "{\"id\":\"1\"}\n";
 
@@ -28,22 +35,22 @@ const LONG_LINES: &[Part] = &[
     Part::Is(
         "{\"id\":\"1\",\"method\":\"analysis.updateContent\",\"params\":{\"files\":{\"/a.dart\":{\"type\":\"add\",\"content\":\"void main() {}\"}}}}\n",
     ),
-    Part::Is("{\"id\":\"1\",\"method\":\"analysis.getErrors\",\"params\":{\"file\":\"/a.dart\"}}"),
-    Part::Times(" ", 16_777_148),
+    Part::Is(GET),
+    Part::Times(" ", 60),
+    Part::Times(BLANKS, 262_142),
     Part::Is("\n"),
-    Part::Is("{\"id\":\"1\",\"method\":\"analysis.getErrors\",\"params\":{\"file\":\"/a.dart\"}}"),
-    Part::Times(" ", 16_777_149),
+    Part::Is(GET),
+    Part::Times(" ", 61),
+    Part::Times(BLANKS, 262_142),
     Part::Is("\n"),
-    Part::Is(
-        "{\"id\":\"1\",\"method\":\"analysis.getErrors\",\"params\":{\"file\":\"/a.dart\"}}\n",
-    ),
-    Part::Times(" ", 16_777_216),
+    Part::Is(GET),
     Part::Is("\n"),
-    Part::Times(" ", 16_777_217),
+    Part::Times(BLANKS, 262_144),
     Part::Is("\n"),
-    Part::Is(
-        "{\"id\":\"1\",\"method\":\"analysis.getErrors\",\"params\":{\"file\":\"/a.dart\"}}\n",
-    ),
+    Part::Times(BLANKS, 262_144),
+    Part::Is(" \n"),
+    Part::Is(GET),
+    Part::Is("\n"),
 ];
 
 /// Texts of 4,194,304 bytes and of one more, by `add` and by `change`; of two faults in one update the
@@ -58,9 +65,8 @@ const LONG_TEXTS: &[Part] = &[
     Part::Times(LETTERS, 65_536),
     Part::Is("y"),
     Part::Is("\"}}}}\n"),
-    Part::Is(
-        "{\"id\":\"1\",\"method\":\"analysis.getErrors\",\"params\":{\"file\":\"/a.dart\"}}\n",
-    ),
+    Part::Is(GET),
+    Part::Is("\n"),
     Part::Is(
         "{\"id\":\"1\",\"method\":\"analysis.updateContent\",\"params\":{\"files\":{\"/b.dart\":{\"type\":\"add\",\"content\":\"",
     ),
@@ -168,15 +174,13 @@ const ALL_TEXTS: &[Part] = &[
     Part::Is(
         "{\"id\":\"1\",\"method\":\"analysis.updateContent\",\"params\":{\"files\":{\"/a.dart\":{\"type\":\"add\",\"content\":\"y\"}}}}\n",
     ),
-    Part::Is(
-        "{\"id\":\"1\",\"method\":\"analysis.getErrors\",\"params\":{\"file\":\"/a.dart\"}}\n",
-    ),
+    Part::Is(GET),
+    Part::Is("\n"),
     Part::Is(
         "{\"id\":\"1\",\"method\":\"analysis.updateContent\",\"params\":{\"files\":{\"/a.dart\":{\"type\":\"add\",\"content\":\"void main(){}\"},\"/f\":{\"type\":\"change\",\"edits\":[{\"offset\":0,\"length\":13,\"replacement\":\"\"}]}}}}\n",
     ),
-    Part::Is(
-        "{\"id\":\"1\",\"method\":\"analysis.getErrors\",\"params\":{\"file\":\"/a.dart\"}}\n",
-    ),
+    Part::Is(GET),
+    Part::Is("\n"),
     Part::Is(
         "{\"id\":\"1\",\"method\":\"analysis.updateContent\",\"params\":{\"files\":{\"/b.dart\":{\"type\":\"add\",\"content\":\"\"}}}}\n",
     ),
@@ -212,9 +216,8 @@ const MANY_FILES: &[Part] = &[
     Part::Is(
         "{\"id\":\"1\",\"method\":\"analysis.updateContent\",\"params\":{\"files\":{\"/a.dart\":{\"type\":\"add\",\"content\":\"void main(){}\"}}}}\n",
     ),
-    Part::Is(
-        "{\"id\":\"1\",\"method\":\"analysis.getErrors\",\"params\":{\"file\":\"/a.dart\"}}\n",
-    ),
+    Part::Is(GET),
+    Part::Is("\n"),
     Part::Is(
         "{\"id\":\"1\",\"method\":\"analysis.updateContent\",\"params\":{\"files\":{\"/0.dart\":{\"type\":\"add\",\"content\":\"void main(){}\"}}}}\n",
     ),
@@ -235,6 +238,51 @@ const MANY_FILES: &[Part] = &[
     Part::Is("}}}\n"),
 ];
 
+/// Edits of a text of 40,026 bytes and 20,026 units, in which 10,000 characters of two units stand
+/// before the one error: edits that split a character, 1,000 in one request, which put as many
+/// blanks before the error and take them out again, and one of all of the characters but one.
+const LONG_EDITS: &[Part] = &[
+    Part::Is(
+        "{\"id\":\"1\",\"method\":\"analysis.updateContent\",\"params\":{\"files\":{\"/a.dart\":{\"type\":\"add\",\"content\":\"/*",
+    ),
+    Part::Times("😀", 10_000),
+    Part::Is("*/void main(){bool b=1;}\"}}}}\n"),
+    Part::Is(GET),
+    Part::Is("\n"),
+    Part::Is(
+        "{\"id\":\"1\",\"method\":\"analysis.updateContent\",\"params\":{\"files\":{\"/a.dart\":{\"type\":\"change\",\"edits\":[{\"offset\":10003,\"length\":0,\"replacement\":\"x\"}]}}}}\n",
+    ),
+    Part::Is(
+        "{\"id\":\"1\",\"method\":\"analysis.updateContent\",\"params\":{\"files\":{\"/a.dart\":{\"type\":\"change\",\"edits\":[{\"offset\":10002,\"length\":3,\"replacement\":\"\"}]}}}}\n",
+    ),
+    Part::Is(
+        "{\"id\":\"1\",\"method\":\"analysis.updateContent\",\"params\":{\"files\":{\"/a.dart\":{\"type\":\"change\",\"edits\":[",
+    ),
+    Part::Times(
+        "{\"offset\":20016,\"length\":0,\"replacement\":\" \"},",
+        2_000,
+    ),
+    Part::Times(
+        "{\"offset\":20016,\"length\":1,\"replacement\":\"\"},",
+        2_000,
+    ),
+    Part::Is("{\"offset\":20023,\"length\":1,\"replacement\":\"2\"}]}}}}\n"),
+    Part::Is(GET),
+    Part::Is("\n"),
+    Part::Is(
+        "{\"id\":\"1\",\"method\":\"analysis.updateContent\",\"params\":{\"files\":{\"/a.dart\":{\"type\":\"change\",\"edits\":[{\"offset\":4,\"length\":19998,\"replacement\":\"\"}]}}}}\n",
+    ),
+    Part::Is(GET),
+    Part::Is("\n"),
+];
+
+/// The replies while 10,000 characters stand before the error, and when one does.
+const FAR: &str =
+    "{\"id\":\"1\",\"result\":{\"errors\":[{\"code\":\"invalid_assignment\",\"location\":{\"file\":\"/a.dart\",\"length\":1,\"offset\":20023,\"startColumn\":20024,\"startLine\":1},\"message\":\"Invalid assignment.\",\"severity\":\"ERROR\",\"type\":\"COMPILE_TIME_ERROR\"}]}}\n";
+
+const NEAR: &str =
+    "{\"id\":\"1\",\"result\":{\"errors\":[{\"code\":\"invalid_assignment\",\"location\":{\"file\":\"/a.dart\",\"length\":1,\"offset\":25,\"startColumn\":26,\"startLine\":1},\"message\":\"Invalid assignment.\",\"severity\":\"ERROR\",\"type\":\"COMPILE_TIME_ERROR\"}]}}\n";
+
 /// Texts so deep that no call may be nested like them.
 const DEEP_TEXTS: &[Part] = &[
     Part::Is(
@@ -245,9 +293,8 @@ const DEEP_TEXTS: &[Part] = &[
     Part::Times("}", 10_000),
     Part::Is("}"),
     Part::Is("\"}}}}\n"),
-    Part::Is(
-        "{\"id\":\"1\",\"method\":\"analysis.getErrors\",\"params\":{\"file\":\"/a.dart\"}}\n",
-    ),
+    Part::Is(GET),
+    Part::Is("\n"),
     Part::Is(
         "{\"id\":\"1\",\"method\":\"analysis.updateContent\",\"params\":{\"files\":{\"/a.dart\":{\"type\":\"add\",\"content\":\"",
     ),
@@ -256,9 +303,8 @@ const DEEP_TEXTS: &[Part] = &[
     Part::Times("}", 10_000),
     Part::Is("}"),
     Part::Is("\"}}}}\n"),
-    Part::Is(
-        "{\"id\":\"1\",\"method\":\"analysis.getErrors\",\"params\":{\"file\":\"/a.dart\"}}\n",
-    ),
+    Part::Is(GET),
+    Part::Is("\n"),
     Part::Is(
         "{\"id\":\"1\",\"method\":\"analysis.updateContent\",\"params\":{\"files\":{\"/a.dart\":{\"type\":\"add\",\"content\":\"",
     ),
@@ -267,9 +313,8 @@ const DEEP_TEXTS: &[Part] = &[
     Part::Times("}", 10_000),
     Part::Is("}"),
     Part::Is("\"}}}}\n"),
-    Part::Is(
-        "{\"id\":\"1\",\"method\":\"analysis.getErrors\",\"params\":{\"file\":\"/a.dart\"}}\n",
-    ),
+    Part::Is(GET),
+    Part::Is("\n"),
 ];
 
 /// The reply where blocks stand 10,000 deep in one another.
@@ -285,7 +330,7 @@ const DEEP_LOOPS: &str =
     "{\"id\":\"1\",\"result\":{\"errors\":[{\"code\":\"syntax_error\",\"location\":{\"file\":\"/a.dart\",\"length\":130013,\"offset\":0,\"startColumn\":1,\"startLine\":1},\"message\":\"Syntax error.\",\"severity\":\"ERROR\",\"type\":\"SYNTACTIC_ERROR\"}]}}\n";
 
 /// Sessions and their replies.
-const TABLE: [(&[Part], &[&str]); 5] = [
+const TABLE: [(&[Part], &[&str]); 6] = [
     (
         LONG_LINES,
         &[DONE, CLEAN, NO_REQUEST, CLEAN, NO_REQUEST, CLEAN],
@@ -336,6 +381,10 @@ const TABLE: [(&[Part], &[&str]); 5] = [
             DONE,
             LIMIT,
         ],
+    ),
+    (
+        LONG_EDITS,
+        &[DONE, FAR, BAD_CHANGE, BAD_CHANGE, DONE, FAR, DONE, NEAR],
     ),
     (
         DEEP_TEXTS,
