@@ -22,7 +22,7 @@ use Rattle.flow_model.proofs.Scopes.{facts_of-at_local_same, facts_of-at_local_o
 use Rattle.judgement.specs.declared.DiagnosticCode.TheVariants.{ConditionNotBool, IntegerLiteralOutOfRange, UnassignedRead, UndefinedName}
 use Rattle.judgement.specs.Names.{Names}
 use Rattle.judgement.specs.Rows.{Value, of_type, faulty, fault_at, is_in_range, read_row, fits, where_not_null, operator_row, condition_faults}
-use Rattle.judgement.specs.Judgement.{compared_local, evaluate}
+use Rattle.judgement.specs.Judgement.{is_null_literal, compared_local, evaluate}
 use Rattle.core_ir.specs.PointFacts.{PointFacts}
 use Rattle.core_ir.specs.Program.{Program}
 use Rattle.core_ir.specs.declared.facts.Held.TheVariants.{Own}
@@ -69,6 +69,16 @@ tests_read names m after word ty reads is = record {
   is_false = is;
 }
 
+-- of two sides that have no word, none is found
+some_word : (b : Bool) (word : ℕ) → (let nothing : Option ℕ = None in if b then nothing else nothing) ≡ Some word → ⊥
+some_word true word is = cc
+some_word false word is = cc
+
+-- nor a local
+no_local : (b : Bool) → (let nothing : Option LocalId = None in if b then nothing else nothing) ≡ None
+no_local true = refl
+no_local false = refl
+
 -- a comparison of a local with null, on either side
 tests_compared : (names : Names) (left right : Tree) (m : FlowModel) (word : ℕ) → compared_word left right ≡ Some word → (evaluate no_rows names left m).faults ≡ [] → (evaluate no_rows names right m).faults ≡ []
     → Tests names m word (where_not_null (compared_local names left right) (evaluate no_rows names right m).after) (evaluate no_rows names right m).after
@@ -79,7 +89,7 @@ tests_compared names (null_literal at_null) (name at w) m word is left_clean rig
     let same : w ≡ word = cc in
     let after = (evaluate no_rows names (name at w) m).after in
     subst (λ (x : ℕ). Tests names m x (where_not_null (get names w) after) after) same (tests_read names m after w _ (name_reads names at w m right_clean) (after_same no_rows names (name at w) m))
-tests_compared names _ _ m word is left_clean right_clean = absurd cc
+tests_compared names left right m word is left_clean right_clean = absurd (some_word (is_null_literal right) word is)
 
 -- an operator that tests a word
 tests_operator : (names : Names) (operator : OperatorKind) (span : Span) (at : Place) (left right : Tree) (m : FlowModel) (word : ℕ) → tested_by operator left right ≡ Some word
@@ -126,7 +136,7 @@ even_integer at m false = (refl, refl)
 compared_none : (names : Names) (left right : Tree) → compared_word left right ≡ None → compared_local names left right ≡ None
 compared_none names (name at word) (null_literal at_null) none = absurd cc
 compared_none names (null_literal at_null) (name at word) none = absurd cc
-compared_none names _ _ none = refl
+compared_none names left right none = no_local (is_null_literal right)
 
 -- an operator that tests no word
 even_operator : (names : Names) (operator : OperatorKind) (span : Span) (at : Place) (left right : Tree) (m : FlowModel) (l r : Value) → tested_by operator left right ≡ None → r.after ≡ m → IsEven m (operator_row no_rows operator span at (compared_local names left right) l r)

@@ -18,10 +18,11 @@ use Rattle.flow_model.specs.declared.locals.LocalId.{LocalId}
 use Rattle.flow_model.specs.declared.locals.Facts.{Facts}
 use Rattle.flow_model.proofs.Scopes.{end_of-none, end_of-cons, end_of-declare_of}
 use Rattle.flow_model.proofs.SameScope.{same-end}
+use Rattle.judgement.specs.declared.Fault.{Fault}
 use Rattle.judgement.specs.declared.DiagnosticCode.TheVariants.{DuplicateDefinition, UndefinedName}
 use Rattle.judgement.specs.Names.{Names, names_within, local_of, declared_by, locals_of}
 use Rattle.judgement.specs.Written.{written_in, written_in_all, written_in_part}
-use Rattle.judgement.specs.Rows.{Outcome, just, complains, condition_faults, fit_faults, write_row, assign_row, declared_local, initialize_row, loop_head}
+use Rattle.judgement.specs.Rows.{Outcome, just, fault_at, complains, condition_faults, fit_faults, write_row, assign_row, declared_local, initialize_row, loop_head}
 use Rattle.judgement.specs.Judgement.{type_of, evaluate, run, run_all, run_part}
 use Rattle.elaborate.specs.Frame.{Local, Frame, frame_of, is_local, locals_in, locals_in_all, locals_in_part}
 use Rattle.elaborate.specs.Forms.{is_expression, is_expression_part, is_written_type, is_block, is_statement, are_statements, is_block_part}
@@ -238,17 +239,21 @@ written_type_shape (int_type at false) form = refl
 written_type_shape (bool_type at) form = refl
 written_type_shape _ form = cc
 
-module _ (names : Names) (variable : Name) (m : FlowModel) (answer : LocalId → Outcome) where
+-- what a second declaration of a name gives, whose initializer has these diagnostics
+abbrev declared_again : Name → List Fault → FlowModel → Outcome
+declared_again variable misfits m = record { after = m; faults = misfits ++ fault_at variable.at DuplicateDefinition }
+
+module _ (names : Names) (variable : Name) (m : FlowModel) (misfits : List Fault) (answer : LocalId → Outcome) where
   -- the rows of declarations: this answer for the local that the name means, unless that is in scope
   abbrev declaring : Outcome
-  declaring =
-      option_map_or (λ var. if is_some (facts_of m var) then complains variable.at DuplicateDefinition m else answer var) (get names variable.word) (just m)
+  declaring = option_map_or (λ var. if is_some (facts_of m var) then declared_again variable misfits m else answer var) (get names variable.word) (just m)
 
   -- where nothing is wrong, the name means its own local
   means_own : IsMeant names m variable.word (local_of variable) → declaring.faults ≡ [] → get names variable.word ≡ Some (local_of variable)
   means_own (inl means) clean = means
   means_own (inr taken) clean =
-      let wrong = rw (taken.means, taken.in_scope) at clean in
+      let wrong : misfits ++ fault_at variable.at DuplicateDefinition ≡ [] = rw (taken.means, taken.in_scope) at clean in
+      let again = (both_empty misfits (fault_at variable.at DuplicateDefinition) wrong).1 in
       cc
 
   -- and then this is the answer
@@ -258,13 +263,13 @@ module _ (names : Names) (variable : Name) (m : FlowModel) (answer : LocalId →
 -- what a declaration in which nothing is wrong declares
 declared_meaning : (frame : Frame) (names : Names) (at : Place) (declared : Tree) (variable : Name) (initial : Part) (m : FlowModel) → Context frame names (declare at declared variable initial) m → (run no_rows names (declare at declared variable initial) m).faults ≡ [] → get names variable.word ≡ Some (local_of variable)
 declared_meaning frame names at declared variable absent m context clean =
-    means_own names variable m (λ var. just (declare_of m (declared_local (type_of declared) var false))) context.ready clean
+    means_own names variable m [] (λ var. just (declare_of m (declared_local (type_of declared) var false))) context.ready clean
 declared_meaning frame names at declared variable (present value) m context clean =
     let given = evaluate no_rows names value m in
     let row = λ (n : FlowModel). initialize_row no_rows names variable (type_of declared) (place_of value) given.ty n in
     let later : (row given.after).faults ≡ [] = (both_empty given.faults (row given.after).faults clean).1 in
     let here : (row m).faults ≡ [] = subst (λ (n : FlowModel). (row n).faults ≡ []) (value_leaves names value m).after later in
-    means_own names variable m
+    means_own names variable m (fit_faults no_rows (place_of value) given.ty (type_of declared))
     (λ var. record {
       after = at_local (declare_of m (declared_local (type_of declared) var true)) var (assign_facts no_rows given.ty);
       faults = fit_faults no_rows (place_of value) given.ty (type_of declared);
@@ -289,7 +294,7 @@ declare_runs frame names at declared variable absent m context clean =
     let local = declared_local (type_of declared) (local_of variable) false in
     let answer = λ (var : LocalId). just (declare_of m (declared_local (type_of declared) var false)) in
     let shape = written_type_shape declared (and_parts (is_written_type declared) (is_expression_part absent) context.form).0 in
-    subst (λ (outcome : Outcome). Runs frame names (declare at declared variable absent) m outcome.after) (sym (declaring_own names variable m answer means.0 means.2))
+    subst (λ (outcome : Outcome). Runs frame names (declare at declared variable absent) m outcome.after) (sym (declaring_own names variable m [] answer means.0 means.2))
     (record { good = declare_good frame m local context.good means.1 shape; scope = refl; keeps = declare_keeps m local means.2 })
 declare_runs frame names at declared variable (present value) m context clean =
     let means = declare_means frame names at declared variable (present value) m context clean in
@@ -303,7 +308,7 @@ declare_runs frame names at declared variable (present value) m context clean =
     } in
     let written = write_carries frame (declare_of m local) (local_of variable) given.ty (declare_good frame m local context.good means.1 shape) in
     subst (λ (n : FlowModel). Runs frame names (declare at declared variable (present value)) m (row n).after) (sym (value_leaves names value m).after)
-    (subst (λ (outcome : Outcome). Runs frame names (declare at declared variable (present value)) m outcome.after) (sym (declaring_own names variable m answer means.0 means.2))
+    (subst (λ (outcome : Outcome). Runs frame names (declare at declared variable (present value)) m outcome.after) (sym (declaring_own names variable m (fit_faults no_rows (place_of value) given.ty (type_of declared)) answer means.0 means.2))
     (record { good = written.good; scope = written.scope; keeps = initialize_keeps m local given.ty means.2 }))
 
 -- a write of a local of which this is known
@@ -462,25 +467,25 @@ pub good_after : (frame : Frame) (names : Names) (tree : Tree) (m : FlowModel) �
 good_after frame names tree m context form clean = (runs frame tree names m context clean).good
 
 -- a declaration is reached before where it is reached after
-declaring_reached : (names : Names) (variable : Name) (m : FlowModel) (answer : LocalId → Outcome) → ((var : LocalId) → IsTrue (answer var).after.reachable → IsTrue m.reachable) → IsTrue (declaring names variable m answer).after.reachable → IsTrue m.reachable
-declaring_reached names variable m answer each = at_meaning (get names variable.word)
+declaring_reached : (names : Names) (variable : Name) (m : FlowModel) (misfits : List Fault) (answer : LocalId → Outcome) → ((var : LocalId) → IsTrue (answer var).after.reachable → IsTrue m.reachable) → IsTrue (declaring names variable m misfits answer).after.reachable → IsTrue m.reachable
+declaring_reached names variable m misfits answer each = at_meaning (get names variable.word)
   where
     -- by what its name means
-    at_meaning : (meaning : Option LocalId) → IsTrue (option_map_or (λ var. if is_some (facts_of m var) then complains variable.at DuplicateDefinition m else answer var) meaning (just m)).after.reachable → IsTrue m.reachable
+    at_meaning : (meaning : Option LocalId) → IsTrue (option_map_or (λ var. if is_some (facts_of m var) then declared_again variable misfits m else answer var) meaning (just m)).after.reachable → IsTrue m.reachable
     at_meaning None = λ reached. reached
     at_meaning (Some var) =
-        cond_both (is_some (facts_of m var)) (complains variable.at DuplicateDefinition m) (answer var) (λ (outcome : Outcome). IsTrue outcome.after.reachable → IsTrue m.reachable)
+        cond_both (is_some (facts_of m var)) (declared_again variable misfits m) (answer var) (λ (outcome : Outcome). IsTrue outcome.after.reachable → IsTrue m.reachable)
         (λ taken reached. reached)
         (λ fresh. each var)
 
 -- a declaration
 declare_reached : (names : Names) (at : Place) (declared : Tree) (variable : Name) (initial : Part) (m : FlowModel) → IsTrue (run no_rows names (declare at declared variable initial) m).after.reachable → IsTrue m.reachable
 declare_reached names at declared variable absent m =
-    declaring_reached names variable m (λ var. just (declare_of m (declared_local (type_of declared) var false))) (λ var reached. reached)
+    declaring_reached names variable m [] (λ var. just (declare_of m (declared_local (type_of declared) var false))) (λ var reached. reached)
 declare_reached names at declared variable (present value) m =
     let given = evaluate no_rows names value m in
     subst (λ (n : FlowModel). IsTrue (initialize_row no_rows names variable (type_of declared) (place_of value) given.ty n).after.reachable → IsTrue m.reachable) (sym (value_leaves names value m).after)
-    (declaring_reached names variable m
+    (declaring_reached names variable m (fit_faults no_rows (place_of value) given.ty (type_of declared))
     (λ var. record {
       after = at_local (declare_of m (declared_local (type_of declared) var true)) var (assign_facts no_rows given.ty);
       faults = fit_faults no_rows (place_of value) given.ty (type_of declared);

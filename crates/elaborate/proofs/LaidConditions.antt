@@ -1,5 +1,5 @@
 -- Conditions: a branch on their value, or the test of a local.
-use Rattle.std.proofs.Common.{◌≡◌, ℕ, ◌+◌, Bool, true, false, List, [], ◌∷◌, ◌++◌, length, Option, Some, None, is_some, refl, ap, sym, ◌∙◌}
+use Rattle.std.proofs.Common.{◌≡◌, ℕ, ◌+◌, Bool, true, false, if◌then◌else◌, List, [], ◌∷◌, ◌++◌, length, Option, Some, None, is_some, refl, ap, sym, ◌∙◌}
 use Rattle.std.specs.Option.{option_or}
 use Rattle.std.specs.FinMap.{get}
 use Rattle.dart_tree.specs.Tree.{Tree, name, null_literal, binary}
@@ -11,7 +11,7 @@ use Rattle.flow_model.specs.Flow.{FlowModel}
 use Rattle.flow_model.specs.declared.locals.LocalId.{LocalId}
 use Rattle.judgement.specs.NodeFacts.{NodeFacts}
 use Rattle.judgement.specs.Names.{Names}
-use Rattle.judgement.specs.Judgement.{evaluate}
+use Rattle.judgement.specs.Judgement.{is_null_literal, evaluate}
 use Rattle.judgement.specs.Typed.{said_of_expression, typed_expression}
 use Rattle.core_ir.specs.declared.points.Operand.{Operand}
 use Rattle.core_ir.specs.declared.points.Term.{Term}
@@ -37,6 +37,11 @@ record TestsLocal (left right : Tree) (names : Names) (before between : FlowMode
   right_is : typed_expression no_rows names right between ≡ second ∷ []
   element_is : option_or first.element second.element ≡ get names word
 
+-- two sides that have no word test none
+tested_word_in : (b : Bool) → is_some (let nothing : Option ℕ = None in if b then nothing else nothing) ≡ true → ⊥
+tested_word_in true h = cc
+tested_word_in false h = cc
+
 -- a comparison of a local with the literal `null` tests it
 compares : (left right : Tree) (names : Names) (before between : FlowModel) → is_some (compared_word left right) ≡ true → TestsLocal left right names before between (compared_word left right)
 compares (name at word) (null_literal at_null) names before between h = record {
@@ -57,7 +62,7 @@ compares (null_literal at_null) (name at word) names before between h = record {
   right_is = refl;
   element_is = refl;
 }
-compares _ _ names before between h = absurd cc
+compares left right names before between h = absurd (tested_word_in (is_null_literal right) h)
 
 -- an operator that tests a local is such a comparison
 tests : (kind : OperatorKind) (left right : Tree) (names : Names) (before between : FlowModel) → is_some (tested_by kind left right) ≡ true

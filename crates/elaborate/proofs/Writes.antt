@@ -1,5 +1,5 @@
 -- Assignments and declarations in which nothing is wrong, and the points at which they write.
-use Rattle.std.proofs.Common.{◌≡◌, ◌≢◌, ℕ, Bool, true, false, List, [], ◌∷◌, is_some, if◌then◌else◌, Option, Some, None, refl, ap, ◌∙◌}
+use Rattle.std.proofs.Common.{◌≡◌, ◌≢◌, ℕ, Bool, true, false, List, [], ◌∷◌, ◌++◌, is_some, if◌then◌else◌, Option, Some, None, refl, ap, ◌∙◌}
 use Rattle.std.specs.Prelude.{IsTrue, All}
 use Rattle.std.specs.Option.{option_map_or}
 use Rattle.std.specs.FinMap.{get}
@@ -75,9 +75,12 @@ module _ (names : Names) (target : Name) (at : Place) (ty : Ty) (m : FlowModel) 
 pub initialize_is : (names : Names) (variable : Name) (ty : Ty) (at : Place) (value : Ty) (m : FlowModel) (var : LocalId) → get names variable.word ≡ Some var → facts_of m var ≡ None
     → initialize_row no_rows names variable ty at value m ≡ record { after = at_local (declare_of m (declared_local ty var true)) var (assign_facts no_rows value); faults = fit_faults no_rows at value ty }
 initialize_is names variable ty at value m var means fresh =
-    ap (λ (found : Option LocalId). option_map_or (λ (v : LocalId). if is_some (facts_of m v) then complains variable.at DuplicateDefinition m else given v) found (just m)) means
-    ∙ ap (λ (known : Option Facts). if is_some known then complains variable.at DuplicateDefinition m else given var) fresh
+    ap (λ (found : Option LocalId). option_map_or (λ (v : LocalId). if is_some (facts_of m v) then again else given v) found (just m)) means
+    ∙ ap (λ (known : Option Facts). if is_some known then again else given var) fresh
   where
+    again : Outcome
+    again = record { after = m; faults = fit_faults no_rows at value ty ++ fault_at variable.at DuplicateDefinition }
+
     given : LocalId → Outcome
     given v = record { after = at_local (declare_of m (declared_local ty v true)) v (assign_facts no_rows value); faults = fit_faults no_rows at value ty }
 

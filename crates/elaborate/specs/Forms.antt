@@ -9,7 +9,17 @@ is_expression (integer at literal) = true
 is_expression (boolean at value) = true
 is_expression (null_literal at) = true
 is_expression (binary at operator left right) = is_expression left && is_expression right
-is_expression _ = false
+is_expression (int_type at nullable) = false
+is_expression (bool_type at) = false
+is_expression (declare at declared variable initial) = false
+is_expression (assign at target value) = false
+is_expression (eval at value) = false
+is_expression (print at value) = false
+is_expression (if_statement at condition then_block else_block) = false
+is_expression (while_statement at condition body) = false
+is_expression (block at statements) = false
+is_expression (function at body) = false
+is_expression (unit at main) = false
 
 -- whether a part is an expression, if it is there
 abbrev pub is_expression_part : Part → Bool
@@ -20,12 +30,39 @@ is_expression_part (present tree) = is_expression tree
 abbrev pub is_written_type : Tree → Bool
 is_written_type (int_type at nullable) = true
 is_written_type (bool_type at) = true
-is_written_type _ = false
+is_written_type (name at word) = false
+is_written_type (integer at literal) = false
+is_written_type (boolean at value) = false
+is_written_type (null_literal at) = false
+is_written_type (binary at operator left right) = false
+is_written_type (declare at declared variable initial) = false
+is_written_type (assign at target value) = false
+is_written_type (eval at value) = false
+is_written_type (print at value) = false
+is_written_type (if_statement at condition then_block else_block) = false
+is_written_type (while_statement at condition body) = false
+is_written_type (block at statements) = false
+is_written_type (function at body) = false
+is_written_type (unit at main) = false
 
 -- whether a tree is a block
 abbrev pub is_block : Tree → Bool
 is_block (block at statements) = true
-is_block _ = false
+is_block (name at word) = false
+is_block (integer at literal) = false
+is_block (boolean at value) = false
+is_block (null_literal at) = false
+is_block (binary at operator left right) = false
+is_block (int_type at nullable) = false
+is_block (bool_type at) = false
+is_block (declare at declared variable initial) = false
+is_block (assign at target value) = false
+is_block (eval at value) = false
+is_block (print at value) = false
+is_block (if_statement at condition then_block else_block) = false
+is_block (while_statement at condition body) = false
+is_block (function at body) = false
+is_block (unit at main) = false
 
 abbrev mutual
   -- whether a tree is a statement or a block, in which types and expressions stand where they are to, and the branches of an `if` and the body of a loop are blocks
@@ -37,7 +74,15 @@ abbrev mutual
   is_statement (if_statement at condition then_block else_block) = is_expression condition && is_block then_block && is_statement then_block && is_block_part else_block
   is_statement (while_statement at condition body) = is_expression condition && is_block body && is_statement body
   is_statement (block at statements) = are_statements statements
-  is_statement _ = false
+  is_statement (name at word) = false
+  is_statement (integer at literal) = false
+  is_statement (boolean at value) = false
+  is_statement (null_literal at) = false
+  is_statement (binary at operator left right) = false
+  is_statement (int_type at nullable) = false
+  is_statement (bool_type at) = false
+  is_statement (function at body) = false
+  is_statement (unit at main) = false
 
   -- whether these trees are statements
   pub are_statements : Trees → Bool
@@ -54,4 +99,16 @@ abbrev pub is_program : Tree → Bool
 is_program (unit at main) = is_program main
 is_program (function at body) = is_program body
 is_program (block at statements) = are_statements statements
-is_program _ = false
+is_program (name at word) = false
+is_program (integer at literal) = false
+is_program (boolean at value) = false
+is_program (null_literal at) = false
+is_program (binary at operator left right) = false
+is_program (int_type at nullable) = false
+is_program (bool_type at) = false
+is_program (declare at declared variable initial) = false
+is_program (assign at target value) = false
+is_program (eval at value) = false
+is_program (print at value) = false
+is_program (if_statement at condition then_block else_block) = false
+is_program (while_statement at condition body) = false

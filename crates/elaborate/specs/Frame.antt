@@ -1,7 +1,7 @@
 -- The slots of a program: one for each local, and temporaries for the values of operators.
 use Rattle.std.specs.Prelude.{ℕ, ◌+◌, max, Bool, List, [], ◌∷◌, ◌++◌, map, length, nat_eq}
 use Rattle.std.specs.List.{range_with_len, position_or_len}
-use Rattle.dart_tree.specs.Tree.{Tree, Trees, Part, no_more, more, absent, present, binary, declare, assign, eval, print, if_statement, while_statement, block, function, unit}
+use Rattle.dart_tree.specs.Tree.{Tree, Trees, Part, no_more, more, absent, present, name, integer, boolean, null_literal, binary, int_type, bool_type, declare, assign, eval, print, if_statement, while_statement, block, function, unit}
 use Rattle.dart_tree.specs.declared.nodes.OperatorKind.{OperatorKind}
 use Rattle.dart_tree.specs.declared.nodes.OperatorKind.TheVariants.{Plus, Less, NotEqual}
 use Rattle.flow_model.specs.Ty.{Ty, int, bool}
@@ -39,7 +39,16 @@ abbrev mutual
   locals_in (block at statements) = locals_in_all statements
   locals_in (function at body) = locals_in body
   locals_in (unit at main) = locals_in main
-  locals_in _ = []
+  locals_in (name at word) = []
+  locals_in (integer at literal) = []
+  locals_in (boolean at value) = []
+  locals_in (null_literal at) = []
+  locals_in (binary at operator left right) = []
+  locals_in (int_type at nullable) = []
+  locals_in (bool_type at) = []
+  locals_in (assign at target value) = []
+  locals_in (eval at value) = []
+  locals_in (print at value) = []
 
   -- those that trees declare, one after another
   pub locals_in_all : Trees → List Local
@@ -54,12 +63,40 @@ abbrev mutual
 -- how many values an expression leaves held: that of an operator is held in a temporary, that of any other expression isn't
 abbrev pub holds : Tree → ℕ
 holds (binary at operator left right) = 1
-holds _ = 0
+holds (name at word) = 0
+holds (integer at literal) = 0
+holds (boolean at value) = 0
+holds (null_literal at) = 0
+holds (int_type at nullable) = 0
+holds (bool_type at) = 0
+holds (declare at declared variable initial) = 0
+holds (assign at target value) = 0
+holds (eval at value) = 0
+holds (print at value) = 0
+holds (if_statement at condition then_block else_block) = 0
+holds (while_statement at condition body) = 0
+holds (block at statements) = 0
+holds (function at body) = 0
+holds (unit at main) = 0
 
 -- how many values an expression holds at once at most: the right side is evaluated while that of the left side is held
 abbrev pub value_height : Tree → ℕ
 value_height (binary at operator left right) = max 1 (max (value_height left) (holds left + value_height right))
-value_height _ = 0
+value_height (name at word) = 0
+value_height (integer at literal) = 0
+value_height (boolean at value) = 0
+value_height (null_literal at) = 0
+value_height (int_type at nullable) = 0
+value_height (bool_type at) = 0
+value_height (declare at declared variable initial) = 0
+value_height (assign at target value) = 0
+value_height (eval at value) = 0
+value_height (print at value) = 0
+value_height (if_statement at condition then_block else_block) = 0
+value_height (while_statement at condition body) = 0
+value_height (block at statements) = 0
+value_height (function at body) = 0
+value_height (unit at main) = 0
 
 -- how many a part holds that is an expression
 abbrev pub initial_height : Part → ℕ
@@ -78,7 +115,13 @@ abbrev mutual
   height_of (block at statements) = height_of_all statements
   height_of (function at body) = height_of body
   height_of (unit at main) = height_of main
-  height_of _ = 0
+  height_of (name at word) = 0
+  height_of (integer at literal) = 0
+  height_of (boolean at value) = 0
+  height_of (null_literal at) = 0
+  height_of (binary at operator left right) = 0
+  height_of (int_type at nullable) = 0
+  height_of (bool_type at) = 0
 
   -- how many trees hold, one after another
   pub height_of_all : Trees → ℕ

@@ -1,7 +1,7 @@
 -- What the code does with the nodes of a typed tree: it reads those of an expression, a statement or a block, and lays its points.
 use Rattle.std.specs.Prelude.{◌≡◌, ℕ, ◌+◌, List, [], ◌++◌, length, Option}
 use Rattle.std.specs.FinMap.{empty}
-use Rattle.dart_tree.specs.Tree.{Tree, Trees, Part, no_more, more, absent, present, binary, declare, assign, eval, print, if_statement, while_statement, block}
+use Rattle.dart_tree.specs.Tree.{Tree, Trees, Part, no_more, more, absent, present, name, integer, boolean, null_literal, binary, int_type, bool_type, declare, assign, eval, print, if_statement, while_statement, block, function, unit}
 use Rattle.dart_tree.specs.declared.places.NodeId.{NodeId}
 use Rattle.flow_model.specs.Sub.{no_rows}
 use Rattle.flow_model.specs.Flow.{FlowModel, start_of}
@@ -16,7 +16,21 @@ use Rattle.elaborate.specs.Laid.{Laid, laid_behind}
 -- of how many nodes of an expression something is said: of each
 abbrev pub said_in_value : Tree → ℕ
 said_in_value (binary at operator left right) = said_in_value left + said_in_value right + 1
-said_in_value _ = 1
+said_in_value (name at word) = 1
+said_in_value (integer at literal) = 1
+said_in_value (boolean at value) = 1
+said_in_value (null_literal at) = 1
+said_in_value (int_type at nullable) = 1
+said_in_value (bool_type at) = 1
+said_in_value (declare at declared variable initial) = 1
+said_in_value (assign at target value) = 1
+said_in_value (eval at value) = 1
+said_in_value (print at value) = 1
+said_in_value (if_statement at condition then_block else_block) = 1
+said_in_value (while_statement at condition body) = 1
+said_in_value (block at statements) = 1
+said_in_value (function at body) = 1
+said_in_value (unit at main) = 1
 
 -- of how many of an initializer
 abbrev pub said_in_initial : Part → ℕ
@@ -33,7 +47,15 @@ abbrev mutual
   said_in (if_statement at condition then_block else_block) = said_in_value condition + said_in then_block + said_in_part else_block + 1
   said_in (while_statement at condition body) = said_in_value condition + said_in body + 1
   said_in (block at statements) = said_in_all statements + 1
-  said_in _ = 0
+  said_in (name at word) = 0
+  said_in (integer at literal) = 0
+  said_in (boolean at value) = 0
+  said_in (null_literal at) = 0
+  said_in (binary at operator left right) = 0
+  said_in (int_type at nullable) = 0
+  said_in (bool_type at) = 0
+  said_in (function at body) = 0
+  said_in (unit at main) = 0
 
   -- of how many nodes of these trees
   pub said_in_all : Trees → ℕ
