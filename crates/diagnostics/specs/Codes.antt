@@ -52,11 +52,23 @@ message_of code = capitalized (words_of (name_of code)) ++ codes "."
 
 -- the kind of a code: a text whose lexemes, brackets or grammar are wrong has a syntactic error, every other is a compile-time error
 abbrev pub kind_of : DiagnosticCode → ErrorKind
+kind_of ArgumentType = CompileTimeError
 kind_of BadEscape = SyntacticError
+kind_of ConditionNotBool = CompileTimeError
+kind_of DuplicateDefinition = CompileTimeError
+kind_of FileNotUtf8 = CompileTimeError
 kind_of IllegalCharacter = SyntacticError
+kind_of IntegerLiteralOutOfRange = CompileTimeError
+kind_of InvalidAssignment = CompileTimeError
+kind_of ProfileFileLength = CompileTimeError
+kind_of ProfileIdentifier = CompileTimeError
+kind_of ReferencedBeforeDeclaration = CompileTimeError
 kind_of SyntaxError = SyntacticError
+kind_of UnassignedRead = CompileTimeError
+kind_of UncheckedNullableUse = CompileTimeError
 kind_of UnclosedGroup = SyntacticError
+kind_of UndefinedName = CompileTimeError
+kind_of UndefinedOperator = CompileTimeError
 kind_of UnopenedGroup = SyntacticError
 kind_of UnterminatedComment = SyntacticError
 kind_of UnterminatedString = SyntacticError
-kind_of _ = CompileTimeError

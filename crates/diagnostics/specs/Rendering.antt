@@ -35,7 +35,8 @@ rows_of file text faults = map (row_of file text) faults
 -- the line that a row is printed as: the path, the line, the column, the code and the sentence
 abbrev pub line_of_row : ErrorRow → List ℕ
 line_of_row row =
-    row.location.file ++ codes ":" ++ decimal row.location.start_line ++ codes ":" ++ decimal row.location.start_column ++ codes ": " ++ row.code ++ codes ": " ++ row.message ++ 10 ∷ []
+    row.location.file ++ codes ":" ++ decimal row.location.start_line ++ codes ":" ++ decimal row.location.start_column
+    ++ codes ": " ++ row.code ++ codes ": " ++ row.message ++ codes "\n"
 
 -- the lines of rows, in their order
 abbrev pub lines_of_rows : List ErrorRow → List ℕ

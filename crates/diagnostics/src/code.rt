@@ -75,6 +75,18 @@ pub fn error_kind(code: DiagnosticCode) -> ErrorKind
         | DiagnosticCode::UnopenedGroup
         | DiagnosticCode::UnterminatedComment
         | DiagnosticCode::UnterminatedString => ErrorKind::SyntacticError,
-        _ => ErrorKind::CompileTimeError,
+        DiagnosticCode::ArgumentType
+        | DiagnosticCode::ConditionNotBool
+        | DiagnosticCode::DuplicateDefinition
+        | DiagnosticCode::FileNotUtf8
+        | DiagnosticCode::IntegerLiteralOutOfRange
+        | DiagnosticCode::InvalidAssignment
+        | DiagnosticCode::ProfileFileLength
+        | DiagnosticCode::ProfileIdentifier
+        | DiagnosticCode::ReferencedBeforeDeclaration
+        | DiagnosticCode::UnassignedRead
+        | DiagnosticCode::UncheckedNullableUse
+        | DiagnosticCode::UndefinedName
+        | DiagnosticCode::UndefinedOperator => ErrorKind::CompileTimeError,
     }
 }

@@ -6,24 +6,16 @@ ghost use Rattle.diagnostics.specs.Rendering.{row_at, rows_of};
 use crate::code::{code_name, error_kind, message};
 use dart_text::{Position, Positions, Text};
 use judgement::Fault;
-use plain_text::PlainText;
-use proto_json::{ErrorRow, ErrorRows, Location, Severity};
+use proto_json::{ErrorRow, ErrorRows, FixedText, Location, Severity, SharedText};
 use std::alloc::{AllocError, Global};
 
 // The row of a fault that starts at the position.
-fn render_at(
-    alloc: Global,
-    file: &str,
-    position: Position,
-    fault: Fault,
-) -> Result<ErrorRow, AllocError>
+fn render_at(file: &SharedText, position: Position, fault: Fault) -> Result<ErrorRow, AllocError>
     ensures { IfOk result (λ row. row ≡ row_at file.now position fault) }
 {
-    let code = PlainText::new(alloc, code_name(fault.code))?;
-    let file = PlainText::new(alloc, file)?;
-    let message = PlainText::new(alloc, message(fault.code))?;
+    let file = file.share()?;
     Ok(ErrorRow {
-        code,
+        code: FixedText::new(code_name(fault.code)),
         location: Location {
             file,
             offset: fault.span.start,
@@ -31,7 +23,7 @@ fn render_at(
             start_line: position.line,
             start_column: position.column,
         },
-        message,
+        message: FixedText::new(message(fault.code)),
         severity: Severity::Error,
         kind: error_kind(fault.code),
     })
@@ -39,7 +31,7 @@ fn render_at(
 
 /// The rows of the faults of a file's text, in the order of the faults. Faults in rising order of
 /// their starts cost one walk over the text; each that stands before the one ahead of it costs
-/// another.
+/// another. The rows share the path, and take as much memory as they have fields.
 pub fn render(
     alloc: Global,
     file: &str,
@@ -49,10 +41,11 @@ pub fn render(
     ensures { IfOk result (λ rows. rows ≡ rows_of file.now text.now faults.now) }
 {
     let mut positions = Positions::of(text);
-    let mut rows = Vec::new(alloc);
+    let file = SharedText::new(alloc, file)?;
+    let mut rows = Vec::with_capacity(alloc, faults.len())?;
     for fault in faults {
         let position = positions.at(fault.span.start);
-        let row = render_at(alloc, file, position, *fault)?;
+        let row = render_at(&file, position, *fault)?;
         rows.push(row)?;
     }
     Ok(ErrorRows::from_vec(rows))
