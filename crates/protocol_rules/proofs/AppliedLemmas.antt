@@ -1,9 +1,16 @@
--- Want of memory is no answer of the definition of an update.
+-- Want of memory is no answer of the definitions of a request and of an update.
 use Rattle.std.proofs.Common.{◌≢◌, ℕ, ◌+◌, List, [], ◌∷◌, Bool, true, false, if◌then◌else◌, length, nat_le, nat_lt, Option, None, Some, Result, Ok, Err, refl}
 use Rattle.dart_text.specs.Edits.{edited, replaced, max_text}
 use Rattle.dart_text.specs.Units.{units_of, splits_pair}
 use Rattle.dart_text.specs.declared.edit.EditRefusal.{EditRefusal}
 use Rattle.dart_text.specs.declared.edit.EditRefusal.TheVariants as edit_refusal
+use Rattle.proto_json.specs.Parameters.{has_paths, request_of}
+use Rattle.proto_json.specs.Requests.{Head, head_by, method_named, answer, answer_to, answer_to_head, answer_to_method, answer_to_params, answer_to_request}
+use Rattle.proto_json.specs.declared.code.Code.TheVariants.{InvalidFilePathFormat}
+use Rattle.proto_json.specs.declared.request.Asked.{Asked}
+use Rattle.proto_json.specs.declared.request.Request.{Request}
+use Rattle.proto_json.specs.declared.request.RequestRefusal.{RequestRefusal}
+use Rattle.proto_json.specs.declared.request.RequestRefusal.TheVariants as request_refusal
 use Rattle.proto_json.specs.declared.overlay.FileOverlay.{FileOverlay}
 use Rattle.proto_json.specs.declared.overlay.Overlay.{Overlay}
 use Rattle.proto_json.specs.declared.overlay.Overlay.TheVariants.{Add, Change, Remove}
@@ -66,3 +73,33 @@ pub applied-no_memory : (files : List FileOverlay) (table : PathsAndTexts) → N
 unfolding applied
 applied-no_memory [] table = λ is. cc
 applied-no_memory (file ∷ files) table = apply_on-no_memory (applied files) file.path table (text_after file.path file.overlay (text_in file.path table)) (applied-no_memory files) (text_after-no_memory file.path file.overlay (text_in file.path table))
+
+-- nor the reading of a line
+abbrev NoRequestMemory : Result Asked RequestRefusal → Type 0
+NoRequestMemory r = r ≢ Err request_refusal.Memory
+
+-- by the format of its paths
+answer_to_request-no_memory : (id : List ℕ) (request : Request) → NoRequestMemory (answer_to_request id request)
+answer_to_request-no_memory id request =
+    elim (has_paths request) as (λ has. NoRequestMemory (if has then Ok (record { id = id; request = request }) else Err (request_refusal.Refused id InvalidFilePathFormat)))
+    [ true ↦ (λ is. cc) | false ↦ (λ is. cc) ]
+
+-- by its parameters
+answer_to_params-no_memory : (id : List ℕ) (request : Option Request) → NoRequestMemory (answer_to_params id request)
+answer_to_params-no_memory id None = λ is. cc
+answer_to_params-no_memory id (Some request) = answer_to_request-no_memory id request
+
+-- by its method
+answer_to_head-no_memory : (h : Head) → NoRequestMemory (answer_to_head h)
+answer_to_head-no_memory h =
+    elim (method_named h.method) as (λ m. NoRequestMemory (answer_to_method h.id m h.params))
+    [ None ↦ (λ is. cc) | Some m ↦ answer_to_params-no_memory h.id (request_of m h.params) ]
+
+-- where it is an object
+answer_to-no_memory : (head : Option Head) → NoRequestMemory (answer_to head)
+answer_to-no_memory None = λ is. cc
+answer_to-no_memory (Some h) = answer_to_head-no_memory h
+
+-- any line
+pub answer-no_memory : (bytes : List ℕ) → NoRequestMemory (answer bytes)
+answer-no_memory bytes = answer_to-no_memory (head_by bytes)

@@ -16,7 +16,7 @@ mod skipped;
 pub use contents::Contents;
 pub use laws::{
     a_refusal_changes_nothing, a_reply_repeats_the_id, an_update_is_taken_whole_or_not_at_all,
-    texts_keep_within_the_limits,
+    texts_keep_within_the_limits, want_of_memory_is_no_answer,
 };
 pub use limits::{MAX_BYTES, MAX_PATHS, passes_limit};
 pub use skipped::is_skipped;
