@@ -1,5 +1,5 @@
 -- The ends of a run.
-use Rattle.std.proofs.Common.{◌≡◌, ℕ, Bool, true, false, cond, List, [], ◌∷◌, Option, None, Some, Result, Ok, Err, refl, sym, ap, subst, ◌∙◌}
+use Rattle.std.proofs.Common.{◌≡◌, ℕ, Bool, true, false, cond, List, [], ◌∷◌, length, nat_lt, Option, None, Some, Result, Ok, Err, refl, sym, ap, subst, ◌∙◌}
 use Rattle.std.specs.Option.{ForSome}
 use Rattle.fault_io.specs.Stored.{Stored, bytes_at}
 use Rattle.fault_io.specs.declared.traits.WriteRefusal.{WriteRefusal}
@@ -9,7 +9,8 @@ use Rattle.core_machine.specs.State.{Outcome, Went, Done as Ended, Wrong, run_of
 use Rattle.dart_server.specs.declared.status.Status.{Status}
 use Rattle.dart_server.specs.declared.status.Status.TheVariants.{Done, Errors, Refused, Threw, Memory, StepsSpent, ReadFault, WriteFault, FilesFault, InputSpent}
 use Rattle.protocol_rules.specs.Turns.{is_library}
-use Rattle.dart_server.specs.Run.{library_of, rows_of_file, Prints, RowsGive, RunGives, Writes, status_after, RunOutput}
+use Rattle.protocol_rules.specs.declared.limits.TheConstants.{MAX_BYTES}
+use Rattle.dart_server.specs.Run.{library_of, rows_of_file, Prints, RowsGive, BytesGive, RunGives, Writes, status_after, RunOutput}
 
 -- the statuses of whole outputs
 abbrev IsWholeStatus : Status → Type 0
@@ -28,9 +29,13 @@ status_of_rows : (bytes : List ℕ) (steps : ℕ) (rows : List ErrorRow) (output
 status_of_rows bytes steps [] output status gives = status_of_prints (run_of gives.program steps) output status gives.prints
 status_of_rows bytes steps (row ∷ rows) output status gives = subst IsWholeStatus (sym gives.1) tt
 
+status_of_bytes : (file : List ℕ) (steps : ℕ) (bytes : List ℕ) (passes : Bool) (output : List ℕ) (status : Status) → BytesGive file steps bytes passes output status → IsWholeStatus status
+status_of_bytes file steps bytes true output status gives = subst IsWholeStatus (sym gives.1) tt
+status_of_bytes file steps bytes false output status gives = status_of_rows bytes steps (rows_of_file file bytes) output status gives
+
 status_of_run : (file : List ℕ) (steps : ℕ) (bytes : Option (List ℕ)) (output : List ℕ) (status : Status) → RunGives file steps bytes output status → IsWholeStatus status
 status_of_run file steps None output status gives = subst IsWholeStatus (sym gives.1) tt
-status_of_run file steps (Some bytes) output status gives = status_of_rows bytes steps (rows_of_file file bytes) output status gives
+status_of_run file steps (Some bytes) output status gives = status_of_bytes file steps bytes (nat_lt MAX_BYTES (length bytes)) output status gives
 
 -- the statuses of a run whose store didn't fail
 abbrev IsEndStatus : Status → Type 0
@@ -63,6 +68,10 @@ run_output file steps told old new bytes r status bytes_are writes is = record {
   fails = λ fails. absurd (subst IsEndStatus (sym is ∙ fails) (end_status file steps (library_of file bytes) old new r writes));
   ends = λ _. record { end = r; status_is = is; writes = writes };
 }
+
+-- what is written of a library's bytes, where it was tested whether they pass the limit
+pub by_limit : (file : List ℕ) (steps : ℕ) (bytes : List ℕ) (passes : Bool) (old new : Option (List ℕ)) (r : Result Status WriteRefusal) → nat_lt MAX_BYTES (length bytes) ≡ passes → Writes (BytesGive file steps bytes passes) old new r → Writes (BytesGive file steps bytes (nat_lt MAX_BYTES (length bytes))) old new r
+by_limit file steps bytes passes old new r is writes = subst (λ (b : Bool). Writes (BytesGive file steps bytes b) old new r) (sym is) writes
 
 -- the bytes that a store tells
 abbrev pub told_bytes : Option Stored → List ℕ → Option (List ℕ)

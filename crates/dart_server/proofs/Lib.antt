@@ -3,3 +3,4 @@ pub mod WritesLemmas
 pub mod RunLemmas
 pub mod ProgramLemmas
 pub mod EndLemmas
+pub mod ShortageLemmas

@@ -1,5 +1,5 @@
 -- What a run of a file writes, and how it ends.
-use Rattle.std.specs.Prelude.{◌≡◌, ◌≢◌, ◌⊎◌, ℕ, ◌<◌, true, List, [], ◌∷◌, ◌++◌, Option, None, Some, Result, Ok, Err, if◌then◌else◌, codes, length, take, nat_le}
+use Rattle.std.specs.Prelude.{◌≡◌, ◌≢◌, ◌⊎◌, ℕ, ◌<◌, Bool, true, false, List, [], ◌∷◌, ◌++◌, Option, None, Some, Result, Ok, Err, if◌then◌else◌, codes, length, take, nat_le, nat_lt}
 use Rattle.std.specs.Option.{ForSome}
 use Rattle.std.specs.Str.{is_utf8}
 use Rattle.dart_text.specs.Edits.{max_text}
@@ -21,6 +21,7 @@ use Rattle.core_machine.specs.Steps.{Kind}
 use Rattle.core_machine.specs.State.{Outcome, Went, Done as Ended, Wrong, run_of}
 use Rattle.elaborate.specs.Elaborated.{IsElaborationOf}
 use Rattle.protocol_rules.specs.Turns.{is_library}
+use Rattle.protocol_rules.specs.declared.limits.TheConstants.{MAX_BYTES}
 use Rattle.dart_server.specs.declared.status.Status.{Status}
 use Rattle.dart_server.specs.declared.status.Status.TheVariants.{Done, Errors, Refused, Memory, StepsSpent, WriteFault, FilesFault}
 
@@ -31,6 +32,10 @@ library_of file given = if is_library file then given else None
 -- what is written where there is no library of the name
 abbrev pub no_library_line : List ℕ
 no_library_line = codes "dart_serve: no such library" ++ 10 ∷ []
+
+-- what is written where a file has more bytes than all texts may have together
+abbrev pub limit_line : List ℕ
+limit_line = codes "dart_serve: limit" ++ 10 ∷ []
 
 -- the last line of a run that hasn't ended within its steps
 abbrev pub steps_spent_line : List ℕ
@@ -67,10 +72,15 @@ abbrev pub RowsGive : (bytes : List ℕ) (steps : ℕ) → List ErrorRow → (ou
 RowsGive bytes steps [] output status = ProgramGives bytes steps output status
 RowsGive bytes steps (row ∷ rows) output status = (output ≡ lines_of_rows (row ∷ rows)) × (status ≡ Errors)
 
+-- the output and the status of a library's bytes, by whether they pass the limit
+abbrev pub BytesGive : (file : List ℕ) (steps : ℕ) (bytes : List ℕ) → (passes : Bool) → (output : List ℕ) → Status → Type 0
+BytesGive file steps bytes true output status = (output ≡ limit_line) × (status ≡ Refused)
+BytesGive file steps bytes false output status = RowsGive bytes steps (rows_of_file file bytes) output status
+
 -- the output and the status of a run, by the bytes of the library
 abbrev pub RunGives : (file : List ℕ) (steps : ℕ) → Option (List ℕ) → (output : List ℕ) → Status → Type 0
 RunGives file steps None output status = (output ≡ no_library_line) × (status ≡ Refused)
-RunGives file steps (Some bytes) output status = RowsGive bytes steps (rows_of_file file bytes) output status
+RunGives file steps (Some bytes) output status = BytesGive file steps bytes (nat_lt MAX_BYTES (length bytes)) output status
 
 -- an output is written whole
 pub record IsWhole (gives : List ℕ → Status → Type 0) (old new : Option (List ℕ)) (status : Status) : Type 0 where

@@ -4,7 +4,7 @@ ghost use Rattle.std.specs.Prelude.{◌≡◌, ◌≢◌};
 ghost use Rattle.std.specs.Option.{ForSome};
 ghost use Rattle.fault_io.specs.Faults.{Rose};
 ghost use Rattle.dart_server.specs.Words.{Serve, Refused, command_of};
-ghost use Rattle.dart_server.specs.Output.{Output, ServeOutput, RefusedOutput, MayEnd};
+ghost use Rattle.dart_server.specs.Output.{Output, ServeOutput, RefusedOutput, MayEnd, Reads};
 
 use crate::run::run;
 use crate::session::Session;
@@ -45,13 +45,16 @@ fn serve_lines<S: Source, K: Sink, F: Files>(
     sink: &mut K,
     files: &mut F,
 ) -> Status
-    ensures output { ForSome (S.left source.old) (λ input. ServeOutput (F.told files.old) input (K.written sink.old) (K.written sink.new) (S.left source.new) (F.faults files.old) (F.faults files.new) result) }
+    ensures output { ForSome (S.left source.old) (λ input.
+        ServeOutput (F.told files.old) input (K.written sink.old) (K.written sink.new) (S.left source.new) (F.faults files.old) (F.faults files.new) (K.shortages sink.old) (K.shortages sink.new) result) }
     ensures statuses { MayEnd Serve result }
     ensures read_fault { result ≡ Status.ReadFault → Rose (S.faults source.old) (S.faults source.new) }
     ensures no_read_fault { result ≢ Status.ReadFault → S.faults source.new ≡ S.faults source.old }
     ensures write_fault { result ≡ Status.WriteFault → Rose (K.faults sink.old) (K.faults sink.new) }
     ensures no_write_fault { result ≢ Status.WriteFault → K.faults sink.new ≡ K.faults sink.old }
     ensures store { F.faults files.new ≡ F.faults files.old }
+    ensures unlisted { F.lists files.new ≡ F.lists files.old }
+    ensures not_read { F.reads files.new ≡ F.reads files.old }
     ensures told { F.told files.new ≡ F.told files.old }
 {
     let mut session = Session::new(alloc);
@@ -77,7 +80,9 @@ fn serve_lines<S: Source, K: Sink, F: Files>(
 /// nothing, for the text then current. Under `run` it is the diagnostics of the file, or where it
 /// has none, what its program prints, of which no number of steps goes wrong. The other clauses say
 /// when each fault comes: a count of faults rises, or stands at its end, exactly where the status
-/// says so; only `serve` reads the source, and only under `run` may the store of files fail.
+/// says so; only `serve` reads the source, and only under `run` may the store of files fail. Under
+/// `serve` a reply is cut at the status of want of memory only where the sink's count of it rose.
+/// The store is called once for a run of a library, by `read`, and else never.
 pub fn dart_main<S: Source, K: Sink, F: Files>(
     alloc: Global,
     words: &[PlainText],
@@ -85,7 +90,7 @@ pub fn dart_main<S: Source, K: Sink, F: Files>(
     sink: &mut K,
     files: &mut F,
 ) -> Status
-    ensures output { Output words.now (F.told files.old) (S.left source.old) (K.written sink.old) (K.written sink.new) (S.left source.new) (F.faults files.old) (F.faults files.new) result }
+    ensures output { Output words.now (F.told files.old) (S.left source.old) (K.written sink.old) (K.written sink.new) (S.left source.new) (F.faults files.old) (F.faults files.new) (K.shortages sink.old) (K.shortages sink.new) result }
     ensures statuses { MayEnd (command_of words.now) result }
     ensures read_fault { result ≡ Status.ReadFault → Rose (S.faults source.old) (S.faults source.new) }
     ensures no_read_fault { result ≢ Status.ReadFault → S.faults source.new ≡ S.faults source.old }
@@ -94,6 +99,8 @@ pub fn dart_main<S: Source, K: Sink, F: Files>(
     ensures files_fault { result ≡ Status.FilesFault → Rose (F.faults files.old) (F.faults files.new) }
     ensures no_files_fault { result ≢ Status.FilesFault → F.faults files.new ≡ F.faults files.old }
     ensures unread { command_of words.now ≢ Serve → source.new ≡ source.old }
+    ensures unlisted { F.lists files.new ≡ F.lists files.old }
+    ensures reads { Reads words.now (F.reads files.old) (F.reads files.new) }
     ensures told { F.told files.new ≡ F.told files.old }
 {
     match command_of(words) {

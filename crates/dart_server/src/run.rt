@@ -1,8 +1,9 @@
 //! The run of a file.
 
-ghost use Rattle.std.specs.Prelude.{◌≡◌, ◌≢◌, ℕ, ◌<◌, List, [], ◌∷◌, ◌++◌, Err, IfOk, IfSome, OnOk, OnErr, length, take};
+ghost use Rattle.std.specs.Prelude.{◌≡◌, ◌≢◌, ℕ, ◌<◌, true, false, nat_lt, List, [], ◌∷◌, ◌++◌, Err, IfOk, IfSome, OnOk, OnErr, length, take};
 ghost use Rattle.fault_io.specs.Bytes.{and_then};
-ghost use Rattle.fault_io.specs.Faults.{Rose};
+ghost use Rattle.fault_io.specs.Faults.{Rose, one_more};
+ghost use Rattle.protocol_rules.specs.Turns.{is_library};
 ghost use Rattle.check_library.specs.Checked.{IsFaultless};
 ghost use Rattle.check_library.specs.Diagnostics.{diagnostics};
 ghost use Rattle.diagnostics.specs.Rendering.{rows_of, lines_of_rows};
@@ -11,7 +12,7 @@ ghost use Rattle.core_machine.specs.Steps.{Kind};
 ghost use Rattle.core_machine.specs.State.{Wrong, run_of, step_of, told};
 ghost use Rattle.dart_server.specs.Words.{Run};
 ghost use Rattle.dart_server.specs.Output.{MayEnd};
-ghost use Rattle.dart_server.specs.Run.{no_library_line, rows_of_file, Prints, RowsGive, Writes, Counts, status_after, no_text, RunOutput};
+ghost use Rattle.dart_server.specs.Run.{no_library_line, rows_of_file, Prints, RowsGive, BytesGive, Writes, Counts, status_after, no_text, RunOutput};
 
 use crate::session::is_dart;
 use crate::status::Status;
@@ -26,6 +27,7 @@ use diagnostics::{lines_of, render};
 use elaborate::elaborate;
 use fault_io::{Files, FilesRefusal, Sink, WriteRefusal, write_all_of};
 use judgement::{DiagnosticCode, Fault};
+use protocol_rules::MAX_BYTES;
 use std::alloc::{AllocError, Global};
 
 /// What a run prints is written where it has come to so many bytes, and at its end.
@@ -33,6 +35,9 @@ const PIECE: usize = 65_536;
 
 /// What is written where there is no library of the name.
 const NO_LIBRARY: &[u8] = b"dart_serve: no such library\n";
+
+/// What is written where a file has more bytes than all texts may have together.
+const LIMIT: &[u8] = b"dart_serve: limit\n";
 
 /// The last line of a run that hasn't ended within its steps.
 const STEPS_SPENT: &[u8] = b"steps spent\n";
@@ -211,6 +216,30 @@ fn run_bytes<K: Sink>(
     }
 }
 
+/// Whether a file has more bytes than all texts may have together.
+fn is_past_limit(bytes: &[u8]) -> bool
+    ensures { result ≡ nat_lt MAX_BYTES (length bytes.now) }
+{
+    bytes.len() > MAX_BYTES
+}
+
+/// Runs the program of a library, unless its bytes pass the limit on all texts.
+fn run_library<K: Sink>(
+    alloc: Global,
+    sink: &mut K,
+    file: &str,
+    bytes: &[u8],
+    steps: u64,
+) -> Result<Status, WriteRefusal>
+    ensures writes { Writes (BytesGive file.now steps bytes.now (nat_lt MAX_BYTES (length bytes.now))) (K.written sink.old) (K.written sink.new) result }
+    ensures counts { Counts result (K.faults sink.old) (K.faults sink.new) }
+{
+    if is_past_limit(bytes) {
+        return say(alloc, sink, LIMIT, Status::Refused);
+    }
+    run_bytes(alloc, sink, file, bytes, steps)
+}
+
 /// The status of an end.
 fn status_after(end: Result<Status, WriteRefusal>) -> Status
     ensures { result ≡ status_after end }
@@ -237,13 +266,16 @@ pub fn run<K: Sink, F: Files>(
     ensures no_write_fault { result ≢ Status.WriteFault → K.faults sink.new ≡ K.faults sink.old }
     ensures files_fault { result ≡ Status.FilesFault → Rose (F.faults files.old) (F.faults files.new) }
     ensures no_files_fault { result ≢ Status.FilesFault → F.faults files.new ≡ F.faults files.old }
+    ensures unlisted { F.lists files.new ≡ F.lists files.old }
+    ensures read_once { is_library file.now ≡ true → F.reads files.new ≡ one_more (F.reads files.old) }
+    ensures not_read { is_library file.now ≡ false → F.reads files.new ≡ F.reads files.old }
     ensures told { F.told files.new ≡ F.told files.old }
 {
     if !is_dart(file) {
         return status_after(say(alloc, sink, NO_LIBRARY, Status::Refused));
     }
     match files.read(alloc, file) {
-        Ok(Some(bytes)) => status_after(run_bytes(alloc, sink, file, bytes.as_slice(), steps)),
+        Ok(Some(bytes)) => status_after(run_library(alloc, sink, file, bytes.as_slice(), steps)),
         Ok(None) => status_after(say(alloc, sink, NO_LIBRARY, Status::Refused)),
         Err(FilesRefusal::Failed) => Status::FilesFault,
         Err(FilesRefusal::Memory) => Status::Memory,

@@ -1,9 +1,10 @@
-use Rattle.std.proofs.Common.{◌≡◌, ◌∙◌, true, false, ℕ, List, Option, Some, None, Vec, Global, Err, inl, refl, sym, ap, subst}
+use Rattle.std.proofs.Common.{◌≡◌, ◌∙◌, true, false, ℕ, List, length, nat_lt, Option, Some, None, Vec, Global, Err, inl, refl, sym, ap, subst}
 use Rattle.std.specs.Option.{ForSome, option_map}
 use Rattle.fault_io.specs.Stored.{bytes_at}
 use Rattle.fault_io.specs.declared.traits.WriteRefusal.TheVariants.{Memory}
 use Rattle.protocol_rules.specs.Turns.{is_library}
-use Rattle.dart_server.specs.Run.{RowsGive, RunGives, Writes, rows_of_file}
+use Rattle.protocol_rules.specs.declared.limits.TheConstants.{MAX_BYTES}
+use Rattle.dart_server.specs.Run.{BytesGive, RunGives, Writes}
 use Rattle.dart_server.proofs.EndLemmas.{run_output, told_bytes, told_bytes_are, no_library, none_of_other, all_of_library, store_failed}
 use Rattle.dart_server.proofs.run.run.Goals as goal
 
@@ -21,10 +22,10 @@ returns-in-Ok-Some-clause-output g c =
     let library : is_library c.args.file.now ≡ true = sym c.is_dart.ensures ∙ c.if-not-is_dart.false in
     let given : ForSome (g.F.Files.told c.args.files.now) (λ files. bytes ≡ bytes_at files c.args.file.now) =
     λ files told. ap (λ (found : Option (Vec ℕ Global)). option_map (λ v. v.items) found) (sym c.in-Ok-Some.field-0-is) ∙ c.in-Ok-Some.ensures.read files told in
-    let writes : Writes (RunGives c.args.file.now c.args.steps bytes) (g.K.Sink.written c.args.sink.now) (g.K.Sink.written c.run_bytes.new.sink) c.run_bytes.result =
-    subst (λ (text : List ℕ). Writes (RowsGive text c.args.steps (rows_of_file c.args.file.now text)) (g.K.Sink.written c.args.sink.now) (g.K.Sink.written c.run_bytes.new.sink) c.run_bytes.result) c.as_slice.ensures.value c.run_bytes.ensures.writes in
-    run_output c.args.file.now c.args.steps _ _ _ bytes c.run_bytes.result _ given
-    (subst (λ (found : Option (List ℕ)). Writes (RunGives c.args.file.now c.args.steps found) (g.K.Sink.written c.args.sink.now) (g.K.Sink.written c.run_bytes.new.sink) c.run_bytes.result) (sym (all_of_library c.args.file.now bytes library)) writes)
+    let writes : Writes (RunGives c.args.file.now c.args.steps bytes) (g.K.Sink.written c.args.sink.now) (g.K.Sink.written c.run_library.new.sink) c.run_library.result =
+    subst (λ (text : List ℕ). Writes (BytesGive c.args.file.now c.args.steps text (nat_lt MAX_BYTES (length text))) (g.K.Sink.written c.args.sink.now) (g.K.Sink.written c.run_library.new.sink) c.run_library.result) c.as_slice.ensures.value c.run_library.ensures.writes in
+    run_output c.args.file.now c.args.steps _ _ _ bytes c.run_library.result _ given
+    (subst (λ (found : Option (List ℕ)). Writes (RunGives c.args.file.now c.args.steps found) (g.K.Sink.written c.args.sink.now) (g.K.Sink.written c.run_library.new.sink) c.run_library.result) (sym (all_of_library c.args.file.now bytes library)) writes)
     c.status_after-in-Ok-Some.ensures
 
 pub returns-in-Ok-None-clause-output : goal.returns-in-Ok-None-clause-output
