@@ -5,6 +5,12 @@
 #![tactic(auto)]
 
 #[cfg(test)]
+mod core_tests;
+#[cfg(test)]
 mod flow_tests;
+#[cfg(test)]
+mod reading_tests;
+#[cfg(test)]
+mod text_tests;
 #[cfg(test)]
 mod tree_tests;

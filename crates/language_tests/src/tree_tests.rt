@@ -13,6 +13,16 @@ fn at(start: u32, end: u32) -> Place {
     Place { node, span }
 }
 
+/// The number, the start and the end of the nodes of this program that are no part of a statement,
+/// and of its statements.
+const EXPECTED: [(u32, u32, u32); 5] = [
+    (0, 0, 30),
+    (1, 0, 30),
+    (2, 11, 30),
+    (3, 12, 20),
+    (7, 20, 29),
+];
+
 // The nodes of `void main(){int x=7;print(x);}`: the numbers 4 to 6 are those of the type, the
 // name and the value.
 #[test]
@@ -70,23 +80,19 @@ fn nodes_are_numbered_in_reading_order(rt: HostRuntime) -> Result<(), Fail> {
         main,
     };
     number_unit(&mut unit);
-    let body = &unit.main.body;
-    assert_eq!(rt; body.statements.len(), 2);
+    let unit = &unit;
+    let main = &unit.main;
+    let body = &main.body;
+    let statements = body.statements.as_slice();
+    assert_eq!(rt; statements.len(), 2);
     let places = [
         unit.place(),
-        unit.main.place(),
+        main.place(),
         body.place(),
-        body.statements[0].place(),
-        body.statements[1].place(),
+        statements[0].place(),
+        statements[1].place(),
     ];
-    let expected = [
-        (0, 0, 30),
-        (1, 0, 30),
-        (2, 11, 30),
-        (3, 12, 20),
-        (7, 20, 29),
-    ];
-    for (place, (number, start, end)) in places.iter().zip(expected.iter()) {
+    for (place, (number, start, end)) in places.iter().zip(EXPECTED.iter()) {
         assert_eq!(rt; place.node, NodeId(*number));
         assert_eq!(rt; place.span.start, *start);
         assert_eq!(rt; place.span.end, *end);
