@@ -55,6 +55,14 @@ def in_one_request(count: int) -> Tuple[int, int, bytes]:
     return 100_000, count, changes([edit(i % 100_000) for i in range(count)])
 
 
+def at_both_ends(count: int) -> Tuple[int, int, bytes]:
+    return 4_000_000, count, changes([edit(i % 2 * 3_999_999) for i in range(count)])
+
+
+def anywhere(count: int) -> Tuple[int, int, bytes]:
+    return 4_000_000, count, changes([edit(i * 506_816 % 4_000_000) for i in range(count)])
+
+
 def one_by_one(count: int) -> Tuple[int, int, bytes]:
     return 100_000, count, b"".join(changes([edit(i % 100_000)]) for i in range(count))
 
@@ -62,6 +70,8 @@ def one_by_one(count: int) -> Tuple[int, int, bytes]:
 FAMILIES = (
     Family("100 requests of one edit each, by the size of the text", "bytes", (1_000_000, 2_000_000, 4_000_000), by_size),
     Family("edits of one request, on a text of 100,000 bytes", "edits", (1_000, 2_000, 4_000), in_one_request),
+    Family("edits of one request at the two ends of a text in turn; the last ones fill a line", "edits", (90_000, 180_000, 360_000), at_both_ends),
+    Family("edits of one request all over a text; the last ones fill a line", "edits", (85_000, 170_000, 340_000), anywhere),
     Family("requests of one edit each, on a text of 100,000 bytes", "edits", (1_000, 2_000, 4_000), one_by_one),
 )
 

@@ -49,11 +49,7 @@ module _ (path : List ℕ) where
       (λ same. rw (← same, differs other path is_other) (text_in-drop_other other is_other more))
       (λ differ. ap (λ (found : Option (List ℕ)). if bytes_eq other e.0 then Some e.1 else found) (text_in-drop_other other is_other more))
 
--- the text of a file afterwards, where it has one or none
-pub text_in-with : (path : List ℕ) (text : Option (List ℕ)) (table : PathsAndTexts) → text_in path (with_text path text table) ≡ text
-text_in-with path None table = text_in-drop path table
-text_in-with path (Some text) table = text_in-put path text table
-
+-- what another file has afterwards
 pub text_in-with_other : (path : List ℕ) (text : Option (List ℕ)) (other : List ℕ) → other ≢ path → (table : PathsAndTexts) → text_in other (with_text path text table) ≡ text_in other table
 text_in-with_other path None other is_other table = text_in-drop_other path other is_other table
 text_in-with_other path (Some text) other is_other table = text_in-put_other path text other is_other table
