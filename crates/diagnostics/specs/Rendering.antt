@@ -1,5 +1,5 @@
 -- The rows of faults.
-use Rattle.std.specs.Prelude.{ℕ, ◌-◌, List, [], ◌∷◌, ◌++◌, map, codes, decimal}
+use Rattle.std.specs.Prelude.{ℕ, ◌-◌, List, ◌++◌, map, codes, decimal}
 use Rattle.std.specs.List.{flat_map}
 use Rattle.judgement.specs.declared.Fault.{Fault}
 use Rattle.proto_json.specs.declared.reply.ErrorRow.{ErrorRow}

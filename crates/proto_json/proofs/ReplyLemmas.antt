@@ -1,9 +1,9 @@
 -- The text of a reply: no reply holds a float, and errors are written one after another.
-use Rattle.std.proofs.Common.{◌≡◌, ℕ, List, [], ◌∷◌, ◌++◌, Bool, true, false, flat_map, codes, refl, sym, ap, ◌∙◌, append_assoc}
+use Rattle.std.proofs.Common.{◌≡◌, ℕ, List, [], ◌∷◌, ◌++◌, true, false, flat_map, codes, refl, sym, ap, ◌∙◌, append_assoc}
 use Rattle.json.specs.Print.{escape_byte, escape}
 use Rattle.serde_json.specs.Data.{Data, object, array, string, member, no_members, Items}
 use Rattle.serde_json.specs.Written.{has_float, items_have_float, compact_text, items_text}
-use Rattle.proto_json.specs.Replies.{rows_data, reply_data, row_data}
+use Rattle.proto_json.specs.Replies.{rows_data, reply_data}
 use Rattle.proto_json.specs.RowTexts.{row_text, next_row_text, rows_text, errors_front, errors_back}
 use Rattle.proto_json.specs.declared.reply.ErrorRow.{ErrorRow}
 use Rattle.proto_json.specs.declared.reply.ReplyBody.{ReplyBody}

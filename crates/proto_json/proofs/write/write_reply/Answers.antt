@@ -1,4 +1,4 @@
-use Rattle.std.proofs.Common.{◌≡◌, ◌++◌, ◌∷◌, [], ap, ◌∙◌, sym, subst}
+use Rattle.std.proofs.Common.{◌++◌, ◌∷◌, [], ap, ◌∙◌, sym, subst}
 use Rattle.proto_json.specs.Replies.{IsOneLine, reply_data}
 use Rattle.proto_json.proofs.OneLineLemmas.{IsOneLine-compact_text}
 use Rattle.proto_json.proofs.write.write_reply.Goals as goal
