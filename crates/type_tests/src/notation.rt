@@ -1,0 +1,217 @@
+//! Types in a short notation.
+//!
+//! A text is read from left to right, and each letter works on the types that stand before it. The
+//! letters of classes and type variables are those of `sample_rows.rt`.
+//!
+//! | Letter | What it is |
+//! |---|---|
+//! | of a class | the class, of as many types as it has parameters |
+//! | of a type variable | the variable |
+//! | `N` `E` `V` `!` | `Null`, `Never`, `void`, the invalid type |
+//! | `*` | the mark of an open parameter |
+//! | `?` | the type before, with `?` |
+//! | `&` | `X & U` of the variable X and the type U before |
+//! | `(` | begins a function type |
+//! | `r` `p` | the type before is that of a required positional parameter, of an optional one |
+//! | `a` `b` `A` `B` | that of a named parameter, of a required named one |
+//! | `)` | the type before is the result, and the function type ends |
+
+use crate::sample_rows::{class_of, var_of};
+use dart_types::{
+    ClassId, DartType, FunctionType, NamedType, NamedTypes, TypeList, TypeNode, VarId,
+};
+use plain_text::PlainText;
+use std::alloc::Global;
+use std::test::Fail;
+use type_infer::OPEN_PARAMETER;
+
+// A function type whose parameters are read.
+#[derive(Drop)]
+struct Signature {
+    required: TypeList,
+    optional: TypeList,
+    named: NamedTypes,
+}
+
+// What was read: types, and function types that haven't ended.
+#[derive(Drop)]
+struct Reader {
+    types: Vec<DartType>,
+    open: Vec<Signature>,
+}
+
+/// The types of a text.
+pub(crate) fn types_in(alloc: Global, text: &str) -> Result<Vec<DartType>, Fail> {
+    let mut reader = Reader {
+        types: Vec::new(alloc),
+        open: Vec::new(alloc),
+    };
+    for letter in text.as_bytes() {
+        reader.step(alloc, *letter)?;
+    }
+    Ok(reader.types)
+}
+
+/// The list of these types.
+pub(crate) fn list_in(alloc: Global, text: &str) -> Result<TypeList, Fail> {
+    let mut list = TypeList::new(alloc);
+    for t in types_in(alloc, text)? {
+        list.push(t)?;
+    }
+    Ok(list)
+}
+
+/// The one type of a text.
+pub(crate) fn type_in(alloc: Global, text: &str) -> Result<DartType, Fail> {
+    let mut types = types_in(alloc, text)?;
+    last(&mut types)
+}
+
+/// The type variables of a text.
+pub(crate) fn vars_in(alloc: Global, text: &str) -> Result<Vec<VarId>, Fail> {
+    let mut vars = Vec::new(alloc);
+    for letter in text.as_bytes() {
+        match var_of(*letter) {
+            Some(var) => vars.push(var)?,
+            None => return Err("no letter of a type variable".into()),
+        }
+    }
+    Ok(vars)
+}
+
+// The last type, taken away.
+fn last(types: &mut Vec<DartType>) -> Result<DartType, Fail> {
+    match types.pop() {
+        Some(t) => Ok(t),
+        None => Err("no type stands before".into()),
+    }
+}
+
+// The last function type that hasn't ended, taken away.
+fn last_open(open: &mut Vec<Signature>) -> Result<Signature, Fail> {
+    match open.pop() {
+        Some(signature) => Ok(signature),
+        None => Err("no function type has begun".into()),
+    }
+}
+
+// The type of a letter that stands for a type without parts.
+fn leaf(letter: u8) -> Option<TypeNode> {
+    match letter {
+        b'N' => Some(TypeNode::Null),
+        b'E' => Some(TypeNode::Never),
+        b'V' => Some(TypeNode::Void),
+        b'!' => Some(TypeNode::Invalid),
+        b'*' => Some(TypeNode::Var(OPEN_PARAMETER)),
+        _ => match var_of(letter) {
+            Some(var) => Some(TypeNode::Var(var)),
+            None => None,
+        },
+    }
+}
+
+impl Reader {
+    fn step(&mut self, alloc: Global, letter: u8) -> Result<(), Fail> {
+        if let Some(node) = leaf(letter) {
+            return self.put(node);
+        }
+        if let Some((class, count)) = class_of(letter) {
+            return self.apply(alloc, class, count);
+        }
+        match letter {
+            b' ' => Ok(()),
+            b'&' => self.promote(alloc),
+            b'?' => self.mark(alloc),
+            b'(' => self.begin(alloc),
+            b')' => self.end(alloc),
+            b'r' => self.positional(true),
+            b'p' => self.positional(false),
+            b'a' => self.named(alloc, "a", false),
+            b'b' => self.named(alloc, "b", false),
+            b'A' => self.named(alloc, "a", true),
+            b'B' => self.named(alloc, "b", true),
+            _ => Err("no letter of types".into()),
+        }
+    }
+
+    fn put(&mut self, node: TypeNode) -> Result<(), Fail> {
+        self.types.push(DartType { node })?;
+        Ok(())
+    }
+
+    // The class, of as many types as stand before.
+    fn apply(&mut self, alloc: Global, class: ClassId, count: u32) -> Result<(), Fail> {
+        let mut args = TypeList::new(alloc);
+        if count == 1 {
+            args.push(last(&mut self.types)?)?;
+        }
+        if count == 2 {
+            let second = last(&mut self.types)?;
+            let first = last(&mut self.types)?;
+            args.push(first)?;
+            args.push(second)?;
+        }
+        self.put(TypeNode::Interface { class, args })
+    }
+
+    fn promote(&mut self, alloc: Global) -> Result<(), Fail> {
+        let to = last(&mut self.types)?;
+        let to = Box::new(alloc, to)?;
+        match last(&mut self.types)?.node {
+            TypeNode::Var(var) => self.put(TypeNode::Promoted { var, to }),
+            _ => Err("no variable stands before".into()),
+        }
+    }
+
+    fn mark(&mut self, alloc: Global) -> Result<(), Fail> {
+        let bare = last(&mut self.types)?;
+        let bare = Box::new(alloc, bare)?;
+        self.put(TypeNode::Nullable(bare))
+    }
+
+    fn begin(&mut self, alloc: Global) -> Result<(), Fail> {
+        self.open.push(Signature {
+            required: TypeList::new(alloc),
+            optional: TypeList::new(alloc),
+            named: NamedTypes::new(alloc),
+        })?;
+        Ok(())
+    }
+
+    fn end(&mut self, alloc: Global) -> Result<(), Fail> {
+        let result = last(&mut self.types)?;
+        let signature = last_open(&mut self.open)?;
+        let function = FunctionType {
+            required: signature.required,
+            optional: signature.optional,
+            named: signature.named,
+            result,
+        };
+        let function = Box::new(alloc, function)?;
+        self.put(TypeNode::Function(function))
+    }
+
+    fn positional(&mut self, required: bool) -> Result<(), Fail> {
+        let ty = last(&mut self.types)?;
+        let mut signature = last_open(&mut self.open)?;
+        if required {
+            signature.required.push(ty)?;
+        } else {
+            signature.optional.push(ty)?;
+        }
+        self.open.push(signature)?;
+        Ok(())
+    }
+
+    fn named(&mut self, alloc: Global, name: &str, required: bool) -> Result<(), Fail> {
+        let ty = last(&mut self.types)?;
+        let mut signature = last_open(&mut self.open)?;
+        let name = PlainText::new(alloc, name)?;
+        if !signature.named.takes(&name) {
+            return Err("names don't rise".into());
+        }
+        signature.named.push(NamedType { name, required, ty })?;
+        self.open.push(signature)?;
+        Ok(())
+    }
+}
