@@ -46,7 +46,8 @@ impl Overlays {
 
     /// The files of a request change, gain or lose their texts, all of them or none: after a refusal
     /// the overlays are as before. It costs a copy of the pointers to all texts, for each file a
-    /// search and a move of the pointers behind it, and for a changed one a copy of its text.
+    /// search and a move of the pointers behind it, for a changed one two copies of its text, and for
+    /// each edit a walk over the pieces of that text.
     pub fn apply(&mut self, files: &[FileOverlay]) -> Result<(), OverlayRefusal>
         ensures { Applies result self.old self.new (applied files.now self.old) }
     {
