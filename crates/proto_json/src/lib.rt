@@ -3,8 +3,9 @@
 //! A line of bytes is read as the request that it is, or refused by a code; a reply is written as
 //! one line. `answer` in `specs/Requests.antt` states which request a line is, and `reply_line` in
 //! `specs/Replies.antt` which bytes a reply is. Both stand on the readings and texts of JSON that
-//! `serde_json` defines, and on what `fault_io` calls a path; texts are those of `plain_text`. The
-//! crate knows no Dart and reads no files.
+//! `serde_json` defines, and on what `fault_io` calls a path; texts are those of `plain_text`, but
+//! for those of a reply's errors, which take no memory of their own. The crate knows no Dart and
+//! reads no files.
 #![tactic(auto)]
 
 mod code;
