@@ -1,4 +1,4 @@
--- How the errors of a reply are written one after another; for private clauses.
+-- How the errors of a reply are written one after another.
 use Rattle.std.specs.Prelude.{ℕ, List, [], ◌∷◌, ◌++◌, codes, flat_map}
 use Rattle.json.specs.Print.{quoted}
 use Rattle.serde_json.specs.Written.{compact_text}

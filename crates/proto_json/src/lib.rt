@@ -19,7 +19,10 @@ mod text;
 mod write;
 
 pub use code::Code;
-pub use laws::{files_of_an_update_rise_by_path, paths_of_a_request_are_normalized};
+pub use laws::{
+    errors_are_listed_with_commas, files_of_an_update_rise_by_path,
+    paths_of_a_request_are_normalized,
+};
 pub use overlay::{FileOverlay, FileOverlays, Overlay, OverlayEdit, OverlayEdits};
 pub use paths::Paths;
 pub use reply::{ErrorKind, ErrorRow, ErrorRows, Location, ReplyBody, Severity};
