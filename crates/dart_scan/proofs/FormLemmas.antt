@@ -87,7 +87,7 @@ append-nothing : (text : List ℕ) → text ++ [] ≡ text
 append-nothing [] = refl
 append-nothing (b ∷ text) = ap (λ xs. b ∷ xs) (append-nothing text)
 
-drop-front : (front text : List ℕ) → drop (length front) (front ++ text) ≡ text
+pub drop-front : (front text : List ℕ) → drop (length front) (front ++ text) ≡ text
 drop-front [] text = refl
 drop-front (b ∷ front) text = drop-front front text
 

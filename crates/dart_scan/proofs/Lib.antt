@@ -14,6 +14,7 @@ pub mod CuttingLemmas
 pub mod CuttingViews
 pub mod LawLemmas
 pub mod StringLaws
+pub mod StringGrammar
 pub mod ValueExamples
 pub mod EscapeLemmas
 pub mod UnitLemmas
@@ -25,3 +26,4 @@ pub mod ScanLemmas
 pub mod WordLemmas
 pub mod KindValues
 pub mod KindLemmas
+pub mod TokenLaws

@@ -9,7 +9,7 @@ use Rattle.dart_scan.specs.Pieces.{Spelled, Read, behind, piece_at, read_piece, 
 use Rattle.dart_scan.specs.Suspended.{enough, pieces_behind, Suspended, finished, then_parts, resumed, resumed_within}
 use Rattle.dart_scan.proofs.StepLemmas.{Fair, IsFair, fair, next-fair, Agree, agree, next-agrees, pieces-enough, parts-agree, pieces-agree}
 
-enough-fair : IsFair enough
+pub enough-fair : IsFair enough
 enough-fair = record {
   parts = λ form begun text some. (fair (length text)).parts form begun text some;
   expression = λ braces text. (fair (length text)).expression braces text;
@@ -35,15 +35,19 @@ expression-step braces text =
     (agree (length text) (suc (length text))).expression braces text (omega arith) (omega arith)
     ∙ pieces-agree (length text) (length text) (within_steps (length text)) enough (enough-agrees (length text)) enough-fair braces text (omega arith) (omega arith)
 
-pub behind-step : (byte : ℕ) (text : List ℕ) → pieces_behind (byte ∷ text) ≡ (next_at enough false (byte ∷ text)).pieces ++ pieces_behind (next_at enough false (byte ∷ text)).rest
+pub first-step : (first : Bool) (byte : ℕ) (text : List ℕ) → pieces_within (length (byte ∷ text)) first (byte ∷ text)
+    ≡ (next_at enough first (byte ∷ text)).pieces ++ pieces_behind (next_at enough first (byte ∷ text)).rest
 unfolding pieces_within
-behind-step byte text =
-    of (next_at (within_steps (suc (length text))) false (byte ∷ text)) (next_at enough false (byte ∷ text))
-    (next-agrees (suc (length text)) (suc (length text)) (within_steps (suc (length text))) enough (enough-agrees (suc (length text))) false byte text (omega arith) (omega arith))
-    (next-fair enough enough-fair false byte text)
+first-step first byte text =
+    of (next_at (within_steps (suc (length text))) first (byte ∷ text)) (next_at enough first (byte ∷ text))
+    (next-agrees (suc (length text)) (suc (length text)) (within_steps (suc (length text))) enough (enough-agrees (suc (length text))) first byte text (omega arith) (omega arith))
+    (next-fair enough enough-fair first byte text)
   where
     of : (next next' : Read) → next ≡ next' → Fair (byte ∷ text) (length text) next' → next.pieces ++ pieces_within (length text) false next.rest ≡ next'.pieces ++ pieces_behind next'.rest
     of next next' e f = ap (λ x. x.pieces ++ pieces_within (length text) false x.rest) e ∙ ap (λ ps. next'.pieces ++ ps) (pieces-enough (length text) (length next'.rest) false next'.rest f.shrinks (omega arith))
+
+pub behind-step : (byte : ℕ) (text : List ℕ) → pieces_behind (byte ∷ text) ≡ (next_at enough false (byte ∷ text)).pieces ++ pieces_behind (next_at enough false (byte ∷ text)).rest
+behind-step byte text = first-step false byte text
 
 -- Pieces that are done, within a string or not.
 

@@ -190,7 +190,7 @@ next-fair fewer fair first byte text = of (string_form (byte ∷ text)) refl
         string-fair _ (opening_of form) (drop (length (opening_of form)) (within_reach form (byte ∷ text))) (within_reach form (byte ∷ text)) (drop (length (within_reach form (byte ∷ text))) (byte ∷ text)) (byte ∷ text) (length text)
         (opening-some form o.some) r.opened r.split (omega arith) (fair.parts form (opening_of form) (drop (length (opening_of form)) (within_reach form (byte ∷ text))) o.some)
 
-brace : (byte : ℕ) (text : List ℕ) (braces : ℕ) → (begins (byte ∷ text) (codes "}") && braces == 0) ≡ true → 125 ∷ text ≡ byte ∷ text
+pub brace : (byte : ℕ) (text : List ℕ) (braces : ℕ) → (begins (byte ∷ text) (codes "}") && braces == 0) ≡ true → 125 ∷ text ≡ byte ∷ text
 brace byte text braces h = of (begins (byte ∷ text) (codes "}")) (braces == 0) refl h
   where
     of : (s t : Bool) → begins (byte ∷ text) (codes "}") ≡ s → (s && t) ≡ true → 125 ∷ text ≡ byte ∷ text

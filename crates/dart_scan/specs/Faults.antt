@@ -6,7 +6,7 @@ use Rattle.dart_tokens.specs.declared.scanned.LexFault.{LexFault}
 use Rattle.dart_tokens.specs.declared.scanned.LexFaultKind.{LexFaultKind}
 use Rattle.dart_tokens.specs.declared.scanned.LexFaultKind.TheVariants as fault
 use Rattle.dart_scan.specs.declared.piece.Class.{Class}
-use Rattle.dart_scan.specs.declared.piece.Class.TheVariants.{UnterminatedComment, IllegalCharacter, BeyondAscii, StringLiteral, StringOpening, StringPart, StringClosing, UnterminatedString}
+use Rattle.dart_scan.specs.declared.piece.Class.TheVariants.{Gap, UnterminatedComment, IllegalCharacter, BeyondAscii, Word, Integer, Double, Mark, StringLiteral, StringOpening, StringPart, StringClosing, UnterminatedString, InterpolationMark, InterpolationOpening, InterpolationClosing}
 use Rattle.dart_scan.specs.Lexemes.{begins}
 use Rattle.dart_scan.specs.Values.{bad_escapes}
 
@@ -33,4 +33,11 @@ faults_of_piece StringLiteral offset bytes = if begins bytes (codes "r") then []
 faults_of_piece StringOpening offset bytes = escape_faults offset bytes
 faults_of_piece StringPart offset bytes = escape_faults offset bytes
 faults_of_piece StringClosing offset bytes = escape_faults offset bytes
-faults_of_piece _ offset bytes = []
+faults_of_piece Gap offset bytes = []
+faults_of_piece Word offset bytes = []
+faults_of_piece Integer offset bytes = []
+faults_of_piece Double offset bytes = []
+faults_of_piece Mark offset bytes = []
+faults_of_piece InterpolationMark offset bytes = []
+faults_of_piece InterpolationOpening offset bytes = []
+faults_of_piece InterpolationClosing offset bytes = []

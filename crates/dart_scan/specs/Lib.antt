@@ -13,3 +13,4 @@ pub mod Faults
 pub mod Scanned
 pub mod Decoding
 pub mod Escapes
+pub mod TokenPlaces

@@ -19,9 +19,20 @@ is_gap Gap = true
 is_gap UnterminatedComment = true
 is_gap IllegalCharacter = true
 is_gap BeyondAscii = true
-is_gap _ = false
+is_gap Word = false
+is_gap Integer = false
+is_gap Double = false
+is_gap Mark = false
+is_gap StringLiteral = false
+is_gap StringOpening = false
+is_gap StringPart = false
+is_gap StringClosing = false
+is_gap UnterminatedString = false
+is_gap InterpolationMark = false
+is_gap InterpolationOpening = false
+is_gap InterpolationClosing = false
 
--- the kind of a lexeme, from its class and its bytes
+-- the kind of a lexeme, from its class and its bytes; what is a gap is no lexeme, and has none of its own
 abbrev pub kind_of : Class → List ℕ → Kind
 kind_of Word lexeme = kind_of_word lexeme
 kind_of Mark lexeme = kind_beside lexeme kind.Identifier marks
@@ -35,7 +46,10 @@ kind_of UnterminatedString lexeme = kind.UnterminatedString
 kind_of InterpolationMark lexeme = kind.InterpolationMark
 kind_of InterpolationOpening lexeme = kind.InterpolationOpening
 kind_of InterpolationClosing lexeme = kind.InterpolationClosing
-kind_of _ lexeme = kind.Identifier
+kind_of Gap lexeme = kind.Identifier
+kind_of UnterminatedComment lexeme = kind.Identifier
+kind_of IllegalCharacter lexeme = kind.Identifier
+kind_of BeyondAscii lexeme = kind.Identifier
 
 -- a lexeme: its class, the UTF-16 offset at which it begins, and its bytes
 pub record Lexeme : Type 0 where

@@ -1,17 +1,19 @@
 //! Laws of the pieces of a text, over their definitions alone.
 
-ghost use Rattle.std.specs.Prelude.{◌≡◌, ◌⊎◌, ◌<◌, ◌≤◌, [], ◌∷◌, ◌++◌, length, take, drop, codes, false, All, IsTrue, IfSome, Some};
+ghost use Rattle.std.specs.Prelude.{◌≡◌, ◌⊎◌, ◌<◌, ◌≤◌, [], ◌∷◌, ◌++◌, length, take, drop, codes, false, All, IsTrue, IfSome, IsSomeAnd, Some, ℕ, slice_get};
 ghost use Rattle.std.specs.List.{flat_map};
 ghost use Rattle.std.specs.Option.{ForSome};
 ghost use Rattle.std.specs.Str.{IsUtf8};
 ghost use Rattle.dart_tokens.specs.Marks.{marks};
-ghost use Rattle.dart_scan.specs.declared.piece.Class.TheVariants.{UnterminatedString};
 ghost use Rattle.dart_scan.specs.Characters.{is_within_line};
 ghost use Rattle.dart_scan.specs.Lexemes.{begins, word_size, integer_size, double_size, mark_size};
 ghost use Rattle.dart_scan.specs.Comments.{IsComment, comment_size};
-ghost use Rattle.dart_scan.specs.Strings.{string_form, within_reach};
-ghost use Rattle.dart_scan.specs.Pieces.{lexeme_at, next_at, within_steps, pieces};
-ghost use Rattle.dart_scan.specs.WholeStrings.{IsWhole};
+ghost use Rattle.dart_scan.specs.Strings.{string_form};
+ghost use Rattle.dart_scan.specs.Pieces.{Read, lexeme_at, next_at, within_steps, pieces};
+ghost use Rattle.dart_scan.specs.WholeStrings.{BeginsWith, IsString, unterminated};
+ghost use Rattle.dart_scan.specs.Scanned.{tokens_of, words_of};
+ghost use Rattle.dart_scan.specs.TokenPlaces.{IsPart};
+ghost use Rattle.dart_tokens.specs.declared.token.Token.{Token};
 
 /// The pieces of a text cover it, one after another without overlap, and none is empty.
 pub fn pieces_cover_a_text(_text: &[u8])
@@ -34,12 +36,13 @@ pub fn a_lexeme_is_the_longest(_text: &[u8])
     ensures marks { All (λ mark. IsTrue (begins _text.now mark.0) → length mark.0 ≤ mark_size _text.now) marks }
 {}
 
-/// Where a text begins with a string, this one is whole, or it is one piece, as far as it may reach. A
-/// whole one has the pieces that the grammar of strings says, from its opening to its quotes.
+/// Where a text begins with a whole string of the grammar, this one is read: up to the first quotes
+/// that no backslash stands before, with the braces of each interpolation matched. Where none begins
+/// with the quotes that stand there, all that it may reach is one piece.
 pub fn a_string_is_whole_or_one_piece(_text: &[u8])
-    ensures { ForSome (string_form _text.now) (λ form.
-        IsWhole form (next_at (within_steps (length _text.now)) false _text.now).pieces
-        ⊎ ((next_at (within_steps (length _text.now)) false _text.now).pieces ≡ (UnterminatedString, within_reach form _text.now) ∷ [])) }
+    ensures whole { ForSome (string_form _text.now) (λ form. (read : Read) → IsString form _text.now read → BeginsWith _text.now read) }
+    ensures otherwise { ForSome (string_form _text.now) (λ form.
+        ((read : Read) × IsString form _text.now read) ⊎ (((read : Read) → IsString form _text.now read → ⊥) × BeginsWith _text.now (unterminated form _text.now))) }
 {}
 
 /// A string of one quote, whether it ends or not, holds no line feed and no carriage return, in its
@@ -55,4 +58,17 @@ pub fn a_string_of_one_quote_stands_in_a_line(_text: &[u8])
 pub fn a_comment_is_as_its_grammar_says(_text: &[u8], _comment: &[u8])
     ensures sound { IfSome (comment_size _text.now) (λ size. IsComment (take size (codes "/*" ++ _text.now))) }
     ensures complete { IsComment _comment.now → comment_size (drop 2 (_comment.now ++ _text.now)) ≡ Some (length _comment.now) }
+{}
+
+/// The tokens of a text rise: each takes a code unit at least, and ends before any later one begins, or
+/// right there.
+pub fn tokens_rise(_text: &[u8])
+    ensures some { IsUtf8 _text.now → All (λ token. token.start < token.end) (tokens_of _text.now) }
+    ensures apart { IsUtf8 _text.now → (first second : ℕ) (one other : Token) → first < second
+        → slice_get (tokens_of _text.now) first ≡ Some one → slice_get (tokens_of _text.now) second ≡ Some other → one.end ≤ other.start }
+{}
+
+/// The word of a token is its lexeme: the part of the text from where it begins to where it ends.
+pub fn a_word_is_its_lexeme(_text: &[u8])
+    ensures { All (λ token. IsSomeAnd (slice_get (words_of _text.now) token.word) (IsPart _text.now token)) (tokens_of _text.now) }
 {}
