@@ -162,7 +162,7 @@ fn row_of(node: &TypedNode) -> Row {
 }
 
 /// A node that leaves what is known as it was.
-fn row(node: u32, ty: Option<Kind>, element: Option<LocalId>, known: Option<Kind>) -> Row {
+fn same(node: u32, ty: Option<Kind>, element: Option<LocalId>, known: Option<Kind>) -> Row {
     Row {
         node,
         ty,
@@ -189,36 +189,36 @@ fn nodes_say_what_is_known(rt: HostRuntime) -> Result<(), Fail> {
     let expected = [
         Row {
             before: None,
-            ..row(10, None, Some(X), maybe)
+            ..same(10, None, Some(X), maybe)
         },
-        row(20, maybe, Some(X), maybe),
-        row(22, Some(Kind::Null), None, maybe),
+        same(20, maybe, Some(X), maybe),
+        same(22, Some(Kind::Null), None, maybe),
         Row {
             branches: (Branch::NotNull(X), Branch::Same),
-            ..row(20, bool, None, maybe)
+            ..same(20, bool, None, maybe)
         },
-        row(30, int, Some(X), int),
-        row(32, int, None, int),
-        row(30, int, None, int),
-        row(30, None, None, int),
-        row(30, None, None, int),
-        row(40, maybe, Some(X), maybe),
-        row(42, int, None, maybe),
-        row(40, int, None, maybe),
-        row(40, None, None, maybe),
-        row(40, None, None, maybe),
-        row(20, None, None, maybe),
-        row(51, int, None, maybe),
+        same(30, int, Some(X), int),
+        same(32, int, None, int),
+        same(30, int, None, int),
+        same(30, None, None, int),
+        same(30, None, None, int),
+        same(40, maybe, Some(X), maybe),
+        same(42, int, None, maybe),
+        same(40, int, None, maybe),
+        same(40, None, None, maybe),
+        same(40, None, None, maybe),
+        same(20, None, None, maybe),
+        same(51, int, None, maybe),
         Row {
             after: int,
-            ..row(50, None, Some(X), maybe)
+            ..same(50, None, Some(X), maybe)
         },
         Row {
             branches: (Branch::Same, Branch::Unreached),
-            ..row(60, bool, None, int)
+            ..same(60, bool, None, int)
         },
-        row(60, None, None, int),
-        row(0, None, None, None),
+        same(60, None, None, int),
+        same(0, None, None, None),
     ];
     let found = judged(alloc, &steps)?;
     assert_eq!(rt; found.nodes.len(), expected.len());
