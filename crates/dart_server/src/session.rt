@@ -56,7 +56,6 @@ fn put_in_place(contents: &mut Contents, id: PlainText, overlays: Overlays) -> S
 
 /// The files change, gain or lose their texts, all of them or none.
 fn update(
-    alloc: Global,
     contents: &mut Contents,
     id: PlainText,
     files: &[FileOverlay],
@@ -111,7 +110,7 @@ fn said_to_request(alloc: Global, contents: &mut Contents, asked: Asked) -> Resu
     match request {
         Request::SetRoots { .. } => Ok(refused(id, Code::UnknownRequest)),
         Request::Reanalyze => Ok(refused(id, Code::UnknownRequest)),
-        Request::Update { files } => update(alloc, contents, id, files.as_slice()),
+        Request::Update { files } => update(contents, id, files.as_slice()),
         Request::GetErrors { file } => errors(alloc, contents, id, file.as_str()),
         Request::GetWork => Ok(refused(id, Code::UnknownRequest)),
     }

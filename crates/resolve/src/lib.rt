@@ -13,6 +13,3 @@ mod names;
 pub use judge::{Judged, judge_unit};
 pub use laws::{a_block_has_the_names_that_it_declares, a_loop_head_forgets_what_its_body_writes};
 pub use names::{NamesInScope, Shadowed};
-
-#[cfg(test)]
-mod tests;

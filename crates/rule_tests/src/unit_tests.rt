@@ -2,7 +2,6 @@
 
 mod units;
 
-use crate::NamesInScope;
 use flow_model::{DartType, LocalId, TypeNode};
 use judgement::DiagnosticCode::{
     ArgumentType, ConditionNotBool, DuplicateDefinition, InvalidAssignment,
@@ -10,6 +9,7 @@ use judgement::DiagnosticCode::{
     UndefinedOperator,
 };
 use judgement::{Branch, DiagnosticCode, TypedNode};
+use resolve::NamesInScope;
 use std::test::Fail;
 use units::{LESS, NOT_EQUAL, PLUS, Side, Step, WORD_X, WORD_Y, are_found, int_x, judged};
 

@@ -1,0 +1,5 @@
+//! Tests of the judge, over units that are built by hand.
+#![tactic(auto)]
+
+#[cfg(test)]
+mod unit_tests;
