@@ -140,6 +140,11 @@ def errors_in_lines(count: int) -> str:
     return body((["print(1);"] * 9 + ["nothing;"]) * count)
 
 
+def backticks(count: int) -> str:
+    """So many characters that begin no lexeme, behind a program."""
+    return "void main() {}\n" + "`" * count
+
+
 @dataclass(frozen=True)
 class Sizes:
     """What a table is of: its name, a line about it, what it counts, and the sizes that are measured."""
@@ -173,6 +178,8 @@ FAMILIES = (
            (5_000, 10_000, 20_000), loops_around_writes),
     Family("levels", "nested loops with 100 writes each", "loops", (24, 49, 98), loops_with_writes),
     Family("errors", "an error in every tenth line", "errors", (2_500, 5_000, 10_000), errors_in_lines, for_each=("undefined_name",)),
+    Family("backticks", "characters that begin no lexeme, each an error", "errors", (100_000, 200_000, 400_000), backticks,
+           for_each=("illegal_character",)),
 )
 
 

@@ -55,11 +55,7 @@ fn put_in_place(contents: &mut Contents, id: PlainText, overlays: Overlays) -> S
 }
 
 /// The files change, gain or lose their texts, all of them or none.
-fn update(
-    contents: &mut Contents,
-    id: PlainText,
-    files: &[FileOverlay],
-) -> Result<Said, AllocError>
+fn update(contents: &mut Contents, id: PlainText, files: &[FileOverlay]) -> Result<Said, AllocError>
     ensures { IfOk result (λ said. Gives said contents.new (update_turn contents.old id files.now)) }
 {
     let mut overlays = contents.overlays.copy()?;
