@@ -45,7 +45,7 @@ pub record ServeOutput (told : Option Stored) (input : List ℕ) (old new left :
   pub end : ServeEnd
   pub status_is : status ≡ status_for end
   pub counts : CountsShortage end shortages shortages'
-  pub served : Served (λ _. false) (λ s. reply_to s told) (λ s. state_after s told) max_line input_limit at_start input old new left faults faults' end
+  pub served : Served (λ _. false) (λ s. reply_to s told) (λ s. state_after s told) MAX_LINE input_limit at_start input old new left faults faults' end
 
 -- a front of the usage line that isn't all of it
 abbrev pub PartOfUsage : Option (List ℕ) → Option (List ℕ) → Type 0
