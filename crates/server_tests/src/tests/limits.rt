@@ -2,6 +2,7 @@
 
 use super::{Fails, Part, bytes_of, ran, store};
 use dart_server::Status;
+use std::alloc::Global;
 use std::test::Fail;
 
 /// 64 letters.
@@ -392,6 +393,15 @@ const TABLE: [(&[Part], &[&str]); 6] = [
     ),
 ];
 
+/// The bytes of these replies, one after another.
+fn joined(alloc: Global, replies: &[&str]) -> Result<Vec<u8>, Fail> {
+    let mut bytes = Vec::new(alloc);
+    for reply in replies {
+        bytes.extend_from_slice(reply.as_bytes())?;
+    }
+    Ok(bytes)
+}
+
 #[test]
 fn limits_are_kept(rt: HostRuntime) -> Result<(), Fail> {
     let alloc = rt.alloc();
@@ -399,10 +409,7 @@ fn limits_are_kept(rt: HostRuntime) -> Result<(), Fail> {
         let mut files = store(&rt, alloc, "/a.dart", b"", Fails::Store(0))?;
         let input = bytes_of(alloc, session)?;
         let (status, written) = ran(alloc, &["serve"], input, &mut files, Fails::Nothing)?;
-        let mut expected = Vec::new(alloc);
-        for reply in replies {
-            expected.extend_from_slice(reply.as_bytes())?;
-        }
+        let expected = joined(alloc, replies)?;
         assert_eq!(rt; status, Status::Done, "row {number}");
         assert!(rt; written.as_slice() == expected.as_slice(), "row {number}");
     }
