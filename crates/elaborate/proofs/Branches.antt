@@ -3,14 +3,15 @@ use Rattle.std.proofs.Common.{◌≡◌, Bool, true, false, Option, Some, None, 
 use Rattle.std.specs.Prelude.{[]}
 use Rattle.std.specs.Option.{option_map_or}
 use Rattle.std.specs.FinMap.{get}
-use Rattle.std.proofs.lemmas.Bool.{cond_both}
-use Rattle.dart_tree.specs.Tree.{Tree, name, integer, boolean, binary}
+use Rattle.std.proofs.lemmas.Bool.{and_parts, cond_both}
+use Rattle.dart_tree.specs.Tree.{Tree, name, integer, boolean, null_literal, binary}
 use Rattle.dart_tree.specs.Places.{place_of}
 use Rattle.dart_tree.specs.declared.places.Place.{Place}
 use Rattle.dart_tree.specs.declared.places.Span.{Span}
+use Rattle.dart_tree.specs.declared.nodes.IntegerLiteral.{IntegerLiteral}
 use Rattle.dart_tree.specs.declared.nodes.OperatorKind.{OperatorKind}
 use Rattle.dart_tree.specs.declared.nodes.OperatorKind.TheVariants.{Plus, Less, NotEqual}
-use Rattle.flow_model.specs.Ty.{Ty, int}
+use Rattle.flow_model.specs.Ty.{Ty, invalid, never, null, int, bool, nullable}
 use Rattle.flow_model.specs.Sub.{no_rows}
 use Rattle.flow_model.specs.Flow.{FlowModel, facts_of, at_local, current_of}
 use Rattle.flow_model.specs.Steps.{exit_of, non_null_facts}
@@ -19,10 +20,12 @@ use Rattle.flow_model.specs.declared.locals.LocalId.{LocalId}
 use Rattle.judgement.specs.declared.DiagnosticCode.{DiagnosticCode}
 use Rattle.judgement.specs.declared.DiagnosticCode.TheVariants.{IntegerLiteralOutOfRange, ReferencedBeforeDeclaration, UnassignedRead, UndefinedName}
 use Rattle.judgement.specs.Names.{Names}
-use Rattle.judgement.specs.Rows.{Value, of_type, faulty, is_in_range, read_row, where_not_null, operator_row}
-use Rattle.judgement.specs.Judgement.{compared_local, evaluate}
+use Rattle.judgement.specs.Rows.{Value, exit_by, exits_if_never, of_type, faulty, is_in_range, integer_row, boolean_row, name_row, read_row, where_not_null, operator_row}
+use Rattle.judgement.specs.Judgement.{compared_local, form_row, evaluate}
 use Rattle.elaborate.specs.Frame.{Frame}
+use Rattle.elaborate.specs.Forms.{is_expression}
 use Rattle.elaborate.proofs.Claims.{IsGood}
+use Rattle.elaborate.proofs.Judged.{value_stays, after_same, binary_clean, binary_is}
 use Rattle.elaborate.proofs.Models.{Carries, carries_itself, not_null_carries, exit_carries}
 
 -- what is known where a branch begins, from what is known before it
@@ -58,10 +61,17 @@ named_leaves : (at : Place) (meaning : Option LocalId) (m : FlowModel) → Leave
 named_leaves at None m = faulty_leaves at UndefinedName m
 named_leaves at (Some var) m = read_leaves at (facts_of m var) m
 
+-- a literal
+integer_leaves : (at : Place) (literal : IntegerLiteral) (m : FlowModel) → Leaves m (integer_row at literal m)
+integer_leaves at literal m =
+    cond_both (is_in_range literal) (of_type int m) (faulty at IntegerLiteralOutOfRange m) (Leaves m)
+    (λ within. of_type_leaves int m)
+    (λ beyond. faulty_leaves at IntegerLiteralOutOfRange m)
+
 -- `true` or `false`
-boolean_leaves : (names : Names) (at : Place) (value : Bool) (m : FlowModel) → Leaves m (evaluate no_rows names (boolean at value) m)
-boolean_leaves names at true m = record { after = refl; when_true = stays; when_false = leaves }
-boolean_leaves names at false m = record { after = refl; when_true = leaves; when_false = stays }
+boolean_leaves : (value : Bool) (m : FlowModel) → Leaves m (boolean_row value m)
+boolean_leaves true m = record { after = refl; when_true = stays; when_false = leaves }
+boolean_leaves false m = record { after = refl; when_true = leaves; when_false = stays }
 
 -- where a local isn't null, if there is one
 not_null_branch : (compared : Option LocalId) (m : FlowModel) → Branch m (where_not_null compared m)
@@ -86,18 +96,21 @@ operator_leaves NotEqual span at compared m left right same = record {
   when_false = subst (λ (n : FlowModel). Branch m n) (sym same) stays;
 }
 
--- an expression
-pub value_leaves : (names : Names) (tree : Tree) (m : FlowModel) → Leaves m (evaluate no_rows names tree m)
-value_leaves names (name at word) m = named_leaves at (get names word) m
-value_leaves names (integer at literal) m =
-    cond_both (is_in_range literal) (of_type int m) (faulty at IntegerLiteralOutOfRange m) (Leaves m)
-    (λ within. of_type_leaves int m)
-    (λ beyond. faulty_leaves at IntegerLiteralOutOfRange m)
-value_leaves names (boolean at value) m = boolean_leaves names at value m
-value_leaves names (binary at operator left right) m =
-    operator_leaves operator.kind operator.span (place_of right) (compared_local names left right) m (evaluate no_rows names left m) (evaluate no_rows names right (evaluate no_rows names left m).after)
-    ((value_leaves names right (evaluate no_rows names left m).after).after ∙ (value_leaves names left m).after)
-value_leaves names _ m = record { after = refl; when_true = stays; when_false = stays }
+-- an expression in which nothing is wrong
+pub value_leaves : (frame : Frame) (names : Names) (tree : Tree) (m : FlowModel) → IsGood frame m → IsTrue (is_expression tree) → (evaluate no_rows names tree m).faults ≡ [] → Leaves m (evaluate no_rows names tree m)
+value_leaves frame names (name at word) m good form clean =
+    subst (λ (v : Value). Leaves m v) (sym (value_stays frame names (name at word) m good form clean).is) (named_leaves at (get names word) m)
+value_leaves frame names (integer at literal) m good form clean =
+    subst (λ (v : Value). Leaves m v) (sym (value_stays frame names (integer at literal) m good form clean).is) (integer_leaves at literal m)
+value_leaves frame names (boolean at value) m good form clean =
+    subst (λ (v : Value). Leaves m v) (sym (value_stays frame names (boolean at value) m good form clean).is) (boolean_leaves value m)
+value_leaves frame names (null_literal at) m good form clean = of_type_leaves null m
+value_leaves frame names (binary at operator left right) m good form clean =
+    let forms = and_parts (is_expression left) (is_expression right) form in
+    let sides = binary_clean frame names at operator left right m good form clean in
+    subst (λ (v : Value). Leaves m v) (sym (binary_is frame names at operator left right m good form clean))
+    (operator_leaves operator.kind operator.span (place_of right) (compared_local names left right) m (evaluate no_rows names left m) (evaluate no_rows names right m) (after_same frame names right m good forms.1 sides.right_clean))
+value_leaves frame names _ m good form clean = absurd cc
 
 -- a branch carries a good model
 pub branch_carries : (frame : Frame) (m n : FlowModel) → IsGood frame m → Branch m n → Carries frame [] m n
@@ -110,3 +123,59 @@ pub branch_reached : (m n : FlowModel) → Branch m n → IsTrue n.reachable →
 branch_reached m n stays reached = reached
 branch_reached m n leaves reached = cc
 branch_reached m n (not_null var) reached = reached
+
+-- what is reached after an expression, and where it is true and false, was reached before it
+pub record Backs (m : FlowModel) (value : Value) : Type 0 where
+  pub after : IsTrue value.after.reachable → IsTrue m.reachable
+  pub when_true : IsTrue value.when_true.reachable → IsTrue m.reachable
+  pub when_false : IsTrue value.when_false.reachable → IsTrue m.reachable
+
+-- so it is of what leaves all as it is but for a branch
+leaves_backs : (m : FlowModel) (value : Value) → Leaves m value → Backs m value
+leaves_backs m value is = record {
+  after = λ reached. subst (λ (n : FlowModel). IsTrue n.reachable) is.after reached;
+  when_true = branch_reached m value.when_true is.when_true;
+  when_false = branch_reached m value.when_false is.when_false;
+}
+
+-- what is reached behind a type was reached before it
+exit_reached : (t : Ty) (n : FlowModel) → IsTrue (exit_by t n).reachable → IsTrue n.reachable
+exit_reached invalid n reached = reached
+exit_reached never n reached = cc
+exit_reached null n reached = reached
+exit_reached int n reached = reached
+exit_reached bool n reached = reached
+exit_reached (nullable bare) n reached = reached
+
+-- so it is of what may exit
+exits_backs : (m : FlowModel) (value : Value) → Backs m value → Backs m (exits_if_never value)
+exits_backs m value backs = record {
+  after = λ reached. backs.after (exit_reached value.ty value.after reached);
+  when_true = λ reached. backs.when_true (exit_reached value.ty value.when_true reached);
+  when_false = λ reached. backs.when_false (exit_reached value.ty value.when_false reached);
+}
+
+-- where a local isn't null it is reached as often
+not_null_reached : (compared : Option LocalId) (n : FlowModel) → IsTrue (where_not_null compared n).reachable → IsTrue n.reachable
+not_null_reached None n reached = reached
+not_null_reached (Some var) n reached = reached
+
+-- of an operator, whose sides are judged one after the other
+operator_backs : (kind : OperatorKind) (span : Span) (at : Place) (compared : Option LocalId) (m : FlowModel) (left right : Value) → (IsTrue right.after.reachable → IsTrue m.reachable) → Backs m (operator_row no_rows kind span at compared left right)
+operator_backs Plus span at compared m left right back = record { after = back; when_true = back; when_false = back }
+operator_backs Less span at compared m left right back = record { after = back; when_true = back; when_false = back }
+operator_backs NotEqual span at compared m left right back =
+    record { after = back; when_true = λ reached. back (not_null_reached compared right.after reached); when_false = back }
+
+-- and of each expression
+pub value_backs : (names : Names) (tree : Tree) (m : FlowModel) → Backs m (evaluate no_rows names tree m)
+value_backs names (name at word) m = exits_backs m (name_row names at word m) (leaves_backs m (name_row names at word m) (named_leaves at (get names word) m))
+value_backs names (integer at literal) m = exits_backs m (integer_row at literal m) (leaves_backs m (integer_row at literal m) (integer_leaves at literal m))
+value_backs names (boolean at value) m = exits_backs m (boolean_row value m) (leaves_backs m (boolean_row value m) (boolean_leaves value m))
+value_backs names (null_literal at) m = leaves_backs m (of_type null m) (of_type_leaves null m)
+value_backs names (binary at operator left right) m =
+    let l = evaluate no_rows names left m in
+    let r = evaluate no_rows names right l.after in
+    exits_backs m (form_row no_rows names (binary at operator left right) m)
+    (operator_backs operator.kind operator.span (place_of right) (compared_local names left right) m l r (λ reached. (value_backs names left m).after ((value_backs names right l.after).after reached)))
+value_backs names _ m = leaves_backs m (of_type invalid m) (of_type_leaves invalid m)

@@ -3,6 +3,7 @@ use Rattle.std.proofs.Common.{◌≡◌, ◌≢◌, ℕ, ◌≤◌, Bool, true, 
 use Rattle.std.specs.Prelude.{IsTrue, All, ◌||◌}
 use Rattle.std.specs.Option.{option_map_or, option_map}
 use Rattle.std.specs.FinMap.{get}
+use Rattle.std.proofs.lemmas.Bool.{and_parts}
 use Rattle.std.proofs.lemmas.List.Elements.{All-nil}
 use Rattle.dart_tree.specs.Tree.{Tree, name, integer, boolean, null_literal, binary}
 use Rattle.dart_tree.specs.Places.{place_of}
@@ -22,7 +23,7 @@ use Rattle.flow_model.proofs.Scopes.{facts_of-at_local_same, facts_of-at_local_o
 use Rattle.judgement.specs.declared.DiagnosticCode.TheVariants.{ConditionNotBool, IntegerLiteralOutOfRange, UnassignedRead, UndefinedName}
 use Rattle.judgement.specs.Names.{Names}
 use Rattle.judgement.specs.Rows.{Value, of_type, faulty, fault_at, is_in_range, read_row, fits, where_not_null, operator_row, condition_faults}
-use Rattle.judgement.specs.Judgement.{is_null_literal, compared_local, evaluate}
+use Rattle.judgement.specs.Judgement.{is_null_literal, compared_local, form_row, evaluate}
 use Rattle.core_ir.specs.PointFacts.{PointFacts}
 use Rattle.core_ir.specs.Program.{Program}
 use Rattle.core_ir.specs.declared.facts.Held.TheVariants.{Own}
@@ -42,7 +43,7 @@ use Rattle.elaborate.proofs.Claims.{Fits, IsGood, IsOver, IsSafe, GoesOn}
 use Rattle.elaborate.proofs.TypeLaws.{tested_type_fits}
 use Rattle.elaborate.proofs.Purposes.{IsAt, known_at}
 use Rattle.elaborate.proofs.Steps.{implies_with_none, leads_known}
-use Rattle.elaborate.proofs.Judged.{Reads, after_same, binary_is, name_reads, both_empty, value_simple, fits_below}
+use Rattle.elaborate.proofs.Judged.{Reads, value_stays, after_same, binary_clean, binary_is, name_reads, both_empty, value_simple, fits_below}
 use Rattle.elaborate.proofs.Operands.{IsReady, known_local, scope_slot, name_ready, operand_ready}
 use Rattle.elaborate.proofs.Operators.{all_one, all_two}
 use Rattle.elaborate.proofs.LocalPoints.{IsSameElsewhere, local_leads, own_implies}
@@ -80,33 +81,36 @@ no_local true = refl
 no_local false = refl
 
 -- a comparison of a local with null, on either side
-tests_compared : (names : Names) (left right : Tree) (m : FlowModel) (word : ℕ) → compared_word left right ≡ Some word → (evaluate no_rows names left m).faults ≡ [] → (evaluate no_rows names right m).faults ≡ []
+tests_compared : (frame : Frame) (names : Names) (left right : Tree) (m : FlowModel) (word : ℕ) → IsGood frame m → compared_word left right ≡ Some word → (evaluate no_rows names left m).faults ≡ [] → (evaluate no_rows names right m).faults ≡ []
     → Tests names m word (where_not_null (compared_local names left right) (evaluate no_rows names right m).after) (evaluate no_rows names right m).after
-tests_compared names (name at w) (null_literal at_null) m word is left_clean right_clean =
+tests_compared frame names (name at w) (null_literal at_null) m word good is left_clean right_clean =
     let same : w ≡ word = cc in
     subst (λ (x : ℕ). Tests names m x (where_not_null (get names w) m) m) same (tests_read names m m w _ (name_reads names at w m left_clean) refl)
-tests_compared names (null_literal at_null) (name at w) m word is left_clean right_clean =
+tests_compared frame names (null_literal at_null) (name at w) m word good is left_clean right_clean =
     let same : w ≡ word = cc in
     let after = (evaluate no_rows names (name at w) m).after in
-    subst (λ (x : ℕ). Tests names m x (where_not_null (get names w) after) after) same (tests_read names m after w _ (name_reads names at w m right_clean) (after_same no_rows names (name at w) m))
-tests_compared names left right m word is left_clean right_clean = absurd (some_word (is_null_literal right) word is)
+    subst (λ (x : ℕ). Tests names m x (where_not_null (get names w) after) after) same
+    (tests_read names m after w _ (name_reads names at w m right_clean) (after_same frame names (name at w) m good refl right_clean))
+tests_compared frame names left right m word good is left_clean right_clean = absurd (some_word (is_null_literal right) word is)
 
 -- an operator that tests a word
-tests_operator : (names : Names) (operator : OperatorKind) (span : Span) (at : Place) (left right : Tree) (m : FlowModel) (word : ℕ) → tested_by operator left right ≡ Some word
+tests_operator : (frame : Frame) (names : Names) (operator : OperatorKind) (span : Span) (at : Place) (left right : Tree) (m : FlowModel) (word : ℕ) → IsGood frame m → tested_by operator left right ≡ Some word
     → (operator_row no_rows operator span at (compared_local names left right) (evaluate no_rows names left m) (evaluate no_rows names right m)).faults ≡ []
     → Tests names m word (operator_row no_rows operator span at (compared_local names left right) (evaluate no_rows names left m) (evaluate no_rows names right m)).when_true
     (operator_row no_rows operator span at (compared_local names left right) (evaluate no_rows names left m) (evaluate no_rows names right m)).when_false
-tests_operator names Plus span at left right m word is clean = absurd cc
-tests_operator names Less span at left right m word is clean = absurd cc
-tests_operator names NotEqual span at left right m word is clean = let both = both_empty (evaluate no_rows names left m).faults (evaluate no_rows names right m).faults clean in tests_compared names left right m word is both.0 both.1
+tests_operator frame names Plus span at left right m word good is clean = absurd cc
+tests_operator frame names Less span at left right m word good is clean = absurd cc
+tests_operator frame names NotEqual span at left right m word good is clean =
+    let both = both_empty (evaluate no_rows names left m).faults (evaluate no_rows names right m).faults clean in tests_compared frame names left right m word good is both.0 both.1
 
 -- a condition that tests a word
-pub condition_tests : (names : Names) (tree : Tree) (m : FlowModel) (word : ℕ) → tested_word tree ≡ Some word → (evaluate no_rows names tree m).faults ≡ [] → Tests names m word (evaluate no_rows names tree m).when_true (evaluate no_rows names tree m).when_false
-condition_tests names (binary at operator left right) m word is clean =
-    let row = binary_is no_rows names at operator left right m in
-    let tests = tests_operator names operator.kind operator.span (place_of right) left right m word is (sym (ap (λ (v : Value). v.faults) row) ∙ clean) in
+pub condition_tests : (frame : Frame) (names : Names) (tree : Tree) (m : FlowModel) (word : ℕ) → IsGood frame m → IsTrue (is_expression tree) → tested_word tree ≡ Some word → (evaluate no_rows names tree m).faults ≡ []
+    → Tests names m word (evaluate no_rows names tree m).when_true (evaluate no_rows names tree m).when_false
+condition_tests frame names (binary at operator left right) m word good form is clean =
+    let row = binary_is frame names at operator left right m good form clean in
+    let tests = tests_operator frame names operator.kind operator.span (place_of right) left right m word good is (sym (ap (λ (v : Value). v.faults) row) ∙ clean) in
     subst (λ (v : Value). Tests names m word v.when_true v.when_false) (sym row) tests
-condition_tests names _ m word is clean = absurd cc
+condition_tests frame names _ m word good form is clean = absurd cc
 
 -- where nothing is known beside what was before, whether the condition is true or false
 abbrev IsEven : FlowModel → Value → Type 0
@@ -145,10 +149,13 @@ even_operator names Less span at left right m l r none is = (is, is)
 even_operator names NotEqual span at left right m l r none is = (ap (λ (found : Option LocalId). where_not_null found r.after) (compared_none names left right none) ∙ is, is)
 
 -- an expression of an operator that tests no word
-even_binary : (names : Names) (at : Place) (operator : Operator) (left right : Tree) (m : FlowModel) → tested_by operator.kind left right ≡ None → IsEven m (evaluate no_rows names (binary at operator left right) m)
-even_binary names at operator left right m none =
-    subst (λ (v : Value). IsEven m v) (sym (binary_is no_rows names at operator left right m))
-    (even_operator names operator.kind operator.span (place_of right) left right m (evaluate no_rows names left m) (evaluate no_rows names right m) none (after_same no_rows names right m))
+even_binary : (frame : Frame) (names : Names) (at : Place) (operator : Operator) (left right : Tree) (m : FlowModel) → IsGood frame m → IsTrue (is_expression (binary at operator left right))
+    → (evaluate no_rows names (binary at operator left right) m).faults ≡ [] → tested_by operator.kind left right ≡ None → IsEven m (evaluate no_rows names (binary at operator left right) m)
+even_binary frame names at operator left right m good form clean none =
+    let forms = and_parts (is_expression left) (is_expression right) form in
+    let sides = binary_clean frame names at operator left right m good form clean in
+    subst (λ (v : Value). IsEven m v) (sym (binary_is frame names at operator left right m good form clean))
+    (even_operator names operator.kind operator.span (place_of right) left right m (evaluate no_rows names left m) (evaluate no_rows names right m) none (after_same frame names right m good forms.1 sides.right_clean))
 
 -- a run goes on from a branch, where the condition tests no word
 module _ (p : Program) (frame : Frame) (names : Names) (m : FlowModel) (held : List Temporary) (when_true when_false : ℕ) (over : IsOver frame p) (reached : IsTrue m.reachable) where
@@ -161,15 +168,26 @@ module _ (p : Program) (frame : Frame) (names : Names) (m : FlowModel) (held : L
       → All (Leads p) (record { next = to when_true; known = known_of (facts_for frame m held) } ∷ (record { next = to when_false; known = known_of (facts_for frame m held) } ∷ []))
   two_ways v even goes_true goes_false = all_two (Leads p) _ _ (one_way v.when_true when_true even.0 goes_true) (one_way v.when_false when_false even.1 goes_false)
 
+  -- the two ways of an expression that gives what its form does
+  two_ways_of : (tree : Tree) → evaluate no_rows names tree m ≡ form_row no_rows names tree m → IsEven m (form_row no_rows names tree m)
+      → GoesOn p frame (evaluate no_rows names tree m).when_true [] when_true → GoesOn p frame (evaluate no_rows names tree m).when_false [] when_false
+      → All (Leads p) (record { next = to when_true; known = known_of (facts_for frame m held) } ∷ (record { next = to when_false; known = known_of (facts_for frame m held) } ∷ []))
+  two_ways_of tree is even goes_true goes_false = two_ways (evaluate no_rows names tree m) (subst (λ (v : Value). IsEven m v) (sym is) even) goes_true goes_false
+
   -- its ways: of a branch on a constant the one that it takes
-  branch_ways : (tree : Tree) → tested_word tree ≡ None → GoesOn p frame (evaluate no_rows names tree m).when_true [] when_true → GoesOn p frame (evaluate no_rows names tree m).when_false [] when_false
+  branch_ways : (tree : Tree) → IsGood frame m → IsTrue (is_expression tree) → (evaluate no_rows names tree m).faults ≡ [] → tested_word tree ≡ None
+      → GoesOn p frame (evaluate no_rows names tree m).when_true [] when_true → GoesOn p frame (evaluate no_rows names tree m).when_false [] when_false
       → All (Leads p) (ways p (facts_for frame m held) (Branch (operand_of frame names 0 tree) (to when_true) (to when_false)))
-  branch_ways (name at word) none goes_true goes_false = two_ways (evaluate no_rows names (name at word) m) (even_name at m (get names word)) goes_true goes_false
-  branch_ways (integer at literal) none goes_true goes_false = two_ways (evaluate no_rows names (integer at literal) m) (even_integer at m (is_in_range literal)) goes_true goes_false
-  branch_ways (boolean at true) none goes_true goes_false = all_one (Leads p) _ (one_way m when_true refl goes_true)
-  branch_ways (boolean at false) none goes_true goes_false = all_one (Leads p) _ (one_way m when_false refl goes_false)
-  branch_ways (binary at operator left right) none goes_true goes_false = two_ways (evaluate no_rows names (binary at operator left right) m) (even_binary names at operator left right m none) goes_true goes_false
-  branch_ways _ none goes_true goes_false = two_ways (of_type invalid m) (refl, refl) goes_true goes_false
+  branch_ways (name at word) good form clean none goes_true goes_false =
+      two_ways_of (name at word) (value_stays frame names (name at word) m good form clean).is (even_name at m (get names word)) goes_true goes_false
+  branch_ways (integer at literal) good form clean none goes_true goes_false =
+      two_ways_of (integer at literal) (value_stays frame names (integer at literal) m good form clean).is (even_integer at m (is_in_range literal)) goes_true goes_false
+  branch_ways (boolean at true) good form clean none goes_true goes_false = all_one (Leads p) _ (one_way m when_true refl goes_true)
+  branch_ways (boolean at false) good form clean none goes_true goes_false = all_one (Leads p) _ (one_way m when_false refl goes_false)
+  branch_ways (null_literal at) good form clean none goes_true goes_false = two_ways_of (null_literal at) refl (refl, refl) goes_true goes_false
+  branch_ways (binary at operator left right) good form clean none goes_true goes_false =
+      two_ways (evaluate no_rows names (binary at operator left right) m) (even_binary frame names at operator left right m good form clean none) goes_true goes_false
+  branch_ways _ good form clean none goes_true goes_false = absurd cc
 
 -- a condition in which nothing is wrong is a bool
 bool_where_clean : (at : Place) (fitting : Bool) → (if fitting then [] else fault_at at ConditionNotBool) ≡ [] → IsTrue fitting
@@ -188,7 +206,7 @@ branch_safe p frame names source tree m n when_true when_false over good form cl
     read = all_one (IsReadable f) (operand_of frame names 0 tree) ready.readable;
     stored = All-nil (FitsDeclared p);
     asked = all_one (FitsAsked p f) _ (subst (λ (t : Ty). IsTrue (sub no_rows t bool)) (sym ready.typed) below);
-    leads = branch_ways p frame names m (held_for 0 tree) when_true when_false over reached tree none goes_true goes_false;
+    leads = branch_ways p frame names m (held_for 0 tree) when_true when_false over reached tree good form clean none goes_true goes_false;
   };
 }
   where

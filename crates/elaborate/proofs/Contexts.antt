@@ -29,7 +29,7 @@ use Rattle.elaborate.specs.Forms.{is_expression, is_expression_part, is_written_
 use Rattle.elaborate.proofs.Claims.{is_shape, IsGood, Implies}
 use Rattle.elaborate.proofs.Models.{Keeps, Carries, keeps_itself, keeps_through, unlisted_parts, carries_itself, carries_through, write_carries, loop_carries}
 use Rattle.elaborate.proofs.Meetings.{met, join_carries, order_kept, order_declared, facts_of-end_kept, end_good, declare_good, declare_keeps, initialize_keeps}
-use Rattle.elaborate.proofs.Branches.{Branch, value_leaves, branch_carries, branch_reached}
+use Rattle.elaborate.proofs.Branches.{Branch, value_leaves, value_backs, branch_carries, branch_reached}
 use Rattle.elaborate.proofs.Implications.{contained_found, first_implied, second_implied, loop_implied, back_to_head, scope_ends}
 use Rattle.elaborate.proofs.Ahead.{AreAhead, IsListed, IsFresh, ahead_front, ahead_back, ahead_at, ahead_after, is_present, scope_after, undeclared}
 use Rattle.elaborate.proofs.Meant.{IsMeant, IsReady, AreReady, ready_within, ready_first, ready_rest}
@@ -113,24 +113,26 @@ branch_order : (frame : Frame) (m n : FlowModel) (written : List LocalId) → Is
 branch_order frame m n written order carries = order_kept n m carries.scope order
 
 -- the form of an `if`
-if_form : (c t : Tree) (e : Part) → IsTrue (is_expression c && is_block t && is_statement t && is_block_part e) → (IsTrue (is_block t)) × (IsTrue (is_statement t)) × (IsTrue (is_block_part e))
+if_form : (c t : Tree) (e : Part) → IsTrue (is_expression c && is_block t && is_statement t && is_block_part e) → (IsTrue (is_block t)) × (IsTrue (is_statement t)) × (IsTrue (is_block_part e)) × (IsTrue (is_expression c))
 if_form c t e form =
     let last = and_parts (is_expression c && is_block t && is_statement t) (is_block_part e) form in
     let second = and_parts (is_expression c && is_block t) (is_statement t) last.0 in
-    ((and_parts (is_expression c) (is_block t) second.0).1, second.1, last.1)
+    let first = and_parts (is_expression c) (is_block t) second.0 in
+    (first.1, second.1, last.1, first.0)
 
 -- the form of a loop
-while_form : (c b : Tree) → IsTrue (is_expression c && is_block b && is_statement b) → (IsTrue (is_block b)) × (IsTrue (is_statement b))
+while_form : (c b : Tree) → IsTrue (is_expression c && is_block b && is_statement b) → (IsTrue (is_block b)) × (IsTrue (is_statement b)) × (IsTrue (is_expression c))
 while_form c b form =
     let second = and_parts (is_expression c && is_block b) (is_statement b) form in
-    ((and_parts (is_expression c) (is_block b) second.0).1, second.1)
+    let first = and_parts (is_expression c) (is_block b) second.0 in
+    (first.1, second.1, first.0)
 
 -- the first block of an `if` stands where the condition is true
 pub context_then : (frame : Frame) (names : Names) (at : Place) (c t : Tree) (e : Part) (m : FlowModel) → Context frame names (if_statement at c t e) m
     → (evaluate no_rows names c m).faults ≡ [] → Context frame names t (evaluate no_rows names c m).when_true
 context_then frame names at c t e m context clean =
     let n = (evaluate no_rows names c m).when_true in
-    let carries = branch_carries frame m n context.good (value_leaves names c m).when_true in
+    let carries = branch_carries frame m n context.good (value_leaves frame names c m context.good (if_form c t e context.form).3 clean).when_true in
     let forms = if_form c t e context.form in
     record {
       form = forms.1;
@@ -141,10 +143,11 @@ context_then frame names at c t e m context clean =
     }
 
 -- where the second block of an `if` stands, if there is one
-context_otherwise : (frame : Frame) (names : Names) (at : Place) (c t : Tree) (e : Part) (m : FlowModel) → Context frame names (if_statement at c t e) m → ContextPart frame e (evaluate no_rows names c m).when_false
-context_otherwise frame names at c t e m context =
+context_otherwise : (frame : Frame) (names : Names) (at : Place) (c t : Tree) (e : Part) (m : FlowModel) → Context frame names (if_statement at c t e) m
+    → (evaluate no_rows names c m).faults ≡ [] → ContextPart frame e (evaluate no_rows names c m).when_false
+context_otherwise frame names at c t e m context clean =
     let n = (evaluate no_rows names c m).when_false in
-    let carries = branch_carries frame m n context.good (value_leaves names c m).when_false in
+    let carries = branch_carries frame m n context.good (value_leaves frame names c m context.good (if_form c t e context.form).3 clean).when_false in
     record {
       form = (if_form c t e context.form).2;
       good = carries.good;
@@ -168,7 +171,7 @@ context_present frame names tree m context =
 pub context_else : (frame : Frame) (names : Names) (at : Place) (c t e : Tree) (m : FlowModel) → Context frame names (if_statement at c t (present e)) m
     → (evaluate no_rows names c m).faults ≡ [] → Context frame names e (evaluate no_rows names c m).when_false
 context_else frame names at c t e m context clean =
-    context_present frame names e (evaluate no_rows names c m).when_false (context_otherwise frame names at c t (present e) m context)
+    context_present frame names e (evaluate no_rows names c m).when_false (context_otherwise frame names at c t (present e) m context clean)
 
 -- what is known at the head of a loop is good
 pub good_head : (frame : Frame) (names : Names) (at : Place) (c b : Tree) (m : FlowModel) → Context frame names (while_statement at c b) m → IsGood frame (loop_head m (written_in names b))
@@ -181,7 +184,7 @@ context_body frame names at c b m context clean =
     let head = loop_head m (written_in names b) in
     let n = (evaluate no_rows names c head).when_true in
     let carries_head = loop_carries frame m (written_in names b) context.good in
-    let carries = branch_carries frame head n carries_head.good (value_leaves names c head).when_true in
+    let carries = branch_carries frame head n carries_head.good (value_leaves frame names c head carries_head.good (while_form c b context.form).2 clean).when_true in
     let forms = while_form c b context.form in
     record {
       form = forms.1;
@@ -267,8 +270,9 @@ declared_meaning frame names at declared variable absent m context clean =
 declared_meaning frame names at declared variable (present value) m context clean =
     let given = evaluate no_rows names value m in
     let row = λ (n : FlowModel). initialize_row no_rows names variable (type_of declared) (place_of value) given.ty n in
-    let later : (row given.after).faults ≡ [] = (both_empty given.faults (row given.after).faults clean).1 in
-    let here : (row m).faults ≡ [] = subst (λ (n : FlowModel). (row n).faults ≡ []) (value_leaves names value m).after later in
+    let cleans = both_empty given.faults (row given.after).faults clean in
+    let value_form = (and_parts (is_written_type declared) (is_expression value) context.form).1 in
+    let here : (row m).faults ≡ [] = subst (λ (n : FlowModel). (row n).faults ≡ []) (value_leaves frame names value m context.good value_form cleans.0).after cleans.1 in
     means_own names variable m (fit_faults no_rows (place_of value) given.ty (type_of declared))
     (λ var. record {
       after = at_local (declare_of m (declared_local (type_of declared) var true)) var (assign_facts no_rows given.ty);
@@ -307,7 +311,9 @@ declare_runs frame names at declared variable (present value) m context clean =
       faults = fit_faults no_rows (place_of value) given.ty (type_of declared);
     } in
     let written = write_carries frame (declare_of m local) (local_of variable) given.ty (declare_good frame m local context.good means.1 shape) in
-    subst (λ (n : FlowModel). Runs frame names (declare at declared variable (present value)) m (row n).after) (sym (value_leaves names value m).after)
+    let value_clean = (both_empty given.faults (row given.after).faults clean).0 in
+    let value_form = (and_parts (is_written_type declared) (is_expression value) context.form).1 in
+    subst (λ (n : FlowModel). Runs frame names (declare at declared variable (present value)) m (row n).after) (sym (value_leaves frame names value m context.good value_form value_clean).after)
     (subst (λ (outcome : Outcome). Runs frame names (declare at declared variable (present value)) m outcome.after) (sym (declaring_own names variable m (fit_faults no_rows (place_of value) given.ty (type_of declared)) answer means.0 means.2))
     (record { good = written.good; scope = written.scope; keeps = initialize_keeps m local given.ty means.2 }))
 
@@ -323,16 +329,16 @@ assign_carries_meaning frame target at ty m (Some var) good =
     write_carries_found frame target at ty m var (facts_of m var) good
 
 -- an assignment
-assign_carries : (frame : Frame) (names : Names) (at : Place) (target : Name) (value : Tree) (m : FlowModel) → IsGood frame m → Carries frame (written_in names (assign at target value)) m (run no_rows names (assign at target value) m).after
-assign_carries frame names at target value m good =
+assign_carries : (frame : Frame) (names : Names) (at : Place) (target : Name) (value : Tree) (m : FlowModel) → IsGood frame m → IsTrue (is_expression value) → (evaluate no_rows names value m).faults ≡ [] → Carries frame (written_in names (assign at target value)) m (run no_rows names (assign at target value) m).after
+assign_carries frame names at target value m good form clean =
     let given = evaluate no_rows names value m in
-    subst (λ (n : FlowModel). Carries frame (written_in names (assign at target value)) m (assign_row no_rows names target (place_of value) given.ty n).after) (sym (value_leaves names value m).after)
+    subst (λ (n : FlowModel). Carries frame (written_in names (assign at target value)) m (assign_row no_rows names target (place_of value) given.ty n).after) (sym (value_leaves frame names value m good form clean).after)
     (assign_carries_meaning frame target.at (place_of value) given.ty m (get names target.word) good)
 
 -- an expression that stands as a statement, or is printed
-value_carries : (frame : Frame) (names : Names) (value : Tree) (m : FlowModel) → IsGood frame m → Carries frame [] m (evaluate no_rows names value m).after
-value_carries frame names value m good =
-    subst (λ (n : FlowModel). Carries frame [] m n) (sym (value_leaves names value m).after) (carries_itself frame [] m good)
+value_carries : (frame : Frame) (names : Names) (value : Tree) (m : FlowModel) → IsGood frame m → IsTrue (is_expression value) → (evaluate no_rows names value m).faults ≡ [] → Carries frame [] m (evaluate no_rows names value m).after
+value_carries frame names value m good form clean =
+    subst (λ (n : FlowModel). Carries frame [] m n) (sym (value_leaves frame names value m good form clean).after) (carries_itself frame [] m good)
 
 -- the condition of an `if` and one of its blocks
 path_carries : (frame : Frame) (written : List LocalId) (m n o : FlowModel) → IsGood frame m → Branch m n → Carries frame written n o → Carries frame written m o
@@ -340,14 +346,14 @@ path_carries frame written m n o good branch behind =
     carries_through frame [] written written m n o (λ var unlisted. (refl, unlisted)) (branch_carries frame m n good branch) behind
 
 -- a loop, whatever its body does
-while_carries : (frame : Frame) (names : Names) (at : Place) (c b : Tree) (m : FlowModel) → IsGood frame m → Carries frame (written_in names b) m (run no_rows names (while_statement at c b) m).after
-while_carries frame names at c b m good =
+while_carries : (frame : Frame) (names : Names) (at : Place) (c b : Tree) (m : FlowModel) → IsGood frame m → IsTrue (is_expression c) → (evaluate no_rows names c (loop_head m (written_in names b))).faults ≡ [] → Carries frame (written_in names b) m (run no_rows names (while_statement at c b) m).after
+while_carries frame names at c b m good form clean =
     let written = written_in names b in
     let head = loop_head m written in
     let last = (evaluate no_rows names c head).when_false in
     let at_head = loop_carries frame m written good in
     carries_through frame written [] written m head last (λ var unlisted. (unlisted, refl)) at_head
-    (branch_carries frame head last at_head.good (value_leaves names c head).when_false)
+    (branch_carries frame head last at_head.good (value_leaves frame names c head at_head.good form clean).when_false)
 
 -- a block, from what its statements leave
 block_runs : (frame : Frame) (names : Names) (at : Place) (statements : Trees) (m n : FlowModel) → Context frame names (block at statements) m → RunsAll frame (names_within names statements) statements m n → Carries frame (written_in names (block at statements)) m (end_of n (locals_of statements))
@@ -376,12 +382,12 @@ pub record Paths (frame : Frame) (names : Names) (c t : Tree) (e : Part) (m : Fl
   pub second : Carries frame (written_in_part names e) m (run_part no_rows names e (evaluate no_rows names c m).when_false).after
 
 -- from what its blocks leave
-paths_of : (frame : Frame) (names : Names) (at : Place) (c t : Tree) (e : Part) (m : FlowModel) → Context frame names (if_statement at c t e) m → Runs frame names t (evaluate no_rows names c m).when_true (run no_rows names t (evaluate no_rows names c m).when_true).after → Carries frame (written_in_part names e) (evaluate no_rows names c m).when_false (run_part no_rows names e (evaluate no_rows names c m).when_false).after → Paths frame names c t e m
-paths_of frame names at c t e m context then_runs else_carries =
+paths_of : (frame : Frame) (names : Names) (at : Place) (c t : Tree) (e : Part) (m : FlowModel) → Context frame names (if_statement at c t e) m → (evaluate no_rows names c m).faults ≡ [] → Runs frame names t (evaluate no_rows names c m).when_true (run no_rows names t (evaluate no_rows names c m).when_true).after → Carries frame (written_in_part names e) (evaluate no_rows names c m).when_false (run_part no_rows names e (evaluate no_rows names c m).when_false).after → Paths frame names c t e m
+paths_of frame names at c t e m context clean then_runs else_carries =
     let value = evaluate no_rows names c m in
     let then_after = (run no_rows names t value.when_true).after in
     let else_after = (run_part no_rows names e value.when_false).after in
-    let leaves = value_leaves names c m in
+    let leaves = value_leaves frame names c m context.good (if_form c t e context.form).3 clean in
     record {
       first = path_carries frame (written_in names t) m value.when_true then_after context.good leaves.when_true (block_carries frame names t value.when_true then_after (if_form c t e context.form).0 then_runs);
       second = path_carries frame (written_in_part names e) m value.when_false else_after context.good leaves.when_false else_carries;
@@ -416,21 +422,23 @@ mutual
   runs frame (declare at declared variable initial) names m context clean =
       declare_runs frame names at declared variable initial m context clean
   runs frame (assign at target value) names m context clean =
-      undeclaring frame names (assign at target value) m (run no_rows names (assign at target value) m).after refl (assign_carries frame names at target value m context.good)
+      undeclaring frame names (assign at target value) m (run no_rows names (assign at target value) m).after refl
+      (assign_carries frame names at target value m context.good context.form (both_empty (evaluate no_rows names value m).faults _ clean).0)
   runs frame (eval at value) names m context clean =
-      undeclaring frame names (eval at value) m (evaluate no_rows names value m).after refl (value_carries frame names value m context.good)
+      undeclaring frame names (eval at value) m (evaluate no_rows names value m).after refl (value_carries frame names value m context.good context.form (both_empty (evaluate no_rows names value m).faults [] clean).0)
   runs frame (print at value) names m context clean =
-      undeclaring frame names (print at value) m (evaluate no_rows names value m).after refl (value_carries frame names value m context.good)
+      undeclaring frame names (print at value) m (evaluate no_rows names value m).after refl (value_carries frame names value m context.good context.form (both_empty (evaluate no_rows names value m).faults [] clean).0)
   runs frame (if_statement at c t e) names m context clean =
       let value = evaluate no_rows names c m in
       let cleans = if_clean names at c t e m clean in
       let value_clean = (both_empty value.faults (condition_faults no_rows (place_of c) value.ty ++ ((run no_rows names t value.when_true).faults ++ (run_part no_rows names e value.when_false).faults)) clean).0 in
       let then_runs = runs frame t names value.when_true (context_then frame names at c t e m context value_clean) cleans.0 in
-      let else_runs = runs_part frame e names value.when_false (context_otherwise frame names at c t e m context) cleans.1 in
+      let else_runs = runs_part frame e names value.when_false (context_otherwise frame names at c t e m context value_clean) cleans.1 in
       undeclaring frame names (if_statement at c t e) m (run no_rows names (if_statement at c t e) m).after refl
-      (if_carries frame names at c t e m context.good (paths_of frame names at c t e m context then_runs else_runs))
+      (if_carries frame names at c t e m context.good (paths_of frame names at c t e m context value_clean then_runs else_runs))
   runs frame (while_statement at c b) names m context clean =
-      undeclaring frame names (while_statement at c b) m (run no_rows names (while_statement at c b) m).after refl (while_carries frame names at c b m context.good)
+      undeclaring frame names (while_statement at c b) m (run no_rows names (while_statement at c b) m).after refl
+      (while_carries frame names at c b m context.good (while_form c b context.form).2 (both_empty (evaluate no_rows names c (loop_head m (written_in names b))).faults _ clean).0)
   runs frame (block at statements) names m context clean =
       let within = names_within names statements in
       let cleans = both_empty (run_all no_rows within statements m).faults [] clean in
@@ -482,32 +490,31 @@ declaring_reached names variable m misfits answer each = at_meaning (get names v
 declare_reached : (names : Names) (at : Place) (declared : Tree) (variable : Name) (initial : Part) (m : FlowModel) → IsTrue (run no_rows names (declare at declared variable initial) m).after.reachable → IsTrue m.reachable
 declare_reached names at declared variable absent m =
     declaring_reached names variable m [] (λ var. just (declare_of m (declared_local (type_of declared) var false))) (λ var reached. reached)
-declare_reached names at declared variable (present value) m =
+declare_reached names at declared variable (present value) m = λ reached.
     let given = evaluate no_rows names value m in
-    subst (λ (n : FlowModel). IsTrue (initialize_row no_rows names variable (type_of declared) (place_of value) given.ty n).after.reachable → IsTrue m.reachable) (sym (value_leaves names value m).after)
-    (declaring_reached names variable m (fit_faults no_rows (place_of value) given.ty (type_of declared))
+    (value_backs names value m).after
+    (declaring_reached names variable given.after (fit_faults no_rows (place_of value) given.ty (type_of declared))
     (λ var. record {
-      after = at_local (declare_of m (declared_local (type_of declared) var true)) var (assign_facts no_rows given.ty);
+      after = at_local (declare_of given.after (declared_local (type_of declared) var true)) var (assign_facts no_rows given.ty);
       faults = fit_faults no_rows (place_of value) given.ty (type_of declared);
     })
-    (λ var reached. reached))
+    (λ var here. here) reached)
 
 -- an assignment
 assign_reached : (names : Names) (at : Place) (target : Name) (value : Tree) (m : FlowModel) → IsTrue (run no_rows names (assign at target value) m).after.reachable → IsTrue m.reachable
-assign_reached names at target value m =
+assign_reached names at target value m reached =
     let given = evaluate no_rows names value m in
-    subst (λ (n : FlowModel). IsTrue (assign_row no_rows names target (place_of value) given.ty n).after.reachable → IsTrue m.reachable) (sym (value_leaves names value m).after)
-    (at_meaning given.ty (get names target.word))
+    (value_backs names value m).after (at_meaning given.ty given.after (get names target.word) reached)
   where
     -- by what is known of the local
-    at_found : (ty : Ty) (var : LocalId) (found : Option Facts) → IsTrue (write_row no_rows target.at (place_of value) ty var found m).after.reachable → IsTrue m.reachable
-    at_found ty var None reached = reached
-    at_found ty var (Some local) reached = reached
+    at_found : (ty : Ty) (n : FlowModel) (var : LocalId) (found : Option Facts) → IsTrue (write_row no_rows target.at (place_of value) ty var found n).after.reachable → IsTrue n.reachable
+    at_found ty n var None here = here
+    at_found ty n var (Some local) here = here
 
     -- by what its name means
-    at_meaning : (ty : Ty) (meaning : Option LocalId) → IsTrue (option_map_or (λ var. write_row no_rows target.at (place_of value) ty var (facts_of m var) m) meaning (complains target.at UndefinedName m)).after.reachable → IsTrue m.reachable
-    at_meaning ty None reached = reached
-    at_meaning ty (Some var) reached = at_found ty var (facts_of m var) reached
+    at_meaning : (ty : Ty) (n : FlowModel) (meaning : Option LocalId) → IsTrue (option_map_or (λ var. write_row no_rows target.at (place_of value) ty var (facts_of n var) n) meaning (complains target.at UndefinedName n)).after.reachable → IsTrue n.reachable
+    at_meaning ty n None here = here
+    at_meaning ty n (Some var) here = at_found ty n var (facts_of n var) here
 
 -- where two paths meet one of them is reached
 meeting_reached : (m a b : FlowModel) → (IsTrue a.reachable → IsTrue m.reachable) → (IsTrue b.reachable → IsTrue m.reachable) → IsTrue (join_of a b).reachable → IsTrue m.reachable
@@ -523,19 +530,19 @@ mutual
       declare_reached names at declared variable initial m reached
   before_tree (assign at target value) names m reached = assign_reached names at target value m reached
   before_tree (eval at value) names m reached =
-      subst (λ (n : FlowModel). IsTrue n.reachable) (value_leaves names value m).after reached
+      (value_backs names value m).after reached
   before_tree (print at value) names m reached =
-      subst (λ (n : FlowModel). IsTrue n.reachable) (value_leaves names value m).after reached
+      (value_backs names value m).after reached
   before_tree (if_statement at c t e) names m reached =
       let value = evaluate no_rows names c m in
-      let leaves = value_leaves names c m in
+      let backs = value_backs names c m in
       meeting_reached m (run no_rows names t value.when_true).after (run_part no_rows names e value.when_false).after
-      (λ first. branch_reached m value.when_true leaves.when_true (before_tree t names value.when_true first))
-      (λ second. branch_reached m value.when_false leaves.when_false (before_part e names value.when_false second))
+      (λ first. backs.when_true (before_tree t names value.when_true first))
+      (λ second. backs.when_false (before_part e names value.when_false second))
       reached
   before_tree (while_statement at c b) names m reached =
       let head = loop_head m (written_in names b) in
-      branch_reached head (evaluate no_rows names c head).when_false (value_leaves names c head).when_false reached
+      (value_backs names c head).when_false reached
   before_tree (block at statements) names m reached =
       before_trees statements (names_within names statements) m reached
   before_tree _ names m reached = reached
@@ -561,9 +568,9 @@ if_paths frame names at c t e m context clean =
     let value = evaluate no_rows names c m in
     let cleans = if_clean names at c t e m clean in
     let value_clean = (both_empty value.faults (condition_faults no_rows (place_of c) value.ty ++ ((run no_rows names t value.when_true).faults ++ (run_part no_rows names e value.when_false).faults)) clean).0 in
-    paths_of frame names at c t e m context
+    paths_of frame names at c t e m context value_clean
     (runs frame t names value.when_true (context_then frame names at c t e m context value_clean) cleans.0)
-    (runs_part frame e names value.when_false (context_otherwise frame names at c t e m context) cleans.1)
+    (runs_part frame e names value.when_false (context_otherwise frame names at c t e m context value_clean) cleans.1)
 
 -- what is known after the first block of an `if` implies what is known after the `if`
 pub then_joins : (frame : Frame) (names : Names) (at : Place) (c t : Tree) (e : Part) (m : FlowModel) → Context frame names (if_statement at c t e) m
@@ -606,7 +613,7 @@ back_implied frame names at c b m context form clean reached =
     let good = good_head frame names at c b m context in
     let body = runs frame b names value.when_true (context_body frame names at c b m context cleans.0) body_clean in
     let block_form = (while_form c b context.form).0 in
-    let leaves = value_leaves names c head in
+    let leaves = value_leaves frame names c head good (while_form c b context.form).2 cleans.0 in
     back_to_head frame m after written context.good
     (path_carries frame written head value.when_true after good leaves.when_true (block_carries frame names b value.when_true after block_form body))
     (λ here. branch_reached head value.when_true leaves.when_true (before_tree b names value.when_true here))

@@ -47,10 +47,6 @@ use Rattle.elaborate.proofs.LocalPoints.{IsSameElsewhere}
 use Rattle.elaborate.proofs.Writes.{Writes, assign_writes, declare_is, initialize_is, initializer_fits, written_simple, store_safe, initialize_safe, declare_safe}
 use Rattle.elaborate.proofs.Conditions.{condition_tests, branch_safe, test_safe}
 
--- no expression changes what is known
-pub evaluate_after : (rows : Rows) (names : Names) (tree : Tree) (m : FlowModel) → (evaluate rows names tree m).after ≡ m
-evaluate_after rows names tree m = after_same rows names tree m
-
 -- where more is known, a run may go on to what it may go on to where less is known
 pub goes_on_implied : (p : Program) (frame : Frame) (m m' : FlowModel) (held : List Temporary) (n : ℕ) → IsOver frame p → Implies frame m m' → GoesOn p frame m' held n → GoesOn p frame m held n
 goes_on_implied p frame m m' held n over implies goes = record {
@@ -115,9 +111,9 @@ condition_sound p frame names source tree m k when_true when_false over good for
         (branch_safe p frame names (Some source) tree m (k + value_count tree) when_true when_false over good form clean is_bool room is (not_last k (value_count tree) when_true above_true) (not_last k (value_count tree) when_false above_false) goes_true goes_false)
     by (Some word) is points above_true above_false =
         one_sound p frame m k (record { source = Some source; facts = facts_for frame v.after []; term = TestNull (slot_named frame names word) (to when_false) (to when_true) }) over
-        (ap (λ (x : FlowModel). facts_for frame x []) (after_same no_rows names tree m)) points
-        (subst (λ (x : FlowModel). IsSafe p k (record { source = Some source; facts = facts_for frame x []; term = TestNull (slot_named frame names word) (to when_false) (to when_true) })) (sym (after_same no_rows names tree m))
-        (test_safe p frame names (Some source) word m v.when_true v.when_false k when_true when_false over good (condition_tests names tree m word is clean) (not_only k when_true above_true) (not_only k when_false above_false) goes_true goes_false))
+        (ap (λ (x : FlowModel). facts_for frame x []) (after_same frame names tree m good form clean)) points
+        (subst (λ (x : FlowModel). IsSafe p k (record { source = Some source; facts = facts_for frame x []; term = TestNull (slot_named frame names word) (to when_false) (to when_true) })) (sym (after_same frame names tree m good form clean))
+        (test_safe p frame names (Some source) word m v.when_true v.when_false k when_true when_false over good (condition_tests frame names tree m word good form is clean) (not_only k when_true above_true) (not_only k when_false above_false) goes_true goes_false))
 
 -- a declaration without an initializer
 declare_alone : (p : Program) (frame : Frame) (names : Names) (at : Place) (declared : Tree) (variable : Name) (m : FlowModel) (k next : ℕ)
@@ -194,7 +190,7 @@ declare_with p frame names at declared variable value m k next over good form cl
     both = both_empty v.faults (initialize_row no_rows names variable ty (place_of value) v.ty v.after).faults clean
 
     row_is : initialize_row no_rows names variable ty (place_of value) v.ty v.after ≡ record { after = at_local (declare_of m (declared_local ty var true)) var (assign_facts no_rows v.ty); faults = fit_faults no_rows (place_of value) v.ty ty }
-    row_is = ap (λ (x : FlowModel). initialize_row no_rows names variable ty (place_of value) v.ty x) (after_same no_rows names value m) ∙ initialize_is names variable ty (place_of value) v.ty m var means fresh
+    row_is = ap (λ (x : FlowModel). initialize_row no_rows names variable ty (place_of value) v.ty x) (after_same frame names value m good forms.1 both.0) ∙ initialize_is names variable ty (place_of value) v.ty m var means fresh
 
     l : Facts
     l = fresh_facts (declared_local ty var true)
@@ -258,7 +254,7 @@ assign_sound p frame names at target value m k next over good form clean room ha
     both = both_empty v.faults (assign_row no_rows names target (place_of value) v.ty v.after).faults clean
 
     row_is : assign_row no_rows names target (place_of value) v.ty v.after ≡ assign_row no_rows names target (place_of value) v.ty m
-    row_is = ap (λ (x : FlowModel). assign_row no_rows names target (place_of value) v.ty x) (after_same no_rows names value m)
+    row_is = ap (λ (x : FlowModel). assign_row no_rows names target (place_of value) v.ty x) (after_same frame names value m good form both.0)
 
     writes : Writes names m target.word v.ty (assign_row no_rows names target (place_of value) v.ty m).after
     writes = assign_writes names target (place_of value) v.ty m (sym (ap (λ (o : Outcome). o.faults) row_is) ∙ both.1)
@@ -299,7 +295,7 @@ pub eval_sound : (p : Program) (frame : Frame) (names : Names) (at : Place) (val
     → IsSound p frame m [] k (statement_points no_rows frame names (eval at value) m k next) (entry (count (eval at value)) k next)
 eval_sound p frame names at value m k next over good form clean room has beyond goes =
     let both = both_empty (evaluate no_rows names value m).faults [] clean in
-    let same = subst (λ (x : FlowModel). GoesOn p frame x [] next) (after_same no_rows names value m) goes in
+    let same = subst (λ (x : FlowModel). GoesOn p frame x [] next) (after_same frame names value m good form both.0) goes in
     points_sound p frame names (Some at.node) value m 0 [] k next over good form both.0 (omega arith) has beyond (goes_on_holding p frame m (held_for 0 value) next over same)
 
 -- the points of a print
@@ -311,7 +307,7 @@ pub print_sound : (p : Program) (frame : Frame) (names : Names) (at : Place) (va
     → IsSound p frame m [] k (statement_points no_rows frame names (print at value) m k next) k
 print_sound p frame names at value m k next over good form clean room has beyond goes =
     let both = both_empty (evaluate no_rows names value m).faults [] clean in
-    let same = subst (λ (x : FlowModel). GoesOn p frame x [] next) (after_same no_rows names value m) goes in
+    let same = subst (λ (x : FlowModel). GoesOn p frame x [] next) (after_same frame names value m good form both.0) goes in
     let f = facts_for frame m (held_for 0 value) in
     let ready = operand_ready p frame names value m 0 (held_for 0 value) over good form both.0 (omega arith) (λ t is. is) in
     then_sound p frame names at.node value m k (Output (operand_of frame names 0 value) (to next)) over good form both.0 room has

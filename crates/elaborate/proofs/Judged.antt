@@ -12,7 +12,7 @@ use Rattle.dart_tree.specs.declared.nodes.IntegerLiteral.{IntegerLiteral}
 use Rattle.dart_tree.specs.declared.nodes.Operator.{Operator}
 use Rattle.dart_tree.specs.declared.nodes.OperatorKind.{OperatorKind}
 use Rattle.dart_tree.specs.declared.nodes.OperatorKind.TheVariants.{Plus, Less, NotEqual}
-use Rattle.flow_model.specs.Ty.{Ty, null, int, bool, nullable}
+use Rattle.flow_model.specs.Ty.{Ty, never, null, int, bool, nullable, same_type}
 use Rattle.flow_model.specs.Sub.{no_rows, sub}
 use Rattle.flow_model.specs.Flow.{FlowModel, is_of, facts_of, current_of}
 use Rattle.flow_model.specs.declared.locals.LocalId.{LocalId}
@@ -20,8 +20,9 @@ use Rattle.flow_model.specs.declared.locals.Facts.{Facts}
 use Rattle.flow_model.specs.declared.subtyping.Rows.{Rows}
 use Rattle.judgement.specs.declared.DiagnosticCode.TheVariants.{IntegerLiteralOutOfRange, UnassignedRead, UndefinedName}
 use Rattle.judgement.specs.Names.{Names}
-use Rattle.judgement.specs.Rows.{Value, of_type, faulty, is_in_range, integer_row, boolean_row, read_row, name_row, is_invalid, fits, receiver_faults, argument_faults, operator_row}
-use Rattle.judgement.specs.Judgement.{compared_local, evaluate}
+use Rattle.judgement.specs.Rows.{Value, exits_if_never, of_type, faulty, is_in_range, integer_row, boolean_row, read_row, name_row, is_invalid, fits, receiver_faults, argument_faults, operator_row}
+use Rattle.judgement.specs.Judgement.{compared_local, form_row, evaluate}
+use Rattle.judgement.proofs.Exits.{exits_if_never-lasts}
 use Rattle.elaborate.specs.Frame.{Frame, type_of_result}
 use Rattle.elaborate.specs.Forms.{is_expression}
 use Rattle.elaborate.proofs.Claims.{IsGood}
@@ -63,22 +64,17 @@ after_operator rows Plus span at compared left right = refl
 after_operator rows Less span at compared left right = refl
 after_operator rows NotEqual span at compared left right = refl
 
--- no expression changes what is known
-pub after_same : (rows : Rows) (names : Names) (tree : Tree) (m : FlowModel) → (evaluate rows names tree m).after ≡ m
-after_same rows names (name at word) m = after_name at m (get names word)
-after_same rows names (integer at literal) m = after_integer at m (is_in_range literal)
-after_same rows names (boolean at value) m = after_boolean value m
-after_same rows names (null_literal at) m = refl
-after_same rows names (binary at operator left right) m =
-    after_operator rows operator.kind operator.span (place_of right) (compared_local names left right) (evaluate rows names left m) (evaluate rows names right (evaluate rows names left m).after)
-    ∙ (after_same rows names right (evaluate rows names left m).after ∙ after_same rows names left m)
-after_same rows names _ m = refl
+-- none of these types is Never
+simple_lasts : (t : Ty) → IsTrue (is_simple t) → same_type t never ≡ false
+simple_lasts null simple = refl
+simple_lasts int simple = refl
+simple_lasts bool simple = refl
+simple_lasts (nullable int) simple = refl
+simple_lasts _ simple = absurd cc
 
--- so both sides of an operator are judged by what is known before it
-pub binary_is : (rows : Rows) (names : Names) (at : Place) (operator : Operator) (left right : Tree) (m : FlowModel)
-    → evaluate rows names (binary at operator left right) m ≡ operator_row rows operator.kind operator.span (place_of right) (compared_local names left right) (evaluate rows names left m) (evaluate rows names right m)
-binary_is rows names at operator left right m =
-    ap (λ (x : FlowModel). operator_row rows operator.kind operator.span (place_of right) (compared_local names left right) (evaluate rows names left m) (evaluate rows names right x)) (after_same rows names left m)
+-- so an expression of one of them doesn't exit
+pub simple_stays : (v : Value) → IsTrue (is_simple v.ty) → exits_if_never v ≡ v
+simple_stays v simple = exits_if_never-lasts v (simple_lasts v.ty simple)
 
 -- what a name reads in which nothing is wrong: the local that it means, which is assigned
 pub record Reads (names : Names) (m : FlowModel) (word : ℕ) (ty : Ty) : Type 0 where
@@ -181,45 +177,86 @@ pub record BinaryClean (names : Names) (at : Place) (operator : Operator) (left 
   pub wants : Wants operator.kind (evaluate no_rows names left m).ty (evaluate no_rows names right m).ty
   pub typed : (evaluate no_rows names (binary at operator left right) m).ty ≡ type_of_result operator.kind
 
--- where nothing is wrong with an operator, nothing is wrong with its sides
-binary_sides : (names : Names) (at : Place) (operator : Operator) (left right : Tree) (m : FlowModel) → (evaluate no_rows names (binary at operator left right) m).faults ≡ []
-    → ((evaluate no_rows names left m).faults ≡ []) × ((evaluate no_rows names right m).faults ≡ [])
-binary_sides names at operator left right m clean =
-    sides_clean operator.kind operator.span (place_of right) (compared_local names left right) (evaluate no_rows names left m) (evaluate no_rows names right m)
-    (sym (ap (λ (v : Value). v.faults) (binary_is no_rows names at operator left right m)) ∙ clean)
+-- an expression in which nothing is wrong has one of these types, changes nothing of what is known, and gives what its form does
+pub record Stays (names : Names) (tree : Tree) (m : FlowModel) : Type 0 where
+  pub simple : IsTrue (is_simple (evaluate no_rows names tree m).ty)
+  pub after : (evaluate no_rows names tree m).after ≡ m
+  pub is : evaluate no_rows names tree m ≡ form_row no_rows names tree m
 
--- an operator in which nothing is wrong, from the types of its sides
-binary_clean_of : (names : Names) (at : Place) (operator : Operator) (left right : Tree) (m : FlowModel) → (evaluate no_rows names (binary at operator left right) m).faults ≡ []
-    → IsTrue (is_simple (evaluate no_rows names left m).ty) → IsTrue (is_simple (evaluate no_rows names right m).ty) → BinaryClean names at operator left right m
-binary_clean_of names at operator left right m clean left_simple right_simple =
-    let is = binary_is no_rows names at operator left right m in
-    let sides = binary_sides names at operator left right m clean in
-    let wants = operator_wants operator.kind operator.span (place_of right) (compared_local names left right) (evaluate no_rows names left m) (evaluate no_rows names right m) left_simple right_simple (sym (ap (λ (v : Value). v.faults) is) ∙ clean) in
-    record { left_clean = sides.0; right_clean = sides.1; wants = wants.0; typed = ap (λ (v : Value). v.ty) is ∙ wants.1 }
+-- from what its form gives
+stays_of : (names : Names) (tree : Tree) (m : FlowModel) → IsTrue (is_simple (form_row no_rows names tree m).ty) → (form_row no_rows names tree m).after ≡ m → Stays names tree m
+stays_of names tree m simple after =
+    let v = form_row no_rows names tree m in
+    let is = simple_stays v simple in
+    record { simple = simple; after = ap (λ (x : Value). x.after) is ∙ after; is = is }
 
--- the type of an expression in which nothing is wrong
-pub value_simple : (frame : Frame) (names : Names) (tree : Tree) (m : FlowModel) → IsGood frame m → IsTrue (is_expression tree) → (evaluate no_rows names tree m).faults ≡ [] → IsTrue (is_simple (evaluate no_rows names tree m).ty)
-value_simple frame names (name at word) m good form clean =
+-- the sides of an operator in which nothing is wrong, each as it stands, and what it wants of them
+record Sides (names : Names) (at : Place) (operator : Operator) (left right : Tree) (m : FlowModel) : Type 0 where
+  clean : BinaryClean names at operator left right m
+  stays : Stays names (binary at operator left right) m
+
+-- an operator, from what its left side leaves
+sides_of : (names : Names) (at : Place) (operator : Operator) (left right : Tree) (m : FlowModel) → (evaluate no_rows names (binary at operator left right) m).faults ≡ []
+    → ((evaluate no_rows names left m).faults ≡ [] → Stays names left m) → ((evaluate no_rows names right m).faults ≡ [] → Stays names right m) → Sides names at operator left right m
+sides_of names at operator left right m clean left_stays right_stays =
+    let l = evaluate no_rows names left m in
+    let row = λ (x : FlowModel). operator_row no_rows operator.kind operator.span (place_of right) (compared_local names left right) l (evaluate no_rows names right x) in
+    let whole : (row l.after).faults ≡ [] = clean in
+    let first = left_stays (sides_clean operator.kind operator.span (place_of right) (compared_local names left right) l (evaluate no_rows names right l.after) whole).0 in
+    let here : (row m).faults ≡ [] = subst (λ (x : FlowModel). (row x).faults ≡ []) first.after whole in
+    let cleans = sides_clean operator.kind operator.span (place_of right) (compared_local names left right) l (evaluate no_rows names right m) here in
+    let second = right_stays cleans.1 in
+    let wants = operator_wants operator.kind operator.span (place_of right) (compared_local names left right) l (evaluate no_rows names right m) first.simple second.simple here in
+    let form_is : form_row no_rows names (binary at operator left right) m ≡ row m = ap row first.after in
+    let typed : (form_row no_rows names (binary at operator left right) m).ty ≡ type_of_result operator.kind = ap (λ (v : Value). v.ty) form_is ∙ wants.1 in
+    let after : (form_row no_rows names (binary at operator left right) m).after ≡ m =
+    ap (λ (v : Value). v.after) form_is ∙ after_operator no_rows operator.kind operator.span (place_of right) (compared_local names left right) l (evaluate no_rows names right m) ∙ second.after in
+    record {
+      clean = record { left_clean = cleans.0; right_clean = cleans.1; wants = wants.0; typed = typed };
+      stays = stays_of names (binary at operator left right) m (subst (λ (t : Ty). IsTrue (is_simple t)) (sym typed) (result_simple operator.kind)) after;
+    }
+
+-- an expression in which nothing is wrong
+pub value_stays : (frame : Frame) (names : Names) (tree : Tree) (m : FlowModel) → IsGood frame m → IsTrue (is_expression tree) → (evaluate no_rows names tree m).faults ≡ [] → Stays names tree m
+value_stays frame names (name at word) m good form clean =
     let reads = name_reads names at word m clean in
     let fits = good.fits reads.var reads.local reads.known in
-    subst (λ (t : Ty). IsTrue (is_simple t)) (sym reads.typed) (shape_simple reads.local.ty reads.local.chain fits.shape)
-value_simple frame names (integer at literal) m good form clean = subst (λ (t : Ty). IsTrue (is_simple t)) (sym (integer_typed at literal m clean)) refl
-value_simple frame names (boolean at value) m good form clean = subst (λ (t : Ty). IsTrue (is_simple t)) (sym (boolean_typed value m)) refl
-value_simple frame names (null_literal at) m good form clean = refl
-value_simple frame names (binary at operator left right) m good form clean =
+    stays_of names (name at word) m (subst (λ (t : Ty). IsTrue (is_simple t)) (sym reads.typed) (shape_simple reads.local.ty reads.local.chain fits.shape)) (after_name at m (get names word))
+value_stays frame names (integer at literal) m good form clean =
+    stays_of names (integer at literal) m (subst (λ (t : Ty). IsTrue (is_simple t)) (sym (integer_typed at literal m clean)) refl)
+    (after_integer at m (is_in_range literal))
+value_stays frame names (boolean at value) m good form clean = stays_of names (boolean at value) m (subst (λ (t : Ty). IsTrue (is_simple t)) (sym (boolean_typed value m)) refl) (after_boolean value m)
+value_stays frame names (null_literal at) m good form clean = stays_of names (null_literal at) m refl refl
+value_stays frame names (binary at operator left right) m good form clean =
     let forms = and_parts (is_expression left) (is_expression right) form in
-    let sides = binary_sides names at operator left right m clean in
-    let of_sides = binary_clean_of names at operator left right m clean (value_simple frame names left m good forms.0 sides.0) (value_simple frame names right m good forms.1 sides.1) in
-    subst (λ (t : Ty). IsTrue (is_simple t)) (sym of_sides.typed) (result_simple operator.kind)
-value_simple frame names _ m good form clean = absurd cc
+    (sides_of names at operator left right m clean (λ left_clean. value_stays frame names left m good forms.0 left_clean) (λ right_clean. value_stays frame names right m good forms.1 right_clean)).stays
+value_stays frame names _ m good form clean = absurd cc
+
+-- its type
+pub value_simple : (frame : Frame) (names : Names) (tree : Tree) (m : FlowModel) → IsGood frame m → IsTrue (is_expression tree) → (evaluate no_rows names tree m).faults ≡ [] → IsTrue (is_simple (evaluate no_rows names tree m).ty)
+value_simple frame names tree m good form clean = (value_stays frame names tree m good form clean).simple
+
+-- it changes nothing of what is known
+pub after_same : (frame : Frame) (names : Names) (tree : Tree) (m : FlowModel) → IsGood frame m → IsTrue (is_expression tree) → (evaluate no_rows names tree m).faults ≡ [] → (evaluate no_rows names tree m).after ≡ m
+after_same frame names tree m good form clean = (value_stays frame names tree m good form clean).after
 
 -- an operator in which nothing is wrong
 pub binary_clean : (frame : Frame) (names : Names) (at : Place) (operator : Operator) (left right : Tree) (m : FlowModel) → IsGood frame m → IsTrue (is_expression (binary at operator left right))
     → (evaluate no_rows names (binary at operator left right) m).faults ≡ [] → BinaryClean names at operator left right m
 binary_clean frame names at operator left right m good form clean =
     let forms = and_parts (is_expression left) (is_expression right) form in
-    let sides = binary_sides names at operator left right m clean in
-    binary_clean_of names at operator left right m clean (value_simple frame names left m good forms.0 sides.0) (value_simple frame names right m good forms.1 sides.1)
+    (sides_of names at operator left right m clean (value_stays frame names left m good forms.0) (value_stays frame names right m good forms.1)).clean
+
+-- both its sides are judged by what is known before it
+pub binary_is : (frame : Frame) (names : Names) (at : Place) (operator : Operator) (left right : Tree) (m : FlowModel) → IsGood frame m → IsTrue (is_expression (binary at operator left right))
+    → (evaluate no_rows names (binary at operator left right) m).faults ≡ []
+    → evaluate no_rows names (binary at operator left right) m ≡ operator_row no_rows operator.kind operator.span (place_of right) (compared_local names left right) (evaluate no_rows names left m) (evaluate no_rows names right m)
+binary_is frame names at operator left right m good form clean =
+    let forms = and_parts (is_expression left) (is_expression right) form in
+    let sides = binary_clean frame names at operator left right m good form clean in
+    (value_stays frame names (binary at operator left right) m good form clean).is
+    ∙ ap (λ (x : FlowModel). operator_row no_rows operator.kind operator.span (place_of right) (compared_local names left right) (evaluate no_rows names left m) (evaluate no_rows names right x))
+    (after_same frame names left m good forms.0 sides.left_clean)
 
 -- none of these types is Invalid
 simple_valid : (t : Ty) → IsTrue (is_simple t) → is_invalid t ≡ false

@@ -58,15 +58,16 @@ points_by rows frame names source operator left right m height held k next x y =
     ++ (operator_point frame names source operator left right y height (held ++ held_for height left ++ held_for (height + holds left) right) next ∷ [])
 
 -- no side changes what is known
-binary_points : (rows : Rows) (frame : Frame) (names : Names) (source : Option NodeId) (at : Place) (operator : Operator) (left right : Tree) (m : FlowModel) (height : ℕ) (held : List Temporary) (k next : ℕ)
-    → value_points rows frame names source (binary at operator left right) m height held k next ≡ points_by rows frame names source operator left right m height held k next m m
-binary_points rows frame names source at operator left right m height held k next =
-    ap (λ (x : FlowModel). points_by rows frame names source operator left right m height held k next x (evaluate rows names (binary at operator left right) m).after) (after_same rows names left m)
-    ∙ ap (λ (y : FlowModel). points_by rows frame names source operator left right m height held k next m y) (after_same rows names (binary at operator left right) m)
+binary_points : (frame : Frame) (names : Names) (source : Option NodeId) (at : Place) (operator : Operator) (left right : Tree) (m : FlowModel) (height : ℕ) (held : List Temporary) (k next : ℕ)
+    → (evaluate no_rows names left m).after ≡ m → (evaluate no_rows names (binary at operator left right) m).after ≡ m
+    → value_points no_rows frame names source (binary at operator left right) m height held k next ≡ points_by no_rows frame names source operator left right m height held k next m m
+binary_points frame names source at operator left right m height held k next first second =
+    ap (λ (x : FlowModel). points_by no_rows frame names source operator left right m height held k next x (evaluate no_rows names (binary at operator left right) m).after) first
+    ∙ ap (λ (y : FlowModel). points_by no_rows frame names source operator left right m height held k next m y) second
 
 -- an operator, from its sides
 module _ (p : Program) (frame : Frame) (names : Names) (source : Option NodeId) (at : Place) (operator : Operator) (left right : Tree) (m : FlowModel) (height : ℕ) (held : List Temporary) (k next : ℕ)
-    (over : IsOver frame p) (good : IsGood frame m) (form : IsTrue (is_expression (binary at operator left right))) (clean : BinaryClean names at operator left right m)
+    (over : IsOver frame p) (good : IsGood frame m) (form : IsTrue (is_expression (binary at operator left right))) (whole : (evaluate no_rows names (binary at operator left right) m).faults ≡ []) (clean : BinaryClean names at operator left right m)
     (room : height + value_height (binary at operator left right) ≤ frame.height) where
   -- there is room for the left side
   room_left : height + value_height left ≤ frame.height
@@ -123,7 +124,10 @@ module _ (p : Program) (frame : Frame) (names : Names) (source : Option NodeId) 
       → (Has p k xs → GoesOn p frame m (held ++ held_for height left) (k + value_count left) → IsSound p frame m held k xs (entry (value_count left) k (k + value_count left)))
       → IsSound p frame m held k (value_points no_rows frame names source (binary at operator left right) m height held k next) (entry (value_count (binary at operator left right)) k next)
   sides_sound has beyond goes right_sound left_sound =
-      let is = binary_points no_rows frame names source at operator left right m height held k next ∙ append_assoc xs ys (last ∷ []) in
+      let forms = and_parts (is_expression left) (is_expression right) form in
+      let is =
+      binary_points frame names source at operator left right m height held k next (after_same frame names left m good forms.0 clean.left_clean) (after_same frame names (binary at operator left right) m good form whole)
+      ∙ append_assoc xs ys (last ∷ []) in
       let all : Has p k (xs ++ (ys ++ (last ∷ []))) = subst (Has p k) is has in
       let back = has_rest p k (value_count left) xs (ys ++ (last ∷ [])) length_xs all in
       let at_last = has_rest p (k + value_count left) (value_count right) ys (last ∷ []) length_ys back in
@@ -157,11 +161,11 @@ points_sound p frame names source (null_literal at) m height held k next over go
 points_sound p frame names source (binary at operator left right) m height held k next over good form clean room has beyond goes =
     let forms = and_parts (is_expression left) (is_expression right) form in
     let c = binary_clean frame names at operator left right m good form clean in
-    sides_sound p frame names source at operator left right m height held k next over good form c room has beyond goes
+    sides_sound p frame names source at operator left right m height held k next over good form clean c room has beyond goes
     (λ has_right goes_right. points_sound p frame names source right m (height + holds left) (held ++ held_for height left) (k + value_count left) (k + value_count left + value_count right) over good forms.1 c.right_clean
-    (room_right p frame names source at operator left right m height held k next over good form c room) has_right (inr (le_refl (k + value_count left + value_count right))) goes_right)
+    (room_right p frame names source at operator left right m height held k next over good form clean c room) has_right (inr (le_refl (k + value_count left + value_count right))) goes_right)
     (λ has_left goes_left. points_sound p frame names source left m height held k (k + value_count left) over good forms.0 c.left_clean
-    (room_left p frame names source at operator left right m height held k next over good form c room) has_left (inr (le_refl (k + value_count left))) goes_left)
+    (room_left p frame names source at operator left right m height held k next over good form clean c room) has_left (inr (le_refl (k + value_count left))) goes_left)
 points_sound p frame names source _ m height held k next over good form clean room has beyond goes = absurd cc
 
 -- the point at which an expression's value is ready is safe, so are all points with it
@@ -174,7 +178,7 @@ then_sound p frame names at value m k term over good form clean room has safe =
     let xs = value_points no_rows frame names (Some at) value m 0 [] k (k + value_count value) in
     let last : LaidPoint = record { source = Some at; facts = facts_for frame m (held_for 0 value); term = term } in
     let counted = length-value_points no_rows frame names (Some at) value m 0 [] k (k + value_count value) in
-    let is = ap (λ (x : FlowModel). xs ++ with_value frame at value x term) (after_same no_rows names value m) in
+    let is = ap (λ (x : FlowModel). xs ++ with_value frame at value x term) (after_same frame names value m good form clean) in
     let all : Has p k (xs ++ (last ∷ [])) = subst (Has p k) is has in
     let to_last = goes_to_point p frame m (held_for 0 value) (k + value_count value) last over (has_rest p k (value_count value) xs (last ∷ []) counted all) refl in
     let value_is = points_sound p frame names (Some at) value m 0 [] k (k + value_count value) over good form clean (omega arith) (has_first p k xs (last ∷ []) all) (inr (le_refl (k + value_count value))) to_last in

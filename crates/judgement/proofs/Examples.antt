@@ -8,8 +8,10 @@ use Rattle.dart_tree.specs.declared.nodes.OperatorKind.{OperatorKind}
 use Rattle.dart_tree.specs.declared.nodes.OperatorKind.TheVariants.{Plus, Less, NotEqual}
 use Rattle.dart_tree.specs.declared.nodes.Radix.TheVariants.{Decimal, Hexadecimal}
 use Rattle.dart_tree.specs.Tree.{Tree, Trees, no_more, more, absent, present, name, integer, boolean, null_literal, binary, int_type, bool_type, declare, assign, eval, if_statement, while_statement, block}
+use Rattle.flow_model.specs.Ty.{never}
 use Rattle.flow_model.specs.Sub.{no_rows}
-use Rattle.flow_model.specs.Flow.{FlowModel, facts_of}
+use Rattle.flow_model.specs.Flow.{FlowModel, facts_of, current_of}
+use Rattle.flow_model.specs.Steps.{exit_of}
 use Rattle.flow_model.specs.declared.locals.Facts.{Facts}
 use Rattle.flow_model.specs.declared.locals.LocalId.{LocalId}
 use Rattle.judgement.specs.declared.Fault.{Fault}
@@ -17,7 +19,7 @@ use Rattle.judgement.specs.declared.DiagnosticCode.{DiagnosticCode}
 use Rattle.judgement.specs.declared.DiagnosticCode.TheVariants.{ArgumentType, ConditionNotBool, DuplicateDefinition, IntegerLiteralOutOfRange, InvalidAssignment, ReferencedBeforeDeclaration, UnassignedRead, UncheckedNullableUse, UndefinedOperator}
 use Rattle.judgement.specs.Names.{Names}
 use Rattle.judgement.specs.Rows.{fault_at}
-use Rattle.judgement.specs.Judgement.{run, faults_of}
+use Rattle.judgement.specs.Judgement.{evaluate, run, faults_of}
 
 -- a node with this number, at the range of one code unit with the same offset
 abbrev at : ℕ → Place
@@ -111,3 +113,8 @@ declared_again : (names : Names) (m : FlowModel) (var : LocalId) (local : Facts)
     → run no_rows names (declare (at 10) (bool_type (at 10)) (variable 11) (present (one 12))) m
     ≡ record { after = m; faults = fault_at (at 12) InvalidAssignment ++ fault_at (at 11) DuplicateDefinition }
 declared_again names m var local means known = rw (means, known) refl
+
+-- `x` where the current type of x is Never: nothing is reached behind it
+never_exits : (names : Names) (m : FlowModel) (var : LocalId) (local : Facts) → get names 0 ≡ Some var → facts_of m var ≡ Some local → local.assigned ≡ true → current_of local ≡ never
+    → (evaluate no_rows names (x 1) m).after ≡ exit_of m
+never_exits names m var local means known assigned ty = rw (means, known, assigned, ty) refl

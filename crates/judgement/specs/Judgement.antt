@@ -11,7 +11,7 @@ use Rattle.flow_model.specs.declared.subtyping.Rows.{Rows}
 use Rattle.judgement.specs.declared.Fault.{Fault}
 use Rattle.judgement.specs.Names.{Names, named_by, names_within, locals_of}
 use Rattle.judgement.specs.Written.{written_in}
-use Rattle.judgement.specs.Rows.{Value, Outcome, of_type, just, value_then, and_then, integer_row, boolean_row, name_row, operator_row, assign_row, declare_row, initialize_row, if_row, while_row, loop_head}
+use Rattle.judgement.specs.Rows.{Value, Outcome, exits_if_never, of_type, just, value_then, and_then, integer_row, boolean_row, name_row, operator_row, assign_row, declare_row, initialize_row, if_row, while_row, loop_head}
 
 -- the type that a written type is; trees of other forms, which never stand there, are none
 abbrev pub type_of : Tree → Ty
@@ -57,26 +57,30 @@ compared_local names left right =
     if is_null_literal right then named_by names left
     else (if is_null_literal left then named_by names right else None)
 
--- what an expression gives: of an operator the left side is judged before the right; trees of other forms, which never stand there, have no type
+-- what an expression gives by its form: of an operator the left side is judged before the right; trees of other forms, which never stand there, have no type
+abbrev pub form_row : Rows → Names → Tree → FlowModel → Value
+form_row rows names (name at word) m = name_row names at word m
+form_row rows names (integer at literal) m = integer_row at literal m
+form_row rows names (boolean at value) m = boolean_row value m
+form_row rows names (null_literal at) m = of_type null m
+form_row rows names (binary at operator left right) m =
+    let first = exits_if_never (form_row rows names left m) in
+    operator_row rows operator.kind operator.span (place_of right) (compared_local names left right) first (exits_if_never (form_row rows names right first.after))
+form_row rows names (int_type at nullable) m = of_type invalid m
+form_row rows names (bool_type at) m = of_type invalid m
+form_row rows names (declare at declared variable initial) m = of_type invalid m
+form_row rows names (assign at target value) m = of_type invalid m
+form_row rows names (eval at value) m = of_type invalid m
+form_row rows names (print at value) m = of_type invalid m
+form_row rows names (if_statement at condition then_block else_block) m = of_type invalid m
+form_row rows names (while_statement at condition body) m = of_type invalid m
+form_row rows names (block at statements) m = of_type invalid m
+form_row rows names (function at body) m = of_type invalid m
+form_row rows names (unit at main) m = of_type invalid m
+
+-- what an expression gives
 abbrev pub evaluate : Rows → Names → Tree → FlowModel → Value
-evaluate rows names (name at word) m = name_row names at word m
-evaluate rows names (integer at literal) m = integer_row at literal m
-evaluate rows names (boolean at value) m = boolean_row value m
-evaluate rows names (null_literal at) m = of_type null m
-evaluate rows names (binary at operator left right) m =
-    operator_row rows operator.kind operator.span (place_of right) (compared_local names left right) (evaluate rows names left m)
-    (evaluate rows names right (evaluate rows names left m).after)
-evaluate rows names (int_type at nullable) m = of_type invalid m
-evaluate rows names (bool_type at) m = of_type invalid m
-evaluate rows names (declare at declared variable initial) m = of_type invalid m
-evaluate rows names (assign at target value) m = of_type invalid m
-evaluate rows names (eval at value) m = of_type invalid m
-evaluate rows names (print at value) m = of_type invalid m
-evaluate rows names (if_statement at condition then_block else_block) m = of_type invalid m
-evaluate rows names (while_statement at condition body) m = of_type invalid m
-evaluate rows names (block at statements) m = of_type invalid m
-evaluate rows names (function at body) m = of_type invalid m
-evaluate rows names (unit at main) m = of_type invalid m
+evaluate rows names tree m = exits_if_never (form_row rows names tree m)
 
 -- what a declaration gives: the initializer is judged before the local comes into scope
 abbrev pub declare_local : Rows → Names → Name → Ty → Part → FlowModel → Outcome

@@ -10,7 +10,7 @@ use Rattle.dart_tree.specs.declared.nodes.OperatorKind.{OperatorKind}
 use Rattle.dart_tree.specs.declared.nodes.OperatorKind.TheVariants.{Plus, Less, NotEqual}
 use Rattle.dart_tree.specs.declared.nodes.Radix.{Radix}
 use Rattle.dart_tree.specs.declared.nodes.Radix.TheVariants.{Decimal, Hexadecimal}
-use Rattle.flow_model.specs.Ty.{Ty, invalid, never, null, int, bool, bare_of, same_type, non_null_of, admits_null}
+use Rattle.flow_model.specs.Ty.{Ty, invalid, never, null, int, bool, nullable, bare_of, same_type, non_null_of, admits_null}
 use Rattle.flow_model.specs.Sub.{sub}
 use Rattle.flow_model.specs.Flow.{FlowModel, facts_of, at_local, current_of, declare_of}
 use Rattle.flow_model.specs.Assign.{assign_facts}
@@ -37,6 +37,25 @@ pub record Value : Type 0 where
 pub record Outcome : Type 0 where
   pub after : FlowModel
   pub faults : List Fault
+
+-- a model behind an expression of this type: it isn't reached behind one of type Never
+abbrev pub exit_by : Ty → FlowModel → FlowModel
+exit_by invalid m = m
+exit_by never m = exit_of m
+exit_by null m = m
+exit_by int m = m
+exit_by bool m = m
+exit_by (nullable bare) m = m
+
+-- An expression of type Never exits: nothing is reached behind it, nor where it would be true or false.
+abbrev pub exits_if_never : Value → Value
+exits_if_never value = record {
+  ty = value.ty;
+  after = exit_by value.ty value.after;
+  when_true = exit_by value.ty value.when_true;
+  when_false = exit_by value.ty value.when_false;
+  faults = value.faults;
+}
 
 -- one diagnostic, over a range of the text
 abbrev pub fault_over : Span → DiagnosticCode → List Fault

@@ -8,7 +8,7 @@ use Rattle.flow_model.specs.declared.subtyping.Rows.{Rows}
 use Rattle.judgement.specs.declared.Fault.{Fault}
 use Rattle.judgement.specs.Names.{Names}
 use Rattle.judgement.specs.NodeFacts.{NodeFacts, at_branch}
-use Rattle.judgement.specs.Rows.{Value, Outcome, condition_faults}
+use Rattle.judgement.specs.Rows.{Value, Outcome, exits_if_never, condition_faults}
 use Rattle.judgement.specs.Judgement.{evaluate}
 use Rattle.judgement.specs.Typed.{typed_expression}
 use Rattle.resolve.specs.declared.judge.Judged.{Judged}
@@ -42,6 +42,11 @@ pub record Evaluates (found now : Judged) (typed : Typed) (at : Place) (value : 
   pub when_false_is : at_branch typed.after.value typed.when_false ≡ value.when_false
   pub faults_are : now.faults.items ≡ found.faults.items ++ value.faults
   pub nodes_are : now.nodes.items ≡ found.nodes.items ++ nodes
+
+-- an expression that stands where the other does gives what the row of those that exit makes of it
+pub record Exited (typed exited : Typed) : Type 0 where
+  pub place_is : exited.at ≡ typed.at
+  pub value_is : reported exited ≡ exits_if_never (reported typed)
 
 -- the model is the one after the outcome, and its diagnostics were added to those found before
 pub record RowGives (found now : List Fault) (model : FlowModel) (outcome : Outcome) : Type 0 where

@@ -4,13 +4,14 @@ ghost use Rattle.std.specs.Prelude.{◌≡◌, IfOk};
 ghost use Rattle.dart_tree.specs.Places.{place_of};
 ghost use Rattle.flow_model.specs.Flow.{facts_of};
 ghost use Rattle.judgement.specs.Rows as row;
-ghost use Rattle.judgement.specs.Judgement.{evaluate};
+ghost use Rattle.judgement.specs.Judgement.{evaluate, form_row};
 ghost use Rattle.judgement.specs.Names.{named_by};
 ghost use Rattle.judgement.specs.Typed.{said_of_value, typed_expression};
-ghost use Rattle.resolve.specs.Judged.{Evaluates, RowEvaluates, as_condition, reported, typed_operands};
+ghost use Rattle.resolve.specs.Judged.{Evaluates, Exited, RowEvaluates, as_condition, reported, typed_operands};
 
+use super::models::behind_exit;
 use super::operators::{compared_local, judge_operator};
-use super::types::{bool_type, fits, int_type, invalid_type, null_type};
+use super::types::{bool_type, fits, int_type, invalid_type, is_never, null_type};
 use super::{Context, Judged, Typed, report};
 use crate::names::NamesInScope;
 use dart_tree::{Expr, ExprNode, IntegerLiteral, Place, Radix};
@@ -31,13 +32,29 @@ pub(super) fn judge_expression(
 ) -> Result<Typed, AllocError>
     ensures { IfOk result (λ typed. Evaluates found.old found.new typed (place_of expression.now) (evaluate context.entry.rows.now names.now expression.now before.now.value) (typed_expression context.entry.rows.now names.now expression.now before.now.value)) }
 {
-    let typed = judge_form(context, names, expression, before, found)?;
+    let typed = judge_value(context, names, expression, before, found)?;
     let said = said_of_expression(context.alloc, names, expression, before, &typed)?;
     found.nodes.push(said)?;
     Ok(typed)
 }
 
-// The same, but of its nodes only those in it. No form of an expression changes the model yet.
+// The same, but of its nodes only those in it.
+#[cycle(expression)]
+fn judge_value(
+    context: Context,
+    names: &NamesInScope,
+    expression: &Expr,
+    before: &Rc<Flow>,
+    found: &mut Judged,
+) -> Result<Typed, AllocError>
+    ensures { IfOk result (λ typed. Evaluates found.old found.new typed (place_of expression.now) (evaluate context.entry.rows.now names.now expression.now before.now.value) (typed_operands context.entry.rows.now names.now expression.now before.now.value)) }
+{
+    let formed = judge_form(context, names, expression, before, found)?;
+    let typed = exit_if_never(context.alloc, formed)?;
+    Ok(typed)
+}
+
+// What its form gives, before it is seen whether it exits.
 #[cycle(expression)]
 fn judge_form(
     context: Context,
@@ -46,7 +63,7 @@ fn judge_form(
     before: &Rc<Flow>,
     found: &mut Judged,
 ) -> Result<Typed, AllocError>
-    ensures { IfOk result (λ typed. Evaluates found.old found.new typed (place_of expression.now) (evaluate context.entry.rows.now names.now expression.now before.now.value) (typed_operands context.entry.rows.now names.now expression.now before.now.value)) }
+    ensures { IfOk result (λ typed. Evaluates found.old found.new typed (place_of expression.now) (form_row context.entry.rows.now names.now expression.now before.now.value) (typed_operands context.entry.rows.now names.now expression.now before.now.value)) }
 {
     match &expression.node {
         ExprNode::Name { at, word } => {
@@ -78,6 +95,17 @@ fn judge_form(
             Ok(typed)
         }
     }
+}
+
+// An expression of type Never exits: nothing is reached behind it.
+fn exit_if_never(alloc: Global, typed: Typed) -> Result<Typed, AllocError>
+    ensures { IfOk result (λ exited. Exited typed exited) }
+{
+    if !is_never(&typed.ty) {
+        return Ok(typed);
+    }
+    let after = behind_exit(alloc, &typed.after)?;
+    Ok(Typed { after, ..typed })
 }
 
 // What is said of an expression that was judged from the model before it.

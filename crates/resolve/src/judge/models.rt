@@ -3,6 +3,7 @@
 ghost use Rattle.std.specs.Prelude.{◌≡◌, IfOk, OnOk};
 ghost use Rattle.dart_tree.specs.Tree.{trees_of};
 ghost use Rattle.flow_model.specs.Flow.{end_of};
+ghost use Rattle.flow_model.specs.Steps.{exit_of};
 ghost use Rattle.judgement.specs.Names.{locals_of};
 ghost use Rattle.judgement.specs.NodeFacts.{at_branch};
 ghost use Rattle.judgement.specs.Rows.{loop_head};
@@ -26,6 +27,15 @@ pub(super) fn shared(alloc: Global, before: &Rc<Flow>, after: Flow) -> Result<Rc
     Ok(Rc::new(alloc, after)?)
 }
 
+// The model behind an exit, from the one before it.
+pub(super) fn behind_exit(alloc: Global, before: &Rc<Flow>) -> Result<Rc<Flow>, AllocError>
+    ensures { IfOk result (λ model. model.value ≡ exit_of before.now.value) }
+{
+    let mut unreached = before.copy(alloc)?;
+    unreached.exit();
+    shared(alloc, before, unreached)
+}
+
 // The model where a branch begins, from the one after its condition.
 pub(super) fn branch_start(
     alloc: Global,
@@ -36,11 +46,7 @@ pub(super) fn branch_start(
 {
     match branch {
         Branch::Same => after.clone(),
-        Branch::Unreached => {
-            let mut unreached = after.copy(alloc)?;
-            unreached.exit();
-            shared(alloc, after, unreached)
-        }
+        Branch::Unreached => behind_exit(alloc, after),
         Branch::NotNull(var) => {
             let mut narrowed = after.copy(alloc)?;
             narrowed.non_null(alloc, var)?;

@@ -1,8 +1,12 @@
 use Rattle.std.proofs.Common.{refl}
 use Rattle.judgement.specs.Judgement.{evaluate}
 use Rattle.judgement.specs.Typed.{typed_expression}
+use Rattle.resolve.proofs.Exits.{exits_evaluates}
 use Rattle.resolve.proofs.Operators.{operator_evaluates}
 use Rattle.resolve.proofs.judge.expressions.+expression.Goals as goal
+
+pub judge_value-returns : goal.judge_value-returns
+judge_value-returns t c = exits_evaluates c.in_ok-typed.ensures c.in_ok-formed.ensures
 
 pub judge_form-returns-in_ok-typed-in-Binary : goal.judge_form-returns-in_ok-typed-in-Binary
 judge_form-returns-in_ok-typed-in-Binary t c =
