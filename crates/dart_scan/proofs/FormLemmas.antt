@@ -29,7 +29,7 @@ front-split p (b ∷ text) = rw (take_while-cons p b text) (chosen (front-split 
     chosen rest true = ap (λ xs. b ∷ xs) rest
     chosen rest false = refl
 
-front-past : (p : ℕ → Bool) (bytes text : List ℕ) → list_all p bytes ≡ true → take_while p (bytes ++ text) ≡ bytes ++ take_while p text
+pub front-past : (p : ℕ → Bool) (bytes text : List ℕ) → list_all p bytes ≡ true → take_while p (bytes ++ text) ≡ bytes ++ take_while p text
 front-past p [] text h = refl
 front-past p (b ∷ bytes) text h = both (p b) (list_all p bytes) refl refl h (front-past p bytes text)
   where
@@ -83,7 +83,7 @@ drop-all-of : (text : List ℕ) → drop (length text) text ≡ []
 drop-all-of [] = refl
 drop-all-of (b ∷ text) = drop-all-of text
 
-append-nothing : (text : List ℕ) → text ++ [] ≡ text
+pub append-nothing : (text : List ℕ) → text ++ [] ≡ text
 append-nothing [] = refl
 append-nothing (b ∷ text) = ap (λ xs. b ∷ xs) (append-nothing text)
 

@@ -27,3 +27,6 @@ pub mod WordLemmas
 pub mod KindValues
 pub mod KindLemmas
 pub mod TokenLaws
+pub mod DoubleLemmas
+pub mod LongestLemmas
+pub mod FirstLemmas

@@ -1,5 +1,5 @@
 -- What is read of a string is what its grammar says.
-use Rattle.std.proofs.Common.{◌≡◌, ◌⊎◌, inl, inr, ℕ, zero, suc, ◌+◌, ◌<◌, ◌≤◌, ◌==◌, ◌&&◌, ◌||◌, not, Bool, true, false, List, [], ◌∷◌, ◌++◌, length, take, drop, codes, nat_eq, if◌then◌else◌, Option, Some, None, option_map, refl, sym, ap, subst, ◌∙◌, arith, length-drop, length-append}
+use Rattle.std.proofs.Common.{◌≡◌, ◌⊎◌, inl, inr, ℕ, zero, suc, ◌+◌, ◌<◌, ◌≤◌, ◌==◌, ◌&&◌, not, Bool, true, false, List, [], ◌∷◌, ◌++◌, length, take, drop, codes, if◌then◌else◌, Option, Some, None, option_map, refl, sym, ap, subst, ◌∙◌, arith, length-drop, length-append}
 use Rattle.std.specs.Prelude.{IfSome, option_and_then}
 use Rattle.std.specs.Option.{option_map_or, ForSome}
 use Rattle.std.proofs.lemmas.Bool.{and_parts, or_left, or_right, eqb-true, eq-eqb}
@@ -127,7 +127,7 @@ interpolation-begins (by_name {text = text} h more) =
     (or_right (begins text (codes "${")) (begins_name text) h, omega (arith, ap length (begins-split (codes "$") text dollar)))
 interpolation-begins (by_expression inner more) = (refl, omega arith)
 
-begins-front : (bytes rest : List ℕ) → begins (bytes ++ rest) bytes ≡ true
+pub begins-front : (bytes rest : List ℕ) → begins (bytes ++ rest) bytes ≡ true
 begins-front [] rest = refl
 begins-front (b ∷ bytes) rest = rw (eq-eqb b b refl) (begins-front bytes rest)
 

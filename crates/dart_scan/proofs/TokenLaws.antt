@@ -1,18 +1,15 @@
 -- Tokens rise, and the word of each is its part of the text.
-use Rattle.std.proofs.Common.{◌≡◌, ℕ, zero, suc, ◌+◌, ◌<◌, ◌≤◌, ◌||◌, not, Bool, true, false, List, [], ◌∷◌, ◌++◌, length, take, drop, bytes_eq, nat_lt, get_or, if◌then◌else◌, Option, Some, None, slice_get, refl, sym, ap, subst, ◌∙◌, arith, append_assoc, IsSomeAnd}
+use Rattle.std.proofs.Common.{◌≡◌, ℕ, zero, suc, ◌+◌, ◌<◌, ◌≤◌, ◌||◌, not, Bool, true, false, List, [], ◌∷◌, ◌++◌, length, bytes_eq, if◌then◌else◌, Option, Some, slice_get, refl, sym, ap, subst, ◌∙◌, arith, append_assoc, IsSomeAnd}
 use Rattle.std.specs.Prelude.{All}
 use Rattle.std.specs.List.{list_any, position_or_len}
 use Rattle.std.specs.Str.{IsUtf8}
-use Rattle.std.proofs.lemmas.Bool.{or_parts, cases_Bool}
 use Rattle.std.proofs.lemmas.Bool.Decides.{nat_tests}
 use Rattle.std.proofs.lemmas.List.Elements.{All-nil, All-cons}
 use Rattle.std.proofs.lemmas.List.Sums.{sum_by-append, sum_by-cons}
 use Rattle.std.proofs.lemmas.Slice.Eq.{bytes_eq-Decides}
 use Rattle.std.proofs.lemmas.Str.{IsCharBoundary-start}
-use Rattle.std.proofs.Math.Logic.{⊎_elim}
 use Rattle.plain_text.specs.Units.{units_of_byte, units_in}
 use Rattle.dart_tokens.specs.declared.token.Token.{Token}
-use Rattle.dart_scan.specs.declared.piece.Class.{Class}
 use Rattle.dart_scan.specs.Pieces.{Spelled, pieces}
 use Rattle.dart_scan.specs.Scanned.{Lexeme, is_gap, lexemes_from, with_word, words_behind, token_of, tokens_behind, tokens_of, words_of}
 use Rattle.dart_scan.specs.TokenPlaces.{IsPart}

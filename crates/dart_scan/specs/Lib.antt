@@ -14,3 +14,4 @@ pub mod Scanned
 pub mod Decoding
 pub mod Escapes
 pub mod TokenPlaces
+pub mod LexemeClasses

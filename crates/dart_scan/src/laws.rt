@@ -1,6 +1,6 @@
 //! Laws of the pieces of a text, over their definitions alone.
 
-ghost use Rattle.std.specs.Prelude.{◌≡◌, ◌⊎◌, ◌<◌, ◌≤◌, [], ◌∷◌, ◌++◌, length, take, drop, codes, false, All, IsTrue, IfSome, IsSomeAnd, Some, ℕ, slice_get};
+ghost use Rattle.std.specs.Prelude.{◌≡◌, ◌⊎◌, ◌<◌, ◌≤◌, [], ◌∷◌, ◌++◌, length, take, drop, codes, false, All, IsTrue, IfSome, IsSomeAnd, List, None, Some, ℕ, slice_get};
 ghost use Rattle.std.specs.List.{flat_map};
 ghost use Rattle.std.specs.Option.{ForSome};
 ghost use Rattle.std.specs.Str.{IsUtf8};
@@ -9,10 +9,13 @@ ghost use Rattle.dart_scan.specs.Characters.{is_within_line};
 ghost use Rattle.dart_scan.specs.Lexemes.{begins, word_size, integer_size, double_size, mark_size};
 ghost use Rattle.dart_scan.specs.Comments.{IsComment, comment_size};
 ghost use Rattle.dart_scan.specs.Strings.{string_form};
-ghost use Rattle.dart_scan.specs.Pieces.{Read, lexeme_at, next_at, within_steps, pieces};
+ghost use Rattle.dart_scan.specs.Pieces.{Read, Spelled, lexeme_at, next_at, within_steps, pieces};
 ghost use Rattle.dart_scan.specs.WholeStrings.{BeginsWith, IsString, unterminated};
 ghost use Rattle.dart_scan.specs.Scanned.{tokens_of, words_of};
 ghost use Rattle.dart_scan.specs.TokenPlaces.{IsPart};
+ghost use Rattle.dart_scan.specs.LexemeClasses.{IsLexeme, IsFirstPiece};
+ghost use Rattle.dart_scan.specs.declared.piece.Class.{Class};
+ghost use Rattle.dart_scan.specs.Suspended.{pieces_behind};
 ghost use Rattle.dart_tokens.specs.declared.token.Token.{Token};
 
 /// The pieces of a text cover it, one after another without overlap, and none is empty.
@@ -34,6 +37,21 @@ pub fn a_lexeme_is_the_longest(_text: &[u8])
     ensures double { double_size _text.now ≤ (lexeme_at _text.now).size }
     ensures mark { mark_size _text.now ≤ (lexeme_at _text.now).size }
     ensures marks { All (λ mark. IsTrue (begins _text.now mark.0) → length mark.0 ≤ mark_size _text.now) marks }
+{}
+
+/// Where no string begins, the first piece of a text is no shorter than any word, integer, double or
+/// mark of punctuation with which the text begins.
+pub fn a_piece_is_the_longest_lexeme(_text: &[u8], _lexeme: &[u8])
+    ensures { (class : Class) (rest : List ℕ) (piece : Spelled) (more : List Spelled) → string_form _text.now ≡ None → _text.now ≡ _lexeme.now ++ rest
+        → IsLexeme class _lexeme.now → pieces_behind _text.now ≡ piece ∷ more → length _lexeme.now ≤ length piece.1 }
+{}
+
+/// Where no string begins, a text begins with its first piece, which is of its class: a word, an
+/// integer, a double, a mark, white space, a comment, characters beyond ASCII, or a character with
+/// which no lexeme begins. The further pieces are those of what stands behind it.
+pub fn a_first_piece_is_of_its_class(_text: &[u8])
+    ensures { (piece : Spelled) (more : List Spelled) → string_form _text.now ≡ None → pieces_behind _text.now ≡ piece ∷ more
+        → (rest : List ℕ) × (_text.now ≡ piece.1 ++ rest) × (more ≡ pieces_behind rest) × IsFirstPiece piece.0 piece.1 rest }
 {}
 
 /// Where a text begins with a whole string of the grammar, this one is read: up to the first quotes

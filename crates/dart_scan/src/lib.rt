@@ -19,9 +19,9 @@ mod value;
 mod words;
 
 pub use laws::{
-    a_comment_is_as_its_grammar_says, a_lexeme_is_the_longest, a_string_is_whole_or_one_piece,
-    a_string_of_one_quote_stands_in_a_line, a_word_is_its_lexeme, pieces_cover_a_text,
-    pieces_of_a_text_are_texts, tokens_rise,
+    a_comment_is_as_its_grammar_says, a_lexeme_is_the_longest, a_piece_is_the_longest_lexeme,
+    a_string_is_whole_or_one_piece, a_string_of_one_quote_stands_in_a_line, a_word_is_its_lexeme,
+    pieces_cover_a_text, pieces_of_a_text_are_texts, tokens_rise,
 };
 pub use scanner::scan;
 pub use value::string_value;
