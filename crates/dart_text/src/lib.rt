@@ -21,6 +21,3 @@ pub use edited_text::EditedText;
 pub use position::Position;
 pub use positions::Positions;
 pub use text::{MAX_TEXT, Text, TextRefusal};
-
-#[cfg(test)]
-mod tests;

@@ -15,6 +15,3 @@ pub use code::{code_name, error_kind, message};
 pub use laws::codes_are_ordered_by_name;
 pub use lines::{line_of, lines_of};
 pub use rows::render;
-
-#[cfg(test)]
-mod tests;

@@ -14,8 +14,6 @@ mod height;
 mod locals;
 mod nodes;
 mod statements;
-#[cfg(test)]
-mod tests;
 mod values;
 
 ghost use Rattle.std.specs.Prelude.{◌≡◌, ◌<◌, ◌≤◌, ◌*◌, ◌^◌, ℕ, List, length, IfOk, IfSome, OnOk, IsTrue, []};

@@ -11,8 +11,6 @@ mod entry;
 mod laws;
 mod overlays;
 mod refusal;
-#[cfg(test)]
-mod tests;
 
 pub use entry::Entry;
 pub use laws::{

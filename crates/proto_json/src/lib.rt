@@ -29,6 +29,3 @@ pub use reply::{ErrorKind, ErrorRow, ErrorRows, Location, ReplyBody, Severity};
 pub use request::{Asked, MAX_LINE, Request, RequestRefusal, read_request};
 pub use text::{FixedText, SharedText};
 pub use write::write_reply;
-
-#[cfg(test)]
-mod tests;

@@ -1,6 +1,6 @@
 //! Requests and the texts that they leave, worked out by hand from the protocol.
 
-use crate::{OverlayRefusal, Overlays};
+use overlays::{OverlayRefusal, Overlays};
 use plain_text::PlainText;
 use proto_json::{FileOverlay, FileOverlays, Overlay, OverlayEdit, OverlayEdits};
 use std::alloc::{AllocError, Global};

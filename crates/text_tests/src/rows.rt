@@ -1,9 +1,9 @@
 //! The lines of small texts: columns count UTF-16 units, faults may stand in any order, and a file
 //! without a text has a line too.
 
-use crate::{lines_of, render};
 use dart_text::Text;
 use dart_tree::Span;
+use diagnostics::{lines_of, render};
 use judgement::{DiagnosticCode, Fault};
 use std::test::Fail;
 

@@ -1,14 +1,14 @@
 //! Texts and their core programs, worked out by hand from the rows of the layout.
 
-use crate::elaborate_unit;
-use check_library::check;
+use check_library::{check, no_diagnostics_means_no_faults};
 use core_ir::{CoreProgram, Operand, Point, Term, Value};
 use dart_text::{Text, TextRefusal};
+use elaborate::elaborate;
 use std::alloc::{AllocError, Global};
 use std::string::String;
 use std::test::Fail;
 
-/// The core program of a text, whatever is wrong with it; None where it is no unit.
+/// The core program of a text; None where something is wrong with it.
 fn program_of(alloc: Global, text: &str) -> Result<Option<CoreProgram>, AllocError> {
     let text = match Text::from_str(alloc, text) {
         Ok(text) => text,
@@ -16,10 +16,11 @@ fn program_of(alloc: Global, text: &str) -> Result<Option<CoreProgram>, AllocErr
         Err(TextRefusal::NotUtf8 | TextRefusal::TooLong { .. }) => return Ok(None),
     };
     let checked = check(alloc, "/a.dart", &text)?;
-    match &checked.unit {
-        Some(unit) => Ok(Some(elaborate_unit(alloc, unit, &checked.typed)?)),
-        None => Ok(None),
+    no_diagnostics_means_no_faults(text.as_str().as_bytes());
+    if !checked.diagnostics.as_slice().is_empty() {
+        return Ok(None);
     }
+    Ok(Some(elaborate(alloc, &checked)?))
 }
 
 /// An operand: `s` and the number of its slot, or its value.

@@ -1,6 +1,6 @@
 //! Edits and positions of small texts, and the longest text.
 
-use crate::{EditRefusal, EditedText, MAX_TEXT, Position, Positions, Text, TextRefusal};
+use dart_text::{EditRefusal, EditedText, MAX_TEXT, Position, Positions, Text, TextRefusal};
 use std::alloc::{AllocError, Global};
 use std::test::Fail;
 

@@ -2,7 +2,7 @@
 //! shows them: what is read of a request that isn't served yet, the order of an update's files, and
 //! replies of each form.
 
-use crate::{
+use proto_json::{
     Asked, Code, ErrorKind, ErrorRow, ErrorRows, FileOverlay, FixedText, Location, Overlay,
     OverlayEdit, Paths, ReplyBody, Request, RequestRefusal, Severity, SharedText, read_request,
     write_reply,
