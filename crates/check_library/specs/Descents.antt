@@ -42,9 +42,13 @@ take_operator = take_turn (operator_of operator.Plus) (take_token (is Plus)) ⊘
 unfoldable pub take_expression : List (List ℕ) → Lower → Descent Token Tree
 take_expression words l = take_make expression_of (take_operand words ▸ take_maybe (take_operator ▸ l.operand))
 
+-- `int` or `int?`
+abbrev pub take_int_type : Descent Token Tree
+take_int_type = take_make int_type_of (take_token (is Int) ▸ take_maybe (take_token (is Question)))
+
 -- a type
 unfoldable pub take_type : Descent Token Tree
-take_type = take_make int_type_of (take_token (is Int) ▸ take_maybe (take_token (is Question))) ⊘ take_turn bool_type_of (take_token (is BoolWord))
+take_type = take_int_type ⊘ take_turn bool_type_of (take_token (is BoolWord))
 
 -- a declaration of a local, with an initializer if a `=` comes next
 unfoldable pub take_declare : Lower → Descent Token Tree

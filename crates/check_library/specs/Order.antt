@@ -1,5 +1,5 @@
 -- The order in which diagnostics are reported.
-use Rattle.std.specs.Prelude.{◌≡◌, List, [], ◌∷◌}
+use Rattle.std.specs.Prelude.{◌≡◌, ℕ, ◌-◌, List, [], ◌∷◌}
 use Rattle.std.specs.Ordering.{nat_cmp, ordering_then}
 use Rattle.std.specs.declared.cmp.Ordering.{Ordering}
 use Rattle.std.specs.declared.cmp.Ordering.TheVariants.{Less}
@@ -8,6 +8,10 @@ use Rattle.dart_tree.specs.declared.places.Span.{Span}
 use Rattle.judgement.specs.declared.DiagnosticCode.{DiagnosticCode}
 use Rattle.judgement.specs.declared.Fault.{Fault}
 use Rattle.judgement.specs.contracts.DiagnosticCodeOrd.TheImpl as code
+
+-- how long a span is
+abbrev pub span_length : Span → ℕ
+span_length span = span.end - span.start
 
 -- by where they start, then by where they end: of two that start together the shorter is first
 abbrev pub span_cmp : Span → Span → Ordering

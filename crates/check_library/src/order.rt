@@ -1,8 +1,8 @@
 //! The order of diagnostics.
 
-ghost use Rattle.std.specs.Prelude.{◌≡◌, ◌≤◌, ◌-◌, IfOk, AllPairs, Contains, ◌↔◌};
+ghost use Rattle.std.specs.Prelude.{◌≡◌, ◌≤◌, IfOk, AllPairs, Contains, ◌↔◌};
 ghost use Rattle.judgement.specs.declared.Fault.{Fault};
-ghost use Rattle.check_library.specs.Order.{IsBefore, code_cmp, sorted_faults};
+ghost use Rattle.check_library.specs.Order.{IsBefore, code_cmp, sorted_faults, span_length};
 ghost use Rattle.std.specs.declared.cmp.Ordering.TheVariants.{Less};
 
 use judgement::Fault;
@@ -33,6 +33,6 @@ pub fn reports_are_in_order(_faults: &[Fault])
 /// first.
 pub fn earlier_and_shorter_come_first(_first: Fault, _second: Fault)
     ensures start { IsBefore _first _second → _first.span.start ≤ _second.span.start }
-    ensures length { IsBefore _first _second → _first.span.start ≡ _second.span.start → _first.span.end - _first.span.start ≤ _second.span.end - _second.span.start }
+    ensures length { IsBefore _first _second → _first.span.start ≡ _second.span.start → span_length _first.span ≤ span_length _second.span }
     ensures code { IsBefore _first _second → _first.span ≡ _second.span → code_cmp _first.code _second.code ≡ Less }
 {}

@@ -15,6 +15,18 @@ closes_at tokens place = option_and_then (λ token. closes token.kind) (slice_ge
 abbrev pub partner_at : List Token → (place : ℕ) → Option ℕ
 partner_at tokens place = slice_index_or (partners_of tokens) place None
 
+-- the token at a place opens a group
+abbrev pub OpensGroup : List Token → (place : ℕ) → Type 0
+OpensGroup tokens place = IsSome (opens_at tokens place)
+
+-- the token at a place closes a group
+abbrev pub ClosesGroup : List Token → (place : ℕ) → Type 0
+ClosesGroup tokens place = IsSome (closes_at tokens place)
+
+-- the token at a place has this one as partner
+abbrev pub HasPartner : List Token → (place partner : ℕ) → Type 0
+HasPartner tokens place partner = partner_at tokens place ≡ Some partner
+
 -- A token opens a group, and a later one closes it: it is of the kind that this one closes, and has this one as partner.
 pub record ArePaired (tokens : List Token) (opening closing : ℕ) : Type 0 where
   pub before : opening < closing

@@ -89,8 +89,10 @@ pub fn conservative_join_forgets_the_written(
     _captured: &[LocalId],
     _var: LocalId,
 )
-    ensures forgotten { IsTrue (is_changed _written.now _captured.now _var) → current_in (conservative_of _flow.now _written.now _captured.now) _var ≡ declared_in _flow.now _var }
-    ensures kept { is_changed _written.now _captured.now _var ≡ false → facts_of (conservative_of _flow.now _written.now _captured.now) _var ≡ facts_of _flow.now _var }
+    ensures forgotten { let after = conservative_of _flow.now _written.now _captured.now in
+        IsTrue (is_changed _written.now _captured.now _var) → current_in after _var ≡ declared_in _flow.now _var }
+    ensures kept { let after = conservative_of _flow.now _written.now _captured.now in
+        is_changed _written.now _captured.now _var ≡ false → facts_of after _var ≡ facts_of _flow.now _var }
 {}
 
 /// What two pieces of code could change is forgotten one after the other, or at once: each local

@@ -1,5 +1,5 @@
 -- Texts by their paths.
-use Rattle.std.specs.Prelude.{ℕ, not, List, [], ◌∷◌, map, filter, bytes_eq, if◌then◌else◌, Option, None, Some}
+use Rattle.std.specs.Prelude.{◌≡◌, ℕ, not, List, [], ◌∷◌, map, filter, bytes_eq, if◌then◌else◌, Option, None, Some}
 use Rattle.std.specs.Cmp.Lexicographic.{slice_cmp}
 use Rattle.std.specs.List.Sorted.{IsStrictlySortedBy}
 use Rattle.std.specs.Ordering.{nat_cmp, match_ordering}
@@ -16,6 +16,10 @@ IsInOrder table = IsStrictlySortedBy (slice_cmp nat_cmp) (map (λ e. e.0) table)
 unfoldable pub text_in : List ℕ → PathsAndTexts → Option (List ℕ)
 text_in path [] = None
 text_in path (e ∷ more) = if bytes_eq path e.0 then Some e.1 else text_in path more
+
+-- a path has the text that it had, or still none
+abbrev pub KeepsText : List ℕ → (old new : PathsAndTexts) → Type 0
+KeepsText path old new = text_in path new ≡ text_in path old
 
 -- these texts with the one at the path, in place of the one there or where the order of the paths has it
 unfoldable pub put_text : List ℕ → List ℕ → PathsAndTexts → PathsAndTexts

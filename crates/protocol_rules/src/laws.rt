@@ -3,7 +3,7 @@
 ghost use Rattle.std.specs.Prelude.{◌≡◌, ◌≢◌, ℕ, List, [], false, Ok, Err, IfSome};
 ghost use Rattle.std.specs.Option.{option_map_or};
 ghost use Rattle.serve_loop.specs.Event.{Event, line as line_event};
-ghost use Rattle.proto_json.specs.Requests.{answer, head_by};
+ghost use Rattle.proto_json.specs.Requests.{IsAsked, answer, head_by};
 ghost use Rattle.proto_json.specs.declared.code.Code.{Code};
 ghost use Rattle.proto_json.specs.declared.overlay.FileOverlay.{FileOverlay};
 ghost use Rattle.proto_json.specs.declared.reply.ReplyBody.TheVariants.{Error};
@@ -32,7 +32,8 @@ pub fn a_reply_repeats_the_id(_contents: &Contents, _line: &[u8])
 /// The files of an update are all applied, one after another, and the texts are then within the
 /// limits; or the update is refused, and the state is as it was.
 pub fn an_update_is_taken_whole_or_not_at_all(_contents: &Contents, _line: &[u8])
-    ensures { (id : List ℕ) (files : List FileOverlay) → answer _line.now ≡ Ok record { id = id; request = Update files } → IfSome (turn _contents.now (line_event _line.now)) (TakesAllOrNone _contents.now files) }
+    ensures { (id : List ℕ) (files : List FileOverlay) → IsAsked _line.now id (Update files)
+        → IfSome (turn _contents.now (line_event _line.now)) (TakesAllOrNone _contents.now files) }
 {}
 
 /// No line is refused for want of memory by the rules, and no files of an update are: the rows of the

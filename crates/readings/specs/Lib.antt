@@ -6,5 +6,6 @@ pub mod Longest
 pub mod Combinators
 pub mod Repetition
 pub mod Parses
+pub mod Parser
 pub mod Loops
 pub mod Chains

@@ -17,6 +17,10 @@ abbrev pub preceded : {T A : Type 0} → List A → Option (Reading T (List A)) 
 preceded done None = None
 preceded done (Some x) = Some (done ++ x.0, x.1)
 
+-- of all elements that the descent finds in these tokens some are done, and the others are those that it finds in the rest
+abbrev pub HasDone : {T A : Type 0} → Descent T A → (all : List T) (done : List A) (rest : List T) → Type 0
+HasDone g all done rest = take_many g all ≡ preceded done (take_many g rest)
+
 -- the descent of a rule finds what has a token
 pub parses_falls : {T A : Type 0} (s f : T → Bool) (p : Rule T A) (g : Descent T A) → Parses s f p g → Falls g
 parses_falls s f p g a ts x e = a.shrinks ts x (agrees_found s p g a.agrees ts x e)

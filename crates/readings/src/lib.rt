@@ -12,7 +12,8 @@ ghost use Rattle.readings.specs.Readings.{Reading, Rule, token, ◌▹◌, ◌�
 ghost use Rattle.readings.specs.Descent.{Descent, take_token, ◌▸◌, ◌⊘◌, take_make, take_maybe, take_many, take_chain, complete};
 ghost use Rattle.readings.specs.Agreement.{Apart, Within, either, nothing, Agrees, Never};
 ghost use Rattle.readings.specs.Parses.{Parses};
-ghost use Rattle.readings.specs.Loops.{Falls, preceded};
+ghost use Rattle.readings.specs.Parser.{Parser};
+ghost use Rattle.readings.specs.Loops.{Falls, HasDone};
 
 /// The tokens that were read, where `rest` was left of `tokens`.
 pub fn tokens_read<'a, T>(tokens: &'a [T], rest: &[T]) -> &'a [T]
@@ -31,26 +32,35 @@ pub fn longest_laws<T, A>()
 /// Descents parse rules, combinator by combinator, where alternatives never both read or differ
 /// in their first token.
 ///
-/// `s` are the tokens before which a shorter reading of the first rule may stop, `f` those with
-/// which it begins; `u` and `v` are these of the second.
+/// `p` and `q` are parsers: a descent that parses a rule, with the tokens before which a shorter
+/// reading of the rule may stop, and those with which it begins.
 pub fn combinator_laws<T, A, B>()
     ensures one_token { (test : T → Bool) → Parses nothing test (token test) (take_token test) }
-    ensures made { (s f : T → Bool) (p : Rule T A) (g : Descent T A) (of : List T → A → B) → Parses s f p g → Parses s f (make of p) (take_make of g) }
-    ensures sequence { (s f u v : T → Bool) (p : Rule T A) (q : Rule T B) (g : Descent T A) (h : Descent T B) → Parses s f p g → Parses u v q h → Apart s v → Parses u f (p ▹ q) (g ▸ h) }
-    ensures choice { (s f u v : T → Bool) (p q : Rule T A) (g h : Descent T A) → Parses s f p g → Parses u v q h → Never p q → Parses (either s u) (either f v) (p ∣ q) (g ⊘ h) }
-    ensures choice_by_first { (s f u v : T → Bool) (p q : Rule T A) (g h : Descent T A) → Parses s f p g → Parses u v q h → Apart f v → Parses (either s u) (either f v) (p ∣ q) (g ⊘ h) }
-    ensures maybe_before { (s f u v : T → Bool) (p : Rule T A) (q : Rule T B) (g : Descent T A) (h : Descent T B) → Parses s f p g → Parses u v q h → Apart (either s f) v → Parses u (either f v) (maybe p ▹ q) (take_maybe g ▸ h) }
-    ensures many_before { (s f u v : T → Bool) (p : Rule T A) (q : Rule T B) (g : Descent T A) (h : Descent T B) → Parses s f p g → Parses u v q h → Apart s f → Apart (either s f) v → Parses u (either f v) (many p ▹ q) (take_many g ▸ h) }
-    ensures maybe_last { (s f u v : T → Bool) (p : Rule T A) (q : Rule T B) (g : Descent T A) (h : Descent T B) → Parses s f p g → Parses u v q h → Apart s v → Parses (either s (either u v)) f (p ▹ maybe q) (g ▸ take_maybe h) }
-    ensures many_last { (s f u v : T → Bool) (p : Rule T A) (q : Rule T B) (g : Descent T A) (h : Descent T B) → Parses s f p g → Parses u v q h → Apart u v → Apart s v → Parses (either s (either u v)) f (p ▹ many q) (g ▸ take_many h) }
-    ensures left_nested { (most : List T → ℕ) (room : A → Bool) (join : List T → A → B → A) (s f u v : T → Bool) (p : Rule T A) (q : Rule T B) (g : Descent T A) (h : Descent T B) → Parses s f p g → Parses u v q h → Apart u v → Apart s v → Parses (either s (either u v)) f (chain most room join p q) (take_chain most room join g h) }
-    ensures weaker { (s f u v : T → Bool) (p : Rule T A) (g : Descent T A) → Within s u → Within f v → Parses s f p g → Parses u v p g }
+    ensures made { (p : Parser T A) (of : List T → A → B) → Parses p.stops p.begins (make of p.rule) (take_make of p.descent) }
+    ensures sequence { (p : Parser T A) (q : Parser T B) → Apart p.stops q.begins → Parses q.stops p.begins (p.rule ▹ q.rule) (p.descent ▸ q.descent) }
+    ensures choice { (p q : Parser T A) → Never p.rule q.rule
+        → Parses (either p.stops q.stops) (either p.begins q.begins) (p.rule ∣ q.rule) (p.descent ⊘ q.descent) }
+    ensures choice_by_first { (p q : Parser T A) → Apart p.begins q.begins
+        → Parses (either p.stops q.stops) (either p.begins q.begins) (p.rule ∣ q.rule) (p.descent ⊘ q.descent) }
+    ensures maybe_before { (p : Parser T A) (q : Parser T B) → Apart (either p.stops p.begins) q.begins
+        → Parses q.stops (either p.begins q.begins) (maybe p.rule ▹ q.rule) (take_maybe p.descent ▸ q.descent) }
+    ensures many_before { (p : Parser T A) (q : Parser T B) → Apart p.stops p.begins → Apart (either p.stops p.begins) q.begins
+        → Parses q.stops (either p.begins q.begins) (many p.rule ▹ q.rule) (take_many p.descent ▸ q.descent) }
+    ensures maybe_last { (p : Parser T A) (q : Parser T B) → Apart p.stops q.begins
+        → Parses (either p.stops (either q.stops q.begins)) p.begins (p.rule ▹ maybe q.rule) (p.descent ▸ take_maybe q.descent) }
+    ensures many_last { (p : Parser T A) (q : Parser T B) → Apart q.stops q.begins → Apart p.stops q.begins
+        → Parses (either p.stops (either q.stops q.begins)) p.begins (p.rule ▹ many q.rule) (p.descent ▸ take_many q.descent) }
+    ensures left_nested { (most : List T → ℕ) (room : A → Bool) (join : List T → A → B → A) (p : Parser T A) (q : Parser T B)
+        → Apart q.stops q.begins → Apart p.stops q.begins
+        → Parses (either p.stops (either q.stops q.begins)) p.begins (chain most room join p.rule q.rule) (take_chain most room join p.descent q.descent) }
+    ensures weaker { (p : Parser T A) (stops begins : T → Bool) → Within p.stops stops → Within p.begins begins → Parses stops begins p.rule p.descent }
 {}
 
 /// What a loop keeps that repeats a descent: the elements done, then those of the rest, are all.
 pub fn loop_laws<T, A>()
-    ensures falls { (s f : T → Bool) (p : Rule T A) (g : Descent T A) → Parses s f p g → Falls g }
-    ensures begins { (g : Descent T A) (all : List T) → take_many g all ≡ preceded [] (take_many g all) }
-    ensures goes_on { (g : Descent T A) → Falls g → (all rest : List T) (done : List A) (x : Reading T A) → take_many g all ≡ preceded done (take_many g rest) → g rest ≡ Some x → take_many g all ≡ preceded (done ++ x.0 ∷ []) (take_many g x.1) }
-    ensures ends { (g : Descent T A) (all rest : List T) (done : List A) → take_many g all ≡ preceded done (take_many g rest) → g rest ≡ None → take_many g all ≡ Some (done, rest) }
+    ensures falls { (p : Parser T A) → Falls p.descent }
+    ensures begins { (g : Descent T A) (all : List T) → HasDone g all [] all }
+    ensures goes_on { (g : Descent T A) → Falls g → (all rest : List T) (done : List A) (x : Reading T A)
+        → HasDone g all done rest → g rest ≡ Some x → HasDone g all (done ++ x.0 ∷ []) x.1 }
+    ensures ends { (g : Descent T A) (all rest : List T) (done : List A) → HasDone g all done rest → g rest ≡ None → take_many g all ≡ Some (done, rest) }
 {}

@@ -62,7 +62,8 @@ fn reply_to<K: Sink, A: Answerer, F: Files>(
     ensures ok { OnOk result ((mark : Bool) × Tells (A.uses (event_of heard.entry)) mark (F.faults files.old) (F.faults files.new)
         × (K.written sink.new ≡ and_then (K.written sink.old) (unwrap_or (A.reply (A.state answerer.old) (F.told files.old) (event_of heard.entry) mark) []))
         × (A.state answerer.new ≡ A.next (A.state answerer.old) (F.told files.old) (event_of heard.entry) mark)) }
-    ensures err { IfErr result (λ end. PartOfReply end (A.uses (event_of heard.entry)) (A.reply (A.state answerer.old) (F.told files.old) (event_of heard.entry)) (K.written sink.old) (K.written sink.new) (F.faults files.old) (F.faults files.new)) }
+    ensures err { let event = event_of heard.entry in let reply = A.reply (A.state answerer.old) (F.told files.old) event in
+        IfErr result (λ end. PartOfReply end (A.uses event) reply (K.written sink.old) (K.written sink.new) (F.faults files.old) (F.faults files.new)) }
     ensures told { F.told files.new ≡ F.told files.old }
     ensures unused { A.uses (event_of heard.entry) ≡ false → F.faults files.new ≡ F.faults files.old }
     ensures uncalled { A.uses (event_of heard.entry) ≡ false → (F.lists files.new ≡ F.lists files.old) × (F.reads files.new ≡ F.reads files.old) }

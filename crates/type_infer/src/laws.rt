@@ -23,15 +23,17 @@ pub fn inferred_arguments_are_within_bounds(_rows: &Rows, _params: &[VarId])
 /// refuse a call. So a call that isn't out of memory answers exactly what they derive, and refuses
 /// exactly where they do.
 pub fn inferred_arguments_are_unique(_rows: &Rows, _params: &[VarId])
-    ensures { (pairs : List Pair) (a b : Result (List Ty) InferRefusal) → Inferred _rows.now.table _params.now pairs a → Inferred _rows.now.table _params.now pairs b → a ≡ b }
+    ensures { (pairs : List Pair) (a b : Result (List Ty) InferRefusal) → let So = Inferred _rows.now.table _params.now pairs in So a → So b → a ≡ b }
 {}
 
 /// `NoSolution` and `Unconstrained` come exactly for the first parameter that has no argument: for one
 /// whose solution isn't within its bound, in which the arguments of those before it are put in, and
 /// for one that nothing constrains and that has no bound but `Object?`.
 pub fn refusals_are_for_the_first_parameter(_rows: &Rows, _params: &[VarId])
-    ensures no_solution { (pairs : List Pair) (x : VarId) → Inferred _rows.now.table _params.now pairs (Err (NoSolution x)) ↔ HasNoSolution _rows.now.table _params.now pairs x }
-    ensures unconstrained { (pairs : List Pair) (x : VarId) → Inferred _rows.now.table _params.now pairs (Err (Unconstrained x)) ↔ IsUnconstrained _rows.now.table _params.now pairs x }
+    ensures no_solution { (pairs : List Pair) (x : VarId) → let table = _rows.now.table in
+        Inferred table _params.now pairs (Err (NoSolution x)) ↔ HasNoSolution table _params.now pairs x }
+    ensures unconstrained { (pairs : List Pair) (x : VarId) → let table = _rows.now.table in
+        Inferred table _params.now pairs (Err (Unconstrained x)) ↔ IsUnconstrained table _params.now pairs x }
 {}
 
 /// The rules derive one context of an argument at most.

@@ -8,8 +8,8 @@ ghost use Rattle.dart_types.specs.Forms.{params_of};
 ghost use Rattle.dart_types.specs.Heads.{is_plain};
 ghost use Rattle.type_infer.specs.Pairs.{pair, paired, paired_by_name};
 ghost use Rattle.type_infer.specs.Holding.{holds_param};
-ghost use Rattle.type_infer.specs.Matching.{is_on_side, is_as_it_stands, Match, Face, MatchAll};
-ghost use Rattle.type_infer.specs.Finds.{Finds};
+ghost use Rattle.type_infer.specs.Matching.{is_on_side, is_as_it_stands, Match, Face};
+ghost use Rattle.type_infer.specs.Finds.{Finds, FindsAll};
 
 use crate::climbs::{arguments_of, form_above};
 use crate::constraints::{Constraint, Side};
@@ -239,7 +239,8 @@ impl<'a> Matcher<'a> {
         other: &FunctionType,
         found: &mut Vec<Constraint>,
     ) -> Result<bool, TypeRefusal>
-        ensures { Finds (Face self.now.rows.now.table self.now.params.now side (function_type formal.now) (function_type other.now)) found.old.items found.new.items result }
+        ensures { let faced = Face self.now.rows.now.table self.now.params.now side (function_type formal.now) (function_type other.now) in
+            Finds faced found.old.items found.new.items result }
     {
         if !signatures_fit(side, formal, other) {
             return Ok(false);
@@ -264,7 +265,8 @@ impl<'a> Matcher<'a> {
         others: &[DartType],
         found: &mut Vec<Constraint>,
     ) -> Result<bool, TypeRefusal>
-        ensures { let pairs = paired side (types_of formals.now) (types_of others.now) in Finds (MatchAll self.now.rows.now.table self.now.params.now pairs) found.old.items found.new.items result }
+        ensures { let pairs = paired side (types_of formals.now) (types_of others.now) in
+            FindsAll self.now.rows.now.table self.now.params.now pairs found.old.items found.new.items result }
     {
         let count = formals.len().min(others.len());
         for i in 0..count {
@@ -284,7 +286,8 @@ impl<'a> Matcher<'a> {
         other: &FunctionType,
         found: &mut Vec<Constraint>,
     ) -> Result<bool, TypeRefusal>
-        ensures { let pairs = paired side (types_of (params_of formal.now)) (types_of (params_of other.now)) in Finds (MatchAll self.now.rows.now.table self.now.params.now pairs) found.old.items found.new.items result }
+        ensures { let pairs = paired side (types_of (params_of formal.now)) (types_of (params_of other.now)) in
+            FindsAll self.now.rows.now.table self.now.params.now pairs found.old.items found.new.items result }
     {
         let count = count_params(formal).min(count_params(other));
         for i in 0..count {
@@ -306,7 +309,8 @@ impl<'a> Matcher<'a> {
         others: &NamedTypes,
         found: &mut Vec<Constraint>,
     ) -> Result<bool, TypeRefusal>
-        ensures { let pairs = paired_by_name side (named_of formals.now) (named_of others.now) in Finds (MatchAll self.now.rows.now.table self.now.params.now pairs) found.old.items found.new.items result }
+        ensures { let pairs = paired_by_name side (named_of formals.now) (named_of others.now) in
+            FindsAll self.now.rows.now.table self.now.params.now pairs found.old.items found.new.items result }
     {
         for formal in formals {
             let other = match others.get(&formal.name) {
@@ -329,7 +333,7 @@ impl<'a> Matcher<'a> {
         other: &DartType,
         found: &mut Vec<Constraint>,
     ) -> Result<bool, TypeRefusal>
-        ensures { Finds (MatchAll self.now.rows.now.table self.now.params.now (pair side formal.now other.now ∷ [])) found.old.items found.new.items result }
+        ensures { FindsAll self.now.rows.now.table self.now.params.now (pair side formal.now other.now ∷ []) found.old.items found.new.items result }
     {
         if is_open(other) {
             return Ok(true);

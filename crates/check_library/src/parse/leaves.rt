@@ -5,9 +5,9 @@ ghost use Rattle.dart_tree.specs.Numbers.{nodes_in};
 ghost use Rattle.dart_tree.specs.View.{expr_of};
 ghost use Rattle.check_library.specs.declared.token.Token.{Token};
 ghost use Rattle.readings.specs.Readings.{tokens_read};
-ghost use Rattle.readings.specs.Descent.{take_token, take_make, take_turn, take_maybe, ◌▸◌};
-ghost use Rattle.check_library.specs.Grammar.{is, at_span, place_of_token, first_start, last_end, place_over, int_type_of, bool_type_of};
-ghost use Rattle.check_library.specs.Descents.{Finds, first_kind, second_is, take_variable, take_operand, take_operator, take_type, lower};
+ghost use Rattle.readings.specs.Descent.{take_token, take_turn, take_maybe, ◌▸◌};
+ghost use Rattle.check_library.specs.Grammar.{is, at_span, place_of_token, first_start, last_end, place_over, bool_type_of};
+ghost use Rattle.check_library.specs.Descents.{Finds, first_kind, second_is, take_variable, take_operand, take_operator, take_int_type, take_type, lower};
 
 use crate::balance::word_at;
 use crate::literal::literal_of;
@@ -186,7 +186,7 @@ fn question(tokens: &[Token]) -> (Option<Token>, &[Token])
 
 /// `int` or `int?`.
 fn int_type(tokens: &[Token]) -> Option<(WrittenType, &[Token])>
-    ensures reading { Finds (λ x. (x.0, x.1.now)) result (take_make int_type_of (take_token (is Kind.Int) ▸ take_maybe (take_token (is Kind.Question))) tokens.now) }
+    ensures reading { Finds (λ x. (x.0, x.1.now)) result (take_int_type tokens.now) }
     ensures fewer { IfSome result (λ x. nodes_in x.0 + length x.1.now ≤ length tokens.now) }
 {
     let (_, rest) = token(tokens, Kind::Int)?;

@@ -5,14 +5,14 @@ use Rattle.readings.proofs.combinator_laws.Goals as goal
 pub returns : goal.returns
 returns types c = record {
   one_token = parses_token;
-  made = λ s f p g of a. parses_make of a;
-  sequence = λ s f u v p q g h a b e. parses_seq a b e;
-  choice = λ s f u v p q g h a b n. parses_never a b n;
-  choice_by_first = λ s f u v p q g h a b e. parses_or a b e;
-  maybe_before = λ s f u v p q g h a b e. parses_maybe_seq a b e;
-  many_before = λ s f u v p q g h a b d e. parses_many_seq a b d e;
-  maybe_last = λ s f u v p q g h a b e. parses_last_maybe a b e;
-  many_last = λ s f u v p q g h a b d e. parses_last_many a b d e;
-  left_nested = λ most room join s f u v p q g h a b d e. parses_chain most room join a b d e;
-  weaker = λ s f u v p g d e a. parses_within u v d e a;
+  made = λ p of. parses_make of p.parses;
+  sequence = λ p q e. parses_seq p.parses q.parses e;
+  choice = λ p q n. parses_never p.parses q.parses n;
+  choice_by_first = λ p q e. parses_or p.parses q.parses e;
+  maybe_before = λ p q e. parses_maybe_seq p.parses q.parses e;
+  many_before = λ p q d e. parses_many_seq p.parses q.parses d e;
+  maybe_last = λ p q e. parses_last_maybe p.parses q.parses e;
+  many_last = λ p q d e. parses_last_many p.parses q.parses d e;
+  left_nested = λ most room join p q d e. parses_chain most room join p.parses q.parses d e;
+  weaker = λ p u v d e. parses_within u v d e p.parses;
 }

@@ -4,7 +4,7 @@ use Rattle.readings.proofs.loop_laws.Goals as goal
 
 pub returns : goal.returns
 returns types c = record {
-  falls = parses_falls;
+  falls = λ p. parses_falls p.stops p.begins p.rule p.descent p.parses;
   begins = λ g all. loop_begins (take_many g all);
   goes_on = loop_goes;
   ends = loop_ends;
