@@ -1,16 +1,16 @@
 -- The parser's way finds each rule's longest reading, by induction on the nodes that may lie on a way down.
 use Rattle.std.proofs.Common.{◌≡◌, ℕ, zero, suc, ◌<◌, Bool, true, false, List, [], ◌∷◌, Option, Some, None, length, if◌then◌else◌, inl, inr, refl, sym, subst, ap, ◌∙◌, arith}
-use Rattle.dart_tree.specs.declared.nodes.Operator.{Operator}
-use Rattle.dart_tree.specs.declared.nodes.OperatorKind.TheVariants as operator
-use Rattle.dart_tree.specs.Tree.{Tree}
-use Rattle.readings.specs.Members.{In, in_either, from_map}
-use Rattle.readings.specs.Readings.{Reading, Rule, token, given, made, ◌▹◌, ◌∣◌, turn, maybe, whole}
-use Rattle.readings.specs.Descent.{Descent, complete, ◌⊘◌}
-use Rattle.readings.specs.Agreement.{Heads, Never, Starts, either, nothing}
-use Rattle.readings.specs.Combinators.{in_one, in_sequence, heads_apart, heads_left, heads_right, never_or, never_apart, starts_token, starts_seq, starts_make}
-use Rattle.readings.specs.Longest.{agrees_whole}
-use Rattle.readings.specs.Parses.{Parses, parses_none, parses_within, parses_token, parses_turn, parses_make, parses_seq, parses_or, parses_never, parses_maybe_seq, parses_many_seq, parses_last_maybe}
-use Rattle.readings.specs.Loops.{Falls, parses_falls}
+use Rattle.small_tree.specs.declared.nodes.Operator.{Operator}
+use Rattle.small_tree.specs.declared.nodes.OperatorKind.TheVariants as operator
+use Rattle.small_tree.specs.Tree.{Tree}
+use Rattle.small_readings.specs.Members.{In, in_either, from_map}
+use Rattle.small_readings.specs.Readings.{Reading, Rule, token, given, made, ◌▹◌, ◌∣◌, turn, maybe, whole}
+use Rattle.small_readings.specs.Descent.{Descent, complete, ◌⊘◌}
+use Rattle.small_readings.specs.Agreement.{Heads, Never, Starts, either, nothing}
+use Rattle.small_readings.specs.Combinators.{in_one, in_sequence, heads_apart, heads_left, heads_right, never_or, never_apart, starts_token, starts_seq, starts_make}
+use Rattle.small_readings.specs.Longest.{agrees_whole}
+use Rattle.small_readings.specs.Parses.{Parses, parses_none, parses_within, parses_token, parses_turn, parses_make, parses_seq, parses_or, parses_never, parses_maybe_seq, parses_many_seq, parses_last_maybe}
+use Rattle.small_readings.specs.Loops.{Falls, parses_falls}
 use Rattle.check_library.specs.declared.token.Token.{Token}
 use Rattle.check_library.specs.declared.token.Kind.TheVariants.{Identifier, Integer, Void, Main, Int, Bool as BoolWord, Print, If, Else, While, True, False, Null, OpenParenthesis, CloseParenthesis, OpenBrace, CloseBrace, Equals, Semicolon, Question, Plus, Less, NotEqual}
 use Rattle.check_library.specs.Grammar.{is, Below, variable_of, name_of, integer_of, boolean_of, null_of, operator_of, expression_of, int_type_of, bool_type_of, declare_of, assign_of, eval_of, if_of, while_of, print_of, block_of, function_of, unit_of, variable_rule, operand_rule, operator_rule, expression_rule, type_rule, declare_rule, assign_rule, eval_rule, if_rule, while_rule, print_rule, block_rule, statement_rule, function_rule, unit_rule, below}

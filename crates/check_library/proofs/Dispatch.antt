@@ -1,12 +1,12 @@
 -- Which form a statement has, by the kinds of its first two tokens.
 use Rattle.std.proofs.Common.{◌≡◌, ℕ, Bool, true, false, List, [], ◌∷◌, Option, Some, None, Result, refl, sym, subst, ap, ◌∙◌}
-use Rattle.dart_tree.specs.Tree.{Tree}
-use Rattle.readings.specs.Members.{In}
-use Rattle.readings.specs.Readings.{Reading, Rule}
-use Rattle.readings.specs.Descent.{Descent, or_else, ◌⊘◌}
-use Rattle.readings.specs.Agreement.{Heads, Matches, either, nothing}
-use Rattle.readings.specs.Combinators.{agrees_misses, heads_apart}
-use Rattle.readings.specs.Parses.{Parses}
+use Rattle.small_tree.specs.Tree.{Tree}
+use Rattle.small_readings.specs.Members.{In}
+use Rattle.small_readings.specs.Readings.{Reading, Rule}
+use Rattle.small_readings.specs.Descent.{Descent, or_else, ◌⊘◌}
+use Rattle.small_readings.specs.Agreement.{Heads, Matches, either, nothing}
+use Rattle.small_readings.specs.Combinators.{agrees_misses, heads_apart}
+use Rattle.small_readings.specs.Parses.{Parses}
 use Rattle.check_library.specs.declared.token.Token.{Token}
 use Rattle.check_library.specs.declared.token.Kind.{Kind}
 use Rattle.check_library.specs.declared.token.Kind.TheVariants.{Identifier, Int, Bool as BoolWord, Print, If, Else, While, OpenBrace, Equals, Semicolon}

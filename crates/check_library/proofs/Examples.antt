@@ -1,8 +1,8 @@
 -- Readings of small lists of tokens, at depths that a hand can count; and what the grammar reads of small lists of brackets.
 use Rattle.std.proofs.Common.{◌≡◌, ℕ, ◌+◌, true, List, [], ◌∷◌, Some, None, codes, refl}
-use Rattle.dart_tree.specs.declared.nodes.OperatorKind.TheVariants as operator
-use Rattle.dart_tree.specs.Tree.{Tree, name, boolean, null_literal, binary, int_type, declare, assign, eval, if_statement, while_statement, block, function, unit, trees_of, absent, present}
-use Rattle.readings.specs.Readings.{longest, whole}
+use Rattle.small_tree.specs.declared.nodes.OperatorKind.TheVariants as operator
+use Rattle.small_tree.specs.Tree.{Tree, name, boolean, null_literal, binary, int_type, declare, assign, eval, if_statement, while_statement, block, function, unit, trees_of, absent, present}
+use Rattle.small_readings.specs.Readings.{longest, whole}
 use Rattle.dart_tokens.specs.declared.token.Kind.{Kind as TextKind}
 use Rattle.dart_tokens.specs.declared.token.Kind.TheVariants as lexical
 use Rattle.dart_tokens.specs.declared.token.Token.{Token as TextToken}

@@ -1,7 +1,7 @@
 -- Tests of tokens that look at kinds alone: what they say is found by trying each kind.
 use Rattle.std.proofs.Common.{◌≡◌, ℕ, zero, suc, Bool, true, false, ◌&&◌, not, List, [], ◌∷◌, Option, Some, None, if◌then◌else◌, refl}
 use denote.Enum.Declared.{tag_of}
-use Rattle.readings.specs.Agreement.{Apart, Within}
+use Rattle.small_readings.specs.Agreement.{Apart, Within}
 use Rattle.check_library.specs.declared.token.Token.{Token}
 use Rattle.check_library.specs.declared.token.Kind.{Kind}
 use Rattle.check_library.specs.declared.token.Kind.TheVariants.{Identifier, Integer, Void, Main, Int, Bool as BoolWord, Print, If, Else, While, True, False, Null, OpenParenthesis, CloseParenthesis, OpenBrace, CloseBrace, Equals, Semicolon, Question, Plus, Less, NotEqual, Other}

@@ -1,8 +1,8 @@
 -- The descents where no node may lie on a way down, and where some may.
 use Rattle.std.proofs.Common.{◌≡◌, ℕ, zero, suc, ◌-◌, ◌<◌, List, Option, None, refl, arith}
 use native.Mathlib.Numerals.{unary_clauses}
-use Rattle.dart_tree.specs.Tree.{Tree}
-use Rattle.readings.specs.Readings.{Reading}
+use Rattle.small_tree.specs.Tree.{Tree}
+use Rattle.small_readings.specs.Readings.{Reading}
 use Rattle.check_library.specs.declared.token.Token.{Token}
 use Rattle.check_library.specs.Descents.{lower, take_operand, take_expression, take_type, take_statement, take_block, take_function, take_unit}
 

@@ -1,9 +1,9 @@
 -- What the check of a text gives.
 use Rattle.std.specs.Prelude.{◌≡◌, ◌≤◌, ℕ, List, [], Some, length}
 use Rattle.std.specs.Option.{option_map_or}
-use Rattle.dart_tree.specs.Tree.{Tree}
-use Rattle.dart_tree.specs.Numbers.{nodes_in}
-use Rattle.flow_model.specs.Sub.{no_rows}
+use Rattle.small_tree.specs.Tree.{Tree}
+use Rattle.small_tree.specs.Numbers.{nodes_in}
+use Rattle.small_flow.specs.Sub.{no_rows}
 use Rattle.judgement.specs.NodeFacts.{NodeFacts}
 use Rattle.judgement.specs.Typed.{typed_unit}
 use Rattle.dart_text.specs.Edits.{max_text}

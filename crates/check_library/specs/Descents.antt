@@ -1,12 +1,12 @@
 -- The parser's way through the tokens: rule by rule one reading, or none.
 use Rattle.std.specs.Prelude.{◌≡◌, ℕ, zero, suc, Bool, true, false, List, Option, Some, None, option_map, slice_get, Result, Ok, Err}
 use Rattle.std.specs.Option.{option_map_or}
-use Rattle.dart_tree.specs.declared.nodes.Name.{Name}
-use Rattle.dart_tree.specs.declared.nodes.Operator.{Operator}
-use Rattle.dart_tree.specs.declared.nodes.OperatorKind.TheVariants as operator
-use Rattle.dart_tree.specs.Tree.{Tree}
-use Rattle.readings.specs.Readings.{Reading}
-use Rattle.readings.specs.Descent.{Descent, take_token, ◌▸◌, ◌⊘◌, take_make, take_turn, take_maybe, take_many}
+use Rattle.small_tree.specs.declared.nodes.Name.{Name}
+use Rattle.small_tree.specs.declared.nodes.Operator.{Operator}
+use Rattle.small_tree.specs.declared.nodes.OperatorKind.TheVariants as operator
+use Rattle.small_tree.specs.Tree.{Tree}
+use Rattle.small_readings.specs.Readings.{Reading}
+use Rattle.small_readings.specs.Descent.{Descent, take_token, ◌▸◌, ◌⊘◌, take_make, take_turn, take_maybe, take_many}
 use Rattle.check_library.specs.declared.token.Token.{Token}
 use Rattle.check_library.specs.declared.token.Kind.{Kind}
 use Rattle.check_library.specs.declared.token.Kind.TheVariants.{Identifier, Integer, Void, Main, Int, Bool as BoolWord, Print, If, Else, While, True, False, Null, OpenParenthesis, CloseParenthesis, OpenBrace, CloseBrace, Equals, Semicolon, Question, Plus, Less, NotEqual}

@@ -2,7 +2,7 @@
 use Rattle.std.specs.Prelude.{ℕ, List, [], ◌∷◌, ◌++◌, map, slice_get}
 use Rattle.std.specs.Option.{option_map_or}
 use Rattle.plain_text.specs.Units.{units_in}
-use Rattle.dart_tree.specs.declared.places.Span.{Span}
+use Rattle.small_tree.specs.declared.places.Span.{Span}
 use Rattle.dart_tokens.specs.declared.token.Token.{Token as TextToken}
 use Rattle.dart_tokens.specs.declared.scanned.LexFault.{LexFault}
 use Rattle.dart_tokens.specs.declared.scanned.LexFaultKind.{LexFaultKind}
@@ -15,7 +15,7 @@ use Rattle.dart_scan.specs.Scanned.{tokens_of, faults_of as faults_of_pieces}
 use Rattle.judgement.specs.declared.Fault.{Fault}
 use Rattle.judgement.specs.declared.DiagnosticCode.{DiagnosticCode}
 use Rattle.judgement.specs.declared.DiagnosticCode.TheVariants.{BadEscape, IllegalCharacter, ProfileIdentifier, SyntaxError, UnclosedGroup, UnopenedGroup, UnterminatedComment, UnterminatedString}
-use Rattle.flow_model.specs.Sub.{no_rows}
+use Rattle.small_flow.specs.Sub.{no_rows}
 use Rattle.judgement.specs.Judgement.{faults_of}
 use Rattle.check_library.specs.Grammar.{tree_of}
 use Rattle.check_library.specs.Order.{sorted_faults}

@@ -2,14 +2,14 @@
 use Rattle.std.specs.Prelude.{ℕ, zero, suc, ◌+◌, ◌-◌, Bool, true, false, List, [], length, Option, Some, None, is_some, option_map, slice_get}
 use Rattle.std.specs.Option.{option_map_or}
 use denote.Enum.Bare.{sameb}
-use Rattle.dart_tree.specs.declared.places.Place.{Place}
-use Rattle.dart_tree.specs.declared.nodes.Name.{Name}
-use Rattle.dart_tree.specs.declared.nodes.Operator.{Operator}
-use Rattle.dart_tree.specs.declared.nodes.OperatorKind.{OperatorKind}
-use Rattle.dart_tree.specs.declared.nodes.OperatorKind.TheVariants as operator
-use Rattle.dart_tree.specs.Tree.{Tree, Part, name, integer, boolean, null_literal, binary, int_type, bool_type, declare, assign, eval, print, if_statement, while_statement, block, function, unit, trees_of, part_of}
-use Rattle.dart_tree.specs.Numbers.{numbered}
-use Rattle.readings.specs.Readings.{Rule, token, ◌▹◌, ◌∣◌, make, turn, maybe, many, whole}
+use Rattle.small_tree.specs.declared.places.Place.{Place}
+use Rattle.small_tree.specs.declared.nodes.Name.{Name}
+use Rattle.small_tree.specs.declared.nodes.Operator.{Operator}
+use Rattle.small_tree.specs.declared.nodes.OperatorKind.{OperatorKind}
+use Rattle.small_tree.specs.declared.nodes.OperatorKind.TheVariants as operator
+use Rattle.small_tree.specs.Tree.{Tree, Part, name, integer, boolean, null_literal, binary, int_type, bool_type, declare, assign, eval, print, if_statement, while_statement, block, function, unit, trees_of, part_of}
+use Rattle.small_tree.specs.Numbers.{numbered}
+use Rattle.small_readings.specs.Readings.{Rule, token, ◌▹◌, ◌∣◌, make, turn, maybe, many, whole}
 use Rattle.check_library.specs.declared.token.Token.{Token}
 use Rattle.check_library.specs.declared.token.Kind.{Kind}
 use Rattle.check_library.specs.declared.token.Kind.TheVariants.{Identifier, Integer, Void, Main, Int, Bool as BoolWord, Print, If, Else, While, True, False, Null, OpenParenthesis, CloseParenthesis, OpenBrace, CloseBrace, Equals, Semicolon, Question, Plus, Less, NotEqual}

@@ -1,7 +1,7 @@
 -- The values of integer literals.
 use Rattle.std.specs.Prelude.{ℕ, ◌+◌, ◌-◌, ◌*◌, ◌^◌, Bool, ◌||◌, List, drop, fold, codes, nat_le, nat_lt, if◌then◌else◌, Option, Some, None}
-use Rattle.dart_tree.specs.declared.nodes.IntegerLiteral.{IntegerLiteral}
-use Rattle.dart_tree.specs.declared.nodes.Radix.TheVariants.{Decimal, Hexadecimal}
+use Rattle.small_tree.specs.declared.nodes.IntegerLiteral.{IntegerLiteral}
+use Rattle.small_tree.specs.declared.nodes.Radix.TheVariants.{Decimal, Hexadecimal}
 use Rattle.dart_scan.specs.Lexemes.{begins}
 
 -- the value of a digit: `0` to `9`, `A` to `F` or `a` to `f`

@@ -5,8 +5,8 @@ ghost use Rattle.dart_tokens.specs.Groups.{faults_of as faults_of_groups};
 ghost use Rattle.check_library.specs.Diagnostics.{code_of_piece, fault_of_piece, code_of_group, span_at, fault_of_group};
 
 use dart_tokens::{GroupFault, GroupFaultKind, LexFault, LexFaultKind, Scanned, Token, group};
-use dart_tree::Span;
 use judgement::{DiagnosticCode, Fault};
+use small_tree::Span;
 use std::alloc::{AllocError, Global};
 
 fn code_of_piece(kind: LexFaultKind) -> DiagnosticCode

@@ -11,10 +11,10 @@ use crate::order::sorted;
 use crate::tree::tree;
 use dart_scan::scan;
 use dart_text::Text;
-use dart_tree::{Span, Unit};
 use judgement::{DiagnosticCode, Fault, TypedNode};
 use plain_text::{PlainText, utf16_len};
 use resolve::{Judged, judge_unit};
+use small_tree::{Span, Unit};
 use std::alloc::{AllocError, Global};
 use std::marker::Model;
 

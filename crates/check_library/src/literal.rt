@@ -3,7 +3,7 @@
 ghost use Rattle.std.specs.Prelude.{◌≡◌, ◌+◌, ◌*◌, ◌≤◌};
 ghost use Rattle.check_library.specs.Literals.{digit_of, number_behind, within_64_bits, is_hexadecimal, literal_of};
 
-use dart_tree::{IntegerLiteral, Radix};
+use small_tree::{IntegerLiteral, Radix};
 
 fn digit_of(byte: u8) -> u64
     ensures { result ≡ digit_of byte }

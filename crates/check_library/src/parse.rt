@@ -5,7 +5,7 @@
 //! text that nests without end is refused after as many steps.
 
 ghost use Rattle.std.specs.Prelude.{◌≡◌, ◌+◌, ◌<◌, ◌≤◌, length, IfOk};
-ghost use Rattle.dart_tree.specs.Numbers.{nodes_in};
+ghost use Rattle.small_tree.specs.Numbers.{nodes_in};
 ghost use Rattle.check_library.specs.Grammar.{deepest};
 ghost use Rattle.check_library.specs.Descents.{Gives, lower};
 
@@ -17,7 +17,7 @@ use crate::parse::leaves::{place_over, token};
 use crate::parse::statements::block;
 use crate::token::{Kind, Token};
 use dart_tokens::Words;
-use dart_tree::{Function, Unit};
+use small_tree::{Function, Unit};
 use std::alloc::{AllocFailed, Global};
 
 /// How deep a node may lie, where the unit lies at depth 0.

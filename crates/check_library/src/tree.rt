@@ -1,8 +1,8 @@
 //! The tree of a text.
 
 ghost use Rattle.std.specs.Prelude.{◌≡◌, ◌+◌, ◌<◌, ◌≤◌, ◌^◌, [], length, option_map, IfOk, IfSome};
-ghost use Rattle.dart_tree.specs.Numbers.{nodes_in, numbered};
-ghost use Rattle.readings.specs.Readings.{whole};
+ghost use Rattle.small_tree.specs.Numbers.{nodes_in, numbered};
+ghost use Rattle.small_readings.specs.Readings.{whole};
 ghost use Rattle.check_library.specs.Grammar.{below, deepest};
 ghost use Rattle.check_library.specs.Tokens.{tokens_from};
 
@@ -10,7 +10,7 @@ use crate::balance::balanced;
 use crate::parse::{Miss, unit};
 use crate::token::Token;
 use dart_tokens::{Scanned, Words};
-use dart_tree::{Unit, number_unit};
+use small_tree::{Unit, number_unit};
 use std::alloc::{AllocError, Global};
 
 /// The unit that all these tokens are.

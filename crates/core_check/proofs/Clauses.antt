@@ -2,7 +2,7 @@
 use Rattle.std.proofs.Common.{◌≡◌, ℕ, Bool, true, false, not, ◌&&◌, List, [], length, if◌then◌else◌, nat_eq, refl, sym, ap, ◌∙◌, IsTrue, IsFalse, ◌↔◌, All}
 use Rattle.std.proofs.lemmas.Bool.{eq-eqb, eqb-true}
 use Rattle.std.specs.Prelude.{flat_map, is_some, slice_get}
-use Rattle.flow_model.specs.Ty.{Ty, same_type}
+use Rattle.small_flow.specs.Ty.{Ty, same_type}
 use Rattle.core_ir.specs.PointFacts.{PointFacts}
 use Rattle.core_ir.specs.Program.{Program}
 use Rattle.core_ir.specs.Values.{declared_of, declared_at}

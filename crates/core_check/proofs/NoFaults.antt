@@ -1,9 +1,9 @@
 -- Where lists of faults are empty.
 use Rattle.std.proofs.Common.{◌≡◌, ℕ, zero, suc, ◌<◌, Bool, true, false, not, ◌||◌, List, [], ◌∷◌, ◌++◌, if◌then◌else◌, arith, refl, sym, subst, IsTrue, ◌↔◌, All, below_more}
 use Rattle.std.specs.Prelude.{flat_map}
-use Rattle.flow_model.specs.Ty.{Ty}
-use Rattle.flow_model.specs.Sub.{sub}
-use Rattle.flow_model.specs.declared.subtyping.Rows.{Rows}
+use Rattle.small_flow.specs.Ty.{Ty}
+use Rattle.small_flow.specs.Sub.{sub}
+use Rattle.small_flow.specs.declared.subtyping.Rows.{Rows}
 use Rattle.core_check.specs.Faults.{Fault, unless, unless_below, of_slots}
 
 -- a condition holds just where it gives no fault

@@ -1,7 +1,7 @@
 -- What the parts of the check say of a point, and what their values stand for.
 use Rattle.std.specs.Prelude.{◌≡◌, ℕ, IsTrue, is_some, List, [], ◌∷◌, Option, Some, None, Ok, Err, slice_get}
 use Rattle.std.specs.declared.result.Result.{Result}
-use Rattle.flow_model.specs.Ty.{Ty}
+use Rattle.small_flow.specs.Ty.{Ty}
 use Rattle.core_ir.specs.PointFacts.{PointFacts}
 use Rattle.core_ir.specs.declared.facts.SlotFact.{SlotFact}
 use Rattle.core_ir.specs.declared.points.PointId.{PointId}

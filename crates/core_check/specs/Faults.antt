@@ -1,8 +1,8 @@
 -- What fails at a point, in the order of the clauses.
 use Rattle.std.specs.Prelude.{◌≡◌, ℕ, zero, suc, ◌<◌, Bool, not, ◌&&◌, ◌||◌, nat_eq, List, [], ◌∷◌, ◌++◌, Some, if◌then◌else◌, flat_map, slice_get, length}
-use Rattle.flow_model.specs.Ty.{Ty, invalid, same_type}
-use Rattle.flow_model.specs.Sub.{sub}
-use Rattle.flow_model.specs.declared.subtyping.Rows.{Rows}
+use Rattle.small_flow.specs.Ty.{Ty, invalid, same_type}
+use Rattle.small_flow.specs.Sub.{sub}
+use Rattle.small_flow.specs.declared.subtyping.Rows.{Rows}
 use Rattle.core_ir.specs.PointFacts.{PointFacts}
 use Rattle.core_ir.specs.Program.{Program}
 use Rattle.core_ir.specs.Values.{declared_of, declared_at}

@@ -1,6 +1,6 @@
 -- What is known at a point of a program.
 use Rattle.std.specs.Prelude.{ℕ, Bool, true, false, [], None, slice_index_or}
-use Rattle.flow_model.specs.Ty.{Ty, invalid}
+use Rattle.small_flow.specs.Ty.{Ty, invalid}
 use Rattle.core_ir.specs.PointFacts.{PointFacts}
 use Rattle.core_ir.specs.Program.{Program}
 use Rattle.core_ir.specs.Values.{type_of, declared_of}

@@ -1,6 +1,6 @@
 -- What each term reads, stores and asks of its operands, and what is known on each way on from it: one row for each term.
 use Rattle.std.specs.Prelude.{ℕ, Bool, true, false, List, [], ◌∷◌, nat_eq, if◌then◌else◌}
-use Rattle.flow_model.specs.Ty.{Ty, int, bool, non_null_of}
+use Rattle.small_flow.specs.Ty.{Ty, int, bool, non_null_of}
 use Rattle.core_ir.specs.PointFacts.{PointFacts}
 use Rattle.core_ir.specs.Program.{Program}
 use Rattle.core_ir.specs.Values.{declared_of}

@@ -8,7 +8,7 @@ ghost use Rattle.core_check.specs.Refusals.{IsCause};
 use crate::context::{Context, PlainTypes};
 use crate::points::check_points;
 use core_ir::{CoreProgram, PointId};
-use flow_model::DartType;
+use small_flow::DartType;
 use std::alloc::Global;
 use std::marker::Model;
 

@@ -1,11 +1,11 @@
 //! What all of a check is done with.
 
 ghost use Rattle.std.specs.Prelude.{◌≡◌};
-ghost use Rattle.flow_model.specs.Ty.{never, null, int, bool, non_null_of};
+ghost use Rattle.small_flow.specs.Ty.{never, null, int, bool, non_null_of};
 ghost use Rattle.core_ir.specs.Values.{type_of};
 
 use core_ir::{CoreProgram, Value};
-use flow_model::{DartType, TypeNode};
+use small_flow::{DartType, TypeNode};
 use std::alloc::Global;
 
 /// The types that name no others, to be lent.

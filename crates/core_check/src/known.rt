@@ -8,7 +8,7 @@ ghost use Rattle.core_check.specs.Checks.{Knows};
 
 use crate::context::Context;
 use core_ir::{CoreProgram, Facts, Held, Operand, Term};
-use flow_model::DartType;
+use small_flow::DartType;
 
 /// What is known of a slot.
 #[derive(Clone, Copy)]

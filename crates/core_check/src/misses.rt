@@ -4,7 +4,7 @@ ghost use Rattle.core_check.specs.Faults.{unless, unless_below};
 ghost use Rattle.core_check.specs.Checks.{Tells};
 
 use crate::context::Context;
-use flow_model::{DartType, TypeNode, is_subtype};
+use small_flow::{DartType, TypeNode, is_subtype};
 use std::alloc::AllocError;
 
 /// Why a check doesn't pass.

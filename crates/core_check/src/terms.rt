@@ -15,7 +15,7 @@ use crate::known::{declared, is_readable, known_by, type_of};
 use crate::misses::{Miss, ask, ask_subtype};
 use crate::ways::{Change, Way, check_ways};
 use core_ir::{Facts, Operand, PointId, SlotId, Term, Value};
-use flow_model::DartType;
+use small_flow::DartType;
 
 // Whether an operand has a value.
 fn check_read(context: Context<'_>, facts: &Facts, operand: Operand) -> Result<(), Miss>

@@ -11,7 +11,7 @@ use crate::context::Context;
 use crate::known::{Known, declared, facts_of, known_by};
 use crate::misses::{Miss, ask, ask_subtype};
 use core_ir::{CoreProgram, Facts, PointId, SlotId};
-use flow_model::DartType;
+use small_flow::DartType;
 
 /// What a term changes: what is known of one slot.
 #[derive(Clone, Copy)]

@@ -1,10 +1,10 @@
 -- Core programs, as values.
 use Rattle.std.specs.Prelude.{List, refl}
 use Rattle.std.specs.Coded.{Coded, code_by, coded×, coded_list}
-use Rattle.flow_model.specs.Ty.{Ty}
-use Rattle.flow_model.specs.TyCode.{type_code}
-use Rattle.flow_model.specs.declared.subtyping.Rows.{Rows}
-use Rattle.flow_model.specs.contracts.subtyping.Rows as rows
+use Rattle.small_flow.specs.Ty.{Ty}
+use Rattle.small_flow.specs.TyCode.{type_code}
+use Rattle.small_flow.specs.declared.subtyping.Rows.{Rows}
+use Rattle.small_flow.specs.contracts.subtyping.Rows as rows
 use Rattle.core_ir.specs.PointFacts.{PointFacts, facts_code}
 use Rattle.core_ir.specs.declared.points.Point.{Point}
 use Rattle.core_ir.specs.contracts.points.Point as point

@@ -1,8 +1,8 @@
 -- Values and slots, and their types.
 use Rattle.std.specs.Prelude.{ℕ, Bool, slice_index_or}
-use Rattle.flow_model.specs.Ty.{Ty, invalid, null, int, bool}
-use Rattle.flow_model.specs.Sub.{sub}
-use Rattle.flow_model.specs.declared.subtyping.Rows.{Rows}
+use Rattle.small_flow.specs.Ty.{Ty, invalid, null, int, bool}
+use Rattle.small_flow.specs.Sub.{sub}
+use Rattle.small_flow.specs.declared.subtyping.Rows.{Rows}
 use Rattle.core_ir.specs.declared.values.Value.{Value}
 use Rattle.core_ir.specs.declared.values.Value.TheVariants.{Null, Integer, Boolean}
 use Rattle.core_ir.specs.declared.points.SlotId.{SlotId}

@@ -1,6 +1,6 @@
 //! What is known at a point.
 
-use flow_model::DartType;
+use small_flow::DartType;
 use std::marker::Model;
 
 /// What type the value of a slot has, and who may write it.

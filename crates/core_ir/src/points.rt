@@ -1,7 +1,7 @@
 //! Points and their terms.
 
 use crate::values::Value;
-use dart_tree::NodeId;
+use small_tree::NodeId;
 
 /// A slot, by its place in the program's list of slots, from 0. A slot is a local or a temporary.
 #[derive(Clone, Copy, Debug, PartialEq, Eq)]

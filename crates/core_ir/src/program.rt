@@ -2,7 +2,7 @@
 
 use crate::facts::Facts;
 use crate::points::Point;
-use flow_model::{DartType, Rows};
+use small_flow::{DartType, Rows};
 use std::marker::Model;
 
 /// A core program of one function. Contracts see it as its value `Program`, so that programs with

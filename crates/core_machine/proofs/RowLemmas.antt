@@ -4,8 +4,8 @@ use Rattle.std.specs.Prelude.{IsTrue, Option, slice_index_or, slice_set}
 use Rattle.std.proofs.lemmas.List.{set-get_or}
 use Rattle.std.proofs.lemmas.List.Elements.{All-head, All-cons, All-nil}
 use Rattle.std.proofs.lemmas.Option.{slice_get-get_or}
-use Rattle.flow_model.specs.Ty.{Ty, int, bool, non_null_of}
-use Rattle.flow_model.specs.Sub.{sub}
+use Rattle.small_flow.specs.Ty.{Ty, int, bool, non_null_of}
+use Rattle.small_flow.specs.Sub.{sub}
 use Rattle.core_ir.specs.PointFacts.{PointFacts}
 use Rattle.core_ir.specs.Program.{Program}
 use Rattle.core_ir.specs.Values.{has, declared_of}

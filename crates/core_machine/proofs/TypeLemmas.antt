@@ -2,9 +2,9 @@
 use Rattle.std.proofs.Common.{refl}
 use Rattle.std.specs.Prelude.{IsTrue}
 use Rattle.std.proofs.lemmas.Bool.{and_parts}
-use Rattle.flow_model.specs.Ty.{Ty, null, int, bool, nullable, bare_of, same_type, admits_null, non_null_of}
-use Rattle.flow_model.specs.Sub.{sub}
-use Rattle.flow_model.specs.declared.subtyping.Rows.{Rows}
+use Rattle.small_flow.specs.Ty.{Ty, null, int, bool, nullable, bare_of, same_type, admits_null, non_null_of}
+use Rattle.small_flow.specs.Sub.{sub}
+use Rattle.small_flow.specs.declared.subtyping.Rows.{Rows}
 use Rattle.core_ir.specs.Values.{type_of, has}
 use Rattle.core_ir.specs.declared.values.Value.{Value}
 use Rattle.core_ir.specs.declared.values.Value.TheVariants.{Null, Integer, Boolean}

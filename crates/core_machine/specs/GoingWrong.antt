@@ -1,8 +1,8 @@
 -- Steps that go wrong, and for each way to go wrong a program that takes it.
 use Rattle.std.specs.Prelude.{◌≡◌, ℕ, ◌⊎◌, Bool, true, not, is_some, IsTrue, IsFalse, List, [], ◌∷◌, map, length, None, Some, pos}
 use Rattle.std.specs.List.{list_any}
-use Rattle.flow_model.specs.Ty.{int, bool}
-use Rattle.flow_model.specs.Sub.{no_rows}
+use Rattle.small_flow.specs.Ty.{int, bool}
+use Rattle.small_flow.specs.Sub.{no_rows}
 use Rattle.core_ir.specs.Program.{Program}
 use Rattle.core_ir.specs.Values.{has, declared_of}
 use Rattle.core_ir.specs.declared.points.SlotId.{SlotId}

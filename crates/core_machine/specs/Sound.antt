@@ -1,7 +1,7 @@
 -- What holds at every moment of a run of an accepted program.
 use Rattle.std.specs.Prelude.{◌≡◌, ℕ, ◌<◌, IsTrue, All, List, [], ◌∷◌, None, Some, slice_index_or, length}
-use Rattle.flow_model.specs.Ty.{Ty}
-use Rattle.flow_model.specs.declared.subtyping.Rows.{Rows}
+use Rattle.small_flow.specs.Ty.{Ty}
+use Rattle.small_flow.specs.declared.subtyping.Rows.{Rows}
 use Rattle.core_ir.specs.Program.{Program}
 use Rattle.core_ir.specs.Values.{has, declared_at}
 use Rattle.core_ir.specs.declared.facts.SlotFact.{SlotFact}

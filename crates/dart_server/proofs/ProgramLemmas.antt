@@ -6,7 +6,7 @@ use Rattle.dart_text.specs.Edits.{max_text, short_text, text_in_bytes}
 use Rattle.dart_text.specs.Results.{IsUnlessMemory}
 use Rattle.dart_text.specs.declared.text.TextRefusal.{TextRefusal}
 use Rattle.dart_text.specs.declared.text.TextRefusal.TheVariants.{NotUtf8, TooLong, Memory}
-use Rattle.dart_tree.specs.Tree.{Tree}
+use Rattle.small_tree.specs.Tree.{Tree}
 use Rattle.proto_json.specs.declared.reply.ErrorRow.{ErrorRow}
 use Rattle.judgement.specs.declared.Fault.{Fault}
 use Rattle.check_library.specs.Grammar.{tree_of}

@@ -12,7 +12,7 @@ use Rattle.proto_json.specs.declared.reply.ErrorRow.{ErrorRow}
 use Rattle.judgement.specs.declared.Fault.{Fault}
 use Rattle.judgement.specs.declared.DiagnosticCode.{DiagnosticCode}
 use Rattle.judgement.specs.declared.DiagnosticCode.TheVariants.{FileNotUtf8, ProfileFileLength}
-use Rattle.dart_tree.specs.Tree.{Tree}
+use Rattle.small_tree.specs.Tree.{Tree}
 use Rattle.check_library.specs.Grammar.{tree_of}
 use Rattle.check_library.specs.Diagnostics.{diagnostics}
 use Rattle.diagnostics.specs.Rendering.{rows_of, lines_of_rows}

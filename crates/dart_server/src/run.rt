@@ -22,12 +22,12 @@ use core_machine::{
     Machine, Turn, a_run_that_is_over_stays, never_wrong, steps_add_to_what_was_printed,
 };
 use dart_text::{Text, TextRefusal};
-use dart_tree::Span;
 use diagnostics::{lines_of, render};
 use elaborate::elaborate;
 use fault_io::{Files, FilesRefusal, Sink, WriteRefusal, write_all_of};
 use judgement::{DiagnosticCode, Fault};
 use protocol_rules::MAX_BYTES;
+use small_tree::Span;
 use std::alloc::{AllocError, Global};
 
 /// What a run prints is written where it has come to so many bytes, and at its end.

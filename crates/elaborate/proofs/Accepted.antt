@@ -5,13 +5,13 @@ use Rattle.std.specs.FinMap.{empty}
 use Rattle.std.proofs.lemmas.List.{length-map}
 use Rattle.std.proofs.lemmas.List.Elements.{All-nil}
 use Rattle.std.proofs.lemmas.Option.{slice_get-get_or, slice_get-map}
-use Rattle.dart_tree.specs.Tree.{Tree, Trees, block, function, unit}
-use Rattle.dart_tree.specs.Numbers.{nodes_in}
-use Rattle.dart_tree.specs.declared.places.Place.{Place}
-use Rattle.flow_model.specs.Ty.{Ty, invalid}
-use Rattle.flow_model.specs.Sub.{no_rows}
-use Rattle.flow_model.specs.Flow.{FlowModel}
-use Rattle.flow_model.proofs.SameType.{same_type-refl}
+use Rattle.small_tree.specs.Tree.{Tree, Trees, block, function, unit}
+use Rattle.small_tree.specs.Numbers.{nodes_in}
+use Rattle.small_tree.specs.declared.places.Place.{Place}
+use Rattle.small_flow.specs.Ty.{Ty, invalid}
+use Rattle.small_flow.specs.Sub.{no_rows}
+use Rattle.small_flow.specs.Flow.{FlowModel}
+use Rattle.small_flow.proofs.SameType.{same_type-refl}
 use Rattle.judgement.specs.Judgement.{run, faults_of}
 use Rattle.core_ir.specs.PointFacts.{PointFacts}
 use Rattle.core_ir.specs.Program.{Program}

@@ -5,12 +5,12 @@ use Rattle.std.proofs.lemmas.Bool.{or_from, ne_eqb}
 use Rattle.std.proofs.lemmas.List.Elements.{All-nil, All-cons, All-head, All-tail}
 use Rattle.std.proofs.lemmas.List.Kept.{AllPairs-cons}
 use Rattle.std.proofs.lemmas.List.Folds.{list_any-append}
-use Rattle.dart_tree.specs.Tree.{Tree, Trees, Part, no_more, more, absent, present, declare}
-use Rattle.flow_model.specs.Flow.{FlowModel, is_listed, facts_of, declare_of}
-use Rattle.flow_model.specs.Join.{HaveSameScope}
-use Rattle.flow_model.specs.declared.locals.LocalId.{LocalId}
-use Rattle.flow_model.specs.declared.locals.Facts.{Facts}
-use Rattle.flow_model.proofs.Scopes.{facts_of-declare_other}
+use Rattle.small_tree.specs.Tree.{Tree, Trees, Part, no_more, more, absent, present, declare}
+use Rattle.small_flow.specs.Flow.{FlowModel, is_listed, facts_of, declare_of}
+use Rattle.small_flow.specs.Join.{HaveSameScope}
+use Rattle.small_flow.specs.declared.locals.LocalId.{LocalId}
+use Rattle.small_flow.specs.declared.locals.Facts.{Facts}
+use Rattle.small_flow.proofs.Scopes.{facts_of-declare_other}
 use Rattle.judgement.specs.Names.{local_of, declared_by, locals_of}
 use Rattle.judgement.specs.Rows.{declared_local}
 use Rattle.judgement.specs.Judgement.{type_of}

@@ -3,18 +3,18 @@ use Rattle.std.proofs.Common.{◌≡◌, ℕ, ◌+◌, ◌<◌, Bool, true, fals
 use Rattle.std.specs.Option.{option_map_or}
 use Rattle.std.specs.FinMap.{get}
 use Rattle.std.proofs.lemmas.Bool.{cond_both}
-use Rattle.dart_tree.specs.Tree.{Tree, Trees, Part, no_more, more, absent, present, name, integer, boolean, binary, declare, assign, eval, print, if_statement, while_statement, block}
-use Rattle.dart_tree.specs.Places.{place_of}
-use Rattle.dart_tree.specs.declared.places.NodeId.{NodeId}
-use Rattle.dart_tree.specs.declared.places.Place.{Place}
-use Rattle.dart_tree.specs.declared.places.Span.{Span}
-use Rattle.dart_tree.specs.declared.nodes.OperatorKind.{OperatorKind}
-use Rattle.dart_tree.specs.declared.nodes.OperatorKind.TheVariants.{Plus, Less, NotEqual}
-use Rattle.flow_model.specs.Ty.{Ty, invalid, never, int, bool, same_type}
-use Rattle.flow_model.specs.Sub.{sub}
-use Rattle.flow_model.specs.Flow.{FlowModel, facts_of, start_of, end_of}
-use Rattle.flow_model.specs.declared.locals.LocalId.{LocalId}
-use Rattle.flow_model.specs.declared.subtyping.Rows.{Rows}
+use Rattle.small_tree.specs.Tree.{Tree, Trees, Part, no_more, more, absent, present, name, integer, boolean, binary, declare, assign, eval, print, if_statement, while_statement, block}
+use Rattle.small_tree.specs.Places.{place_of}
+use Rattle.small_tree.specs.declared.places.NodeId.{NodeId}
+use Rattle.small_tree.specs.declared.places.Place.{Place}
+use Rattle.small_tree.specs.declared.places.Span.{Span}
+use Rattle.small_tree.specs.declared.nodes.OperatorKind.{OperatorKind}
+use Rattle.small_tree.specs.declared.nodes.OperatorKind.TheVariants.{Plus, Less, NotEqual}
+use Rattle.small_flow.specs.Ty.{Ty, invalid, never, int, bool, same_type}
+use Rattle.small_flow.specs.Sub.{sub}
+use Rattle.small_flow.specs.Flow.{FlowModel, facts_of, start_of, end_of}
+use Rattle.small_flow.specs.declared.locals.LocalId.{LocalId}
+use Rattle.small_flow.specs.declared.subtyping.Rows.{Rows}
 use Rattle.judgement.specs.Names.{Names, names_within, locals_of}
 use Rattle.judgement.specs.declared.DiagnosticCode.TheVariants.{IntegerLiteralOutOfRange, UndefinedName}
 use Rattle.judgement.specs.Rows.{Value, exits_if_never, of_type, faulty, is_in_range, integer_row, boolean_row, read_row, name_row, has_operators, result_type, operator_row}

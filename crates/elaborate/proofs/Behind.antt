@@ -1,9 +1,9 @@
 -- Points behind points.
 use Rattle.std.proofs.Common.{◌≡◌, ℕ, ◌+◌, List, [], ◌∷◌, ◌++◌, length, refl, ap, sym, ◌∙◌, append_assoc, append-nil, length-append, arith}
-use Rattle.dart_tree.specs.Tree.{Tree, binary, name, integer, boolean, null_literal}
-use Rattle.dart_tree.specs.declared.places.NodeId.{NodeId}
-use Rattle.flow_model.specs.Sub.{no_rows}
-use Rattle.flow_model.specs.Flow.{FlowModel}
+use Rattle.small_tree.specs.Tree.{Tree, binary, name, integer, boolean, null_literal}
+use Rattle.small_tree.specs.declared.places.NodeId.{NodeId}
+use Rattle.small_flow.specs.Sub.{no_rows}
+use Rattle.small_flow.specs.Flow.{FlowModel}
 use Rattle.judgement.specs.Names.{Names}
 use Rattle.judgement.specs.Judgement.{evaluate}
 use Rattle.elaborate.specs.Frame.{Temporary, Frame, holds}

@@ -4,19 +4,19 @@ use Rattle.std.specs.Prelude.{[]}
 use Rattle.std.specs.Option.{option_map_or}
 use Rattle.std.specs.FinMap.{get}
 use Rattle.std.proofs.lemmas.Bool.{and_parts, cond_both}
-use Rattle.dart_tree.specs.Tree.{Tree, name, integer, boolean, null_literal, binary}
-use Rattle.dart_tree.specs.Places.{place_of}
-use Rattle.dart_tree.specs.declared.places.Place.{Place}
-use Rattle.dart_tree.specs.declared.places.Span.{Span}
-use Rattle.dart_tree.specs.declared.nodes.IntegerLiteral.{IntegerLiteral}
-use Rattle.dart_tree.specs.declared.nodes.OperatorKind.{OperatorKind}
-use Rattle.dart_tree.specs.declared.nodes.OperatorKind.TheVariants.{Plus, Less, NotEqual}
-use Rattle.flow_model.specs.Ty.{Ty, invalid, never, null, int, bool, nullable}
-use Rattle.flow_model.specs.Sub.{no_rows}
-use Rattle.flow_model.specs.Flow.{FlowModel, facts_of, at_local, current_of}
-use Rattle.flow_model.specs.Steps.{exit_of, non_null_facts}
-use Rattle.flow_model.specs.declared.locals.Facts.{Facts}
-use Rattle.flow_model.specs.declared.locals.LocalId.{LocalId}
+use Rattle.small_tree.specs.Tree.{Tree, name, integer, boolean, null_literal, binary}
+use Rattle.small_tree.specs.Places.{place_of}
+use Rattle.small_tree.specs.declared.places.Place.{Place}
+use Rattle.small_tree.specs.declared.places.Span.{Span}
+use Rattle.small_tree.specs.declared.nodes.IntegerLiteral.{IntegerLiteral}
+use Rattle.small_tree.specs.declared.nodes.OperatorKind.{OperatorKind}
+use Rattle.small_tree.specs.declared.nodes.OperatorKind.TheVariants.{Plus, Less, NotEqual}
+use Rattle.small_flow.specs.Ty.{Ty, invalid, never, null, int, bool, nullable}
+use Rattle.small_flow.specs.Sub.{no_rows}
+use Rattle.small_flow.specs.Flow.{FlowModel, facts_of, at_local, current_of}
+use Rattle.small_flow.specs.Steps.{exit_of, non_null_facts}
+use Rattle.small_flow.specs.declared.locals.Facts.{Facts}
+use Rattle.small_flow.specs.declared.locals.LocalId.{LocalId}
 use Rattle.judgement.specs.declared.DiagnosticCode.{DiagnosticCode}
 use Rattle.judgement.specs.declared.DiagnosticCode.TheVariants.{IntegerLiteralOutOfRange, ReferencedBeforeDeclaration, UnassignedRead, UndefinedName}
 use Rattle.judgement.specs.Names.{Names}

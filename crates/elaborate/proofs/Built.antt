@@ -2,9 +2,9 @@
 use Rattle.std.proofs.Common.{◌≡◌, ◌<◌, ◌≤◌, ◌^◌, ℕ, List, Some, All, slice_get, get_or, length, ap, sym, ◌∙◌, subst, arith}
 use Rattle.std.proofs.lemmas.List.{length-map}
 use Rattle.std.proofs.lemmas.Option.{get_or_from_slice_get, slice_get_within}
-use Rattle.dart_tree.specs.Tree.{Tree}
-use Rattle.dart_tree.specs.Numbers.{nodes_in}
-use Rattle.flow_model.specs.Ty.{Ty}
+use Rattle.small_tree.specs.Tree.{Tree}
+use Rattle.small_tree.specs.Numbers.{nodes_in}
+use Rattle.small_flow.specs.Ty.{Ty}
 use Rattle.core_ir.specs.PointFacts.{PointFacts}
 use Rattle.core_ir.specs.Program.{Program}
 use Rattle.core_ir.specs.declared.points.Point.{Point}

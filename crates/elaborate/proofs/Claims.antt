@@ -1,10 +1,10 @@
 -- What is claimed of the points of a tree in which nothing is wrong.
 use Rattle.std.specs.Prelude.{◌≡◌, ◌≢◌, ◌⊎◌, ℕ, ◌+◌, ◌<◌, ◌≤◌, Bool, true, false, IsTrue, All, AllPairs, Contains, List, [], ◌∷◌, Some, length, slice_get, find}
-use Rattle.flow_model.specs.Ty.{Ty, int, bool, nullable}
-use Rattle.flow_model.specs.Sub.{no_rows}
-use Rattle.flow_model.specs.Flow.{FlowModel, facts_of}
-use Rattle.flow_model.specs.declared.locals.Facts.{Facts}
-use Rattle.flow_model.specs.declared.locals.LocalId.{LocalId}
+use Rattle.small_flow.specs.Ty.{Ty, int, bool, nullable}
+use Rattle.small_flow.specs.Sub.{no_rows}
+use Rattle.small_flow.specs.Flow.{FlowModel, facts_of}
+use Rattle.small_flow.specs.declared.locals.Facts.{Facts}
+use Rattle.small_flow.specs.declared.locals.LocalId.{LocalId}
 use Rattle.core_ir.specs.Program.{Program}
 use Rattle.core_check.specs.WellFormed.{IsTerm, nexts}
 use Rattle.core_check.specs.Known.{known_of}

@@ -5,19 +5,19 @@ use Rattle.std.specs.Option.{option_map_or}
 use Rattle.std.specs.FinMap.{empty, get}
 use Rattle.std.proofs.lemmas.Bool.{and_parts, cond_both}
 use Rattle.std.proofs.lemmas.List.Elements.{All-head, Contains-get_or}
-use Rattle.dart_tree.specs.Tree.{Tree, Trees, Part, no_more, more, absent, present, int_type, bool_type, declare, assign, eval, print, if_statement, while_statement, block}
-use Rattle.dart_tree.specs.Places.{place_of}
-use Rattle.dart_tree.specs.declared.places.Place.{Place}
-use Rattle.dart_tree.specs.declared.nodes.Name.{Name}
-use Rattle.flow_model.specs.Ty.{Ty}
-use Rattle.flow_model.specs.Sub.{no_rows}
-use Rattle.flow_model.specs.Flow.{FlowModel, IsInOrder, facts_of, at_local, declare_of, end_of, start_of}
-use Rattle.flow_model.specs.Assign.{assign_facts}
-use Rattle.flow_model.specs.Join.{HaveSameScope, scope_of, join_of}
-use Rattle.flow_model.specs.declared.locals.LocalId.{LocalId}
-use Rattle.flow_model.specs.declared.locals.Facts.{Facts}
-use Rattle.flow_model.proofs.Scopes.{end_of-none, end_of-cons, end_of-declare_of}
-use Rattle.flow_model.proofs.SameScope.{same-end}
+use Rattle.small_tree.specs.Tree.{Tree, Trees, Part, no_more, more, absent, present, int_type, bool_type, declare, assign, eval, print, if_statement, while_statement, block}
+use Rattle.small_tree.specs.Places.{place_of}
+use Rattle.small_tree.specs.declared.places.Place.{Place}
+use Rattle.small_tree.specs.declared.nodes.Name.{Name}
+use Rattle.small_flow.specs.Ty.{Ty}
+use Rattle.small_flow.specs.Sub.{no_rows}
+use Rattle.small_flow.specs.Flow.{FlowModel, IsInOrder, facts_of, at_local, declare_of, end_of, start_of}
+use Rattle.small_flow.specs.Assign.{assign_facts}
+use Rattle.small_flow.specs.Join.{HaveSameScope, scope_of, join_of}
+use Rattle.small_flow.specs.declared.locals.LocalId.{LocalId}
+use Rattle.small_flow.specs.declared.locals.Facts.{Facts}
+use Rattle.small_flow.proofs.Scopes.{end_of-none, end_of-cons, end_of-declare_of}
+use Rattle.small_flow.proofs.SameScope.{same-end}
 use Rattle.judgement.specs.declared.Fault.{Fault}
 use Rattle.judgement.specs.declared.DiagnosticCode.TheVariants.{DuplicateDefinition, UndefinedName}
 use Rattle.judgement.specs.Names.{Names, names_within, local_of, declared_by, locals_of}

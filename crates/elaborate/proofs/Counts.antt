@@ -2,11 +2,11 @@
 use Rattle.std.proofs.Common.{◌≡◌, ℕ, ◌+◌, ◌<◌, Bool, true, false, cond, List, [], length, Option, Some, None, refl, arith, length-append}
 use Rattle.std.specs.Prelude.{is_some}
 use Rattle.std.specs.Option.{option_map_or}
-use Rattle.dart_tree.specs.Tree.{Tree, Trees, Part, no_more, more, absent, present, declare, assign, eval, print, if_statement, while_statement, block}
-use Rattle.dart_tree.specs.declared.places.NodeId.{NodeId}
-use Rattle.flow_model.specs.Ty.{Ty}
-use Rattle.flow_model.specs.Flow.{FlowModel}
-use Rattle.flow_model.specs.declared.subtyping.Rows.{Rows}
+use Rattle.small_tree.specs.Tree.{Tree, Trees, Part, no_more, more, absent, present, declare, assign, eval, print, if_statement, while_statement, block}
+use Rattle.small_tree.specs.declared.places.NodeId.{NodeId}
+use Rattle.small_flow.specs.Ty.{Ty}
+use Rattle.small_flow.specs.Flow.{FlowModel}
+use Rattle.small_flow.specs.declared.subtyping.Rows.{Rows}
 use Rattle.judgement.specs.Names.{Names, names_within}
 use Rattle.judgement.specs.Written.{written_in}
 use Rattle.judgement.specs.Rows.{loop_head}

@@ -3,8 +3,8 @@ use Rattle.std.proofs.Common.{◌≡◌, ℕ, ◌+◌, ◌≤◌, ◌<◌, List,
 use Rattle.std.specs.Prelude.{◌≢◌, All, AllPairs}
 use Rattle.std.proofs.lemmas.List.Elements.{All-nil, All-cons}
 use Rattle.std.proofs.lemmas.List.Kept.{AllPairs-cons}
-use Rattle.dart_tree.specs.Tree.{Tree, Trees, Part, no_more, more, absent, present, declare, if_statement, while_statement, block, function, unit}
-use Rattle.dart_tree.specs.Numbers.{nodes_in, nodes_in_all, nodes_in_part, numbered, all_numbered, part_numbered}
+use Rattle.small_tree.specs.Tree.{Tree, Trees, Part, no_more, more, absent, present, declare, if_statement, while_statement, block, function, unit}
+use Rattle.small_tree.specs.Numbers.{nodes_in, nodes_in_all, nodes_in_part, numbered, all_numbered, part_numbered}
 use Rattle.elaborate.specs.Frame.{Local, locals_in, locals_in_all, locals_in_part}
 
 -- the numbers of locals grow, from the first bound on and below the second

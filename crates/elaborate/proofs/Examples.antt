@@ -1,14 +1,14 @@
 -- The core programs of a few small trees, computed.
 use Rattle.std.specs.Prelude.{◌≡◌, ℕ, pos, Bool, true, false, List, [], ◌∷◌, Some, refl, map}
 use Rattle.std.specs.FinMap.{gets}
-use Rattle.dart_tree.specs.declared.places.Place.{Place}
-use Rattle.dart_tree.specs.declared.nodes.Name.{Name}
-use Rattle.dart_tree.specs.declared.nodes.OperatorKind.{OperatorKind}
-use Rattle.dart_tree.specs.declared.nodes.OperatorKind.TheVariants.{Plus, Less as LessThan, NotEqual as Unequal}
-use Rattle.dart_tree.specs.declared.nodes.Radix.TheVariants.{Decimal}
-use Rattle.dart_tree.specs.Tree.{Tree, Trees, no_more, more, absent, present, name, integer, null_literal, binary, int_type, declare, assign, print, if_statement, while_statement, block}
-use Rattle.flow_model.specs.Ty.{int, bool, nullable}
-use Rattle.flow_model.specs.Sub.{no_rows}
+use Rattle.small_tree.specs.declared.places.Place.{Place}
+use Rattle.small_tree.specs.declared.nodes.Name.{Name}
+use Rattle.small_tree.specs.declared.nodes.OperatorKind.{OperatorKind}
+use Rattle.small_tree.specs.declared.nodes.OperatorKind.TheVariants.{Plus, Less as LessThan, NotEqual as Unequal}
+use Rattle.small_tree.specs.declared.nodes.Radix.TheVariants.{Decimal}
+use Rattle.small_tree.specs.Tree.{Tree, Trees, no_more, more, absent, present, name, integer, null_literal, binary, int_type, declare, assign, print, if_statement, while_statement, block}
+use Rattle.small_flow.specs.Ty.{int, bool, nullable}
+use Rattle.small_flow.specs.Sub.{no_rows}
 use Rattle.core_ir.specs.PointFacts.{PointFacts}
 use Rattle.core_ir.specs.declared.values.Value.TheVariants.{Null, Integer}
 use Rattle.core_ir.specs.declared.points.SlotId.{SlotId}

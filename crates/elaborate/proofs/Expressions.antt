@@ -5,19 +5,19 @@ use Rattle.std.specs.Option.{option_map_or, option_map}
 use Rattle.std.specs.FinMap.{get}
 use Rattle.std.proofs.lemmas.Bool.{and_parts}
 use Rattle.std.proofs.lemmas.List.Elements.{All-nil}
-use Rattle.dart_tree.specs.Tree.{Tree, Part, absent, present, declare, assign, eval, print}
-use Rattle.dart_tree.specs.Places.{place_of}
-use Rattle.dart_tree.specs.declared.places.Place.{Place}
-use Rattle.dart_tree.specs.declared.places.NodeId.{NodeId}
-use Rattle.dart_tree.specs.declared.nodes.Name.{Name}
-use Rattle.flow_model.specs.Ty.{Ty, null, admits_null}
-use Rattle.flow_model.specs.Sub.{no_rows, sub}
-use Rattle.flow_model.specs.Flow.{FlowModel, facts_of, at_local, current_of, fresh_facts, declare_of}
-use Rattle.flow_model.specs.Assign.{assign_facts}
-use Rattle.flow_model.specs.declared.locals.LocalId.{LocalId}
-use Rattle.flow_model.specs.declared.locals.Facts.{Facts}
-use Rattle.flow_model.specs.declared.subtyping.Rows.{Rows}
-use Rattle.flow_model.proofs.Scopes.{facts_of-declare_other, facts_of-declare_same, facts_of-at_local_same, facts_of-at_local_other}
+use Rattle.small_tree.specs.Tree.{Tree, Part, absent, present, declare, assign, eval, print}
+use Rattle.small_tree.specs.Places.{place_of}
+use Rattle.small_tree.specs.declared.places.Place.{Place}
+use Rattle.small_tree.specs.declared.places.NodeId.{NodeId}
+use Rattle.small_tree.specs.declared.nodes.Name.{Name}
+use Rattle.small_flow.specs.Ty.{Ty, null, admits_null}
+use Rattle.small_flow.specs.Sub.{no_rows, sub}
+use Rattle.small_flow.specs.Flow.{FlowModel, facts_of, at_local, current_of, fresh_facts, declare_of}
+use Rattle.small_flow.specs.Assign.{assign_facts}
+use Rattle.small_flow.specs.declared.locals.LocalId.{LocalId}
+use Rattle.small_flow.specs.declared.locals.Facts.{Facts}
+use Rattle.small_flow.specs.declared.subtyping.Rows.{Rows}
+use Rattle.small_flow.proofs.Scopes.{facts_of-declare_other, facts_of-declare_same, facts_of-at_local_same, facts_of-at_local_other}
 use Rattle.judgement.specs.Names.{Names, local_of}
 use Rattle.judgement.specs.Rows.{Value, Outcome, assign_row, declared_local, fit_faults, initialize_row, condition_faults}
 use Rattle.judgement.specs.Judgement.{type_of, evaluate, run}

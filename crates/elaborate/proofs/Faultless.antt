@@ -3,9 +3,9 @@ use Rattle.std.proofs.Common.{◌≡◌, ℕ, List, [], ◌∷◌, ◌++◌, map
 use Rattle.std.proofs.lemmas.List.{length-map}
 use Rattle.std.specs.Prelude.{◌≢◌, AllPairs}
 use Rattle.std.specs.Option.{option_map_or}
-use Rattle.dart_tree.specs.Tree.{Tree}
-use Rattle.dart_tree.specs.Numbers.{numbered}
-use Rattle.flow_model.specs.Sub.{no_rows}
+use Rattle.small_tree.specs.Tree.{Tree}
+use Rattle.small_tree.specs.Numbers.{numbered}
+use Rattle.small_flow.specs.Sub.{no_rows}
 use Rattle.judgement.specs.Judgement.{faults_of}
 use Rattle.check_library.specs.Grammar.{tree_of}
 use Rattle.dart_tokens.specs.Groups.{faults_of as faults_of_groups}

@@ -4,15 +4,15 @@ use Rattle.std.specs.Prelude.{◌||◌, AllPairs, Contains, List, [], find}
 use Rattle.std.specs.Option.{option_map_or}
 use Rattle.std.proofs.lemmas.Bool.{and_parts, cases_Bool, cond_both, cond-true, or_left, eq-eqb, ne_eqb}
 use Rattle.std.proofs.lemmas.List.{get_or_default}
-use Rattle.flow_model.specs.Ty.{Ty}
-use Rattle.flow_model.specs.Sub.{no_rows, sub}
-use Rattle.flow_model.specs.Flow.{FlowModel, is_listed, facts_of, current_of, end_of}
-use Rattle.flow_model.specs.Join.{HaveSameScope, join_facts, join_of}
-use Rattle.flow_model.specs.Steps.{conservative_facts, conservative_of}
-use Rattle.flow_model.specs.declared.locals.Facts.{Facts}
-use Rattle.flow_model.specs.declared.locals.LocalId.{LocalId}
-use Rattle.flow_model.proofs.SubLaws.{sub-refl}
-use Rattle.flow_model.proofs.ListTests.{find_at}
+use Rattle.small_flow.specs.Ty.{Ty}
+use Rattle.small_flow.specs.Sub.{no_rows, sub}
+use Rattle.small_flow.specs.Flow.{FlowModel, is_listed, facts_of, current_of, end_of}
+use Rattle.small_flow.specs.Join.{HaveSameScope, join_facts, join_of}
+use Rattle.small_flow.specs.Steps.{conservative_facts, conservative_of}
+use Rattle.small_flow.specs.declared.locals.Facts.{Facts}
+use Rattle.small_flow.specs.declared.locals.LocalId.{LocalId}
+use Rattle.small_flow.proofs.SubLaws.{sub-refl}
+use Rattle.small_flow.proofs.ListTests.{find_at}
 use Rattle.core_check.specs.Accepted.{SlotImplies}
 use Rattle.elaborate.specs.Frame.{Local, Frame, is_local}
 use Rattle.elaborate.specs.Known.{fact_in_scope, fact_of_none}

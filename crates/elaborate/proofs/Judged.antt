@@ -4,20 +4,20 @@ use Rattle.std.specs.Prelude.{IsTrue, ◌||◌}
 use Rattle.std.specs.Option.{option_map_or}
 use Rattle.std.specs.FinMap.{get}
 use Rattle.std.proofs.lemmas.Bool.{and_parts}
-use Rattle.dart_tree.specs.Tree.{Tree, name, integer, boolean, null_literal, binary}
-use Rattle.dart_tree.specs.Places.{place_of}
-use Rattle.dart_tree.specs.declared.places.Place.{Place}
-use Rattle.dart_tree.specs.declared.places.Span.{Span}
-use Rattle.dart_tree.specs.declared.nodes.IntegerLiteral.{IntegerLiteral}
-use Rattle.dart_tree.specs.declared.nodes.Operator.{Operator}
-use Rattle.dart_tree.specs.declared.nodes.OperatorKind.{OperatorKind}
-use Rattle.dart_tree.specs.declared.nodes.OperatorKind.TheVariants.{Plus, Less, NotEqual}
-use Rattle.flow_model.specs.Ty.{Ty, never, null, int, bool, nullable, same_type}
-use Rattle.flow_model.specs.Sub.{no_rows, sub}
-use Rattle.flow_model.specs.Flow.{FlowModel, is_of, facts_of, current_of}
-use Rattle.flow_model.specs.declared.locals.LocalId.{LocalId}
-use Rattle.flow_model.specs.declared.locals.Facts.{Facts}
-use Rattle.flow_model.specs.declared.subtyping.Rows.{Rows}
+use Rattle.small_tree.specs.Tree.{Tree, name, integer, boolean, null_literal, binary}
+use Rattle.small_tree.specs.Places.{place_of}
+use Rattle.small_tree.specs.declared.places.Place.{Place}
+use Rattle.small_tree.specs.declared.places.Span.{Span}
+use Rattle.small_tree.specs.declared.nodes.IntegerLiteral.{IntegerLiteral}
+use Rattle.small_tree.specs.declared.nodes.Operator.{Operator}
+use Rattle.small_tree.specs.declared.nodes.OperatorKind.{OperatorKind}
+use Rattle.small_tree.specs.declared.nodes.OperatorKind.TheVariants.{Plus, Less, NotEqual}
+use Rattle.small_flow.specs.Ty.{Ty, never, null, int, bool, nullable, same_type}
+use Rattle.small_flow.specs.Sub.{no_rows, sub}
+use Rattle.small_flow.specs.Flow.{FlowModel, is_of, facts_of, current_of}
+use Rattle.small_flow.specs.declared.locals.LocalId.{LocalId}
+use Rattle.small_flow.specs.declared.locals.Facts.{Facts}
+use Rattle.small_flow.specs.declared.subtyping.Rows.{Rows}
 use Rattle.judgement.specs.declared.DiagnosticCode.TheVariants.{IntegerLiteralOutOfRange, UnassignedRead, UndefinedName}
 use Rattle.judgement.specs.Names.{Names}
 use Rattle.judgement.specs.Rows.{Value, exits_if_never, of_type, faulty, is_in_range, integer_row, boolean_row, read_row, name_row, is_invalid, fits, receiver_faults, argument_faults, operator_row}

@@ -1,11 +1,11 @@
 -- Operators: they are laid where their sides are, and then their own point.
 use Rattle.std.proofs.Common.{◌≡◌, ℕ, ◌+◌, List, [], ◌∷◌, ◌++◌, length, Option, Some, refl, ap, sym, ◌∙◌, append_assoc, length-append, arith}
-use Rattle.dart_tree.specs.Tree.{Tree, binary}
-use Rattle.dart_tree.specs.declared.places.NodeId.{NodeId}
-use Rattle.dart_tree.specs.declared.places.Place.{Place}
-use Rattle.dart_tree.specs.declared.nodes.Operator.{Operator}
-use Rattle.flow_model.specs.Sub.{no_rows}
-use Rattle.flow_model.specs.Flow.{FlowModel}
+use Rattle.small_tree.specs.Tree.{Tree, binary}
+use Rattle.small_tree.specs.declared.places.NodeId.{NodeId}
+use Rattle.small_tree.specs.declared.places.Place.{Place}
+use Rattle.small_tree.specs.declared.nodes.Operator.{Operator}
+use Rattle.small_flow.specs.Sub.{no_rows}
+use Rattle.small_flow.specs.Flow.{FlowModel}
 use Rattle.judgement.specs.NodeFacts.{NodeFacts}
 use Rattle.judgement.specs.Names.{Names}
 use Rattle.judgement.specs.Judgement.{evaluate}

@@ -1,9 +1,9 @@
 -- A value whose points are laid, and one point that has it.
 use Rattle.std.proofs.Common.{◌≡◌, ℕ, ◌+◌, List, [], ◌∷◌, ◌++◌, length, Option, Some, refl, ap, sym, ◌∙◌}
-use Rattle.dart_tree.specs.Tree.{Tree}
-use Rattle.dart_tree.specs.declared.places.NodeId.{NodeId}
-use Rattle.flow_model.specs.Sub.{no_rows}
-use Rattle.flow_model.specs.Flow.{FlowModel}
+use Rattle.small_tree.specs.Tree.{Tree}
+use Rattle.small_tree.specs.declared.places.NodeId.{NodeId}
+use Rattle.small_flow.specs.Sub.{no_rows}
+use Rattle.small_flow.specs.Flow.{FlowModel}
 use Rattle.judgement.specs.NodeFacts.{NodeFacts}
 use Rattle.judgement.specs.Names.{Names}
 use Rattle.judgement.specs.Judgement.{evaluate}

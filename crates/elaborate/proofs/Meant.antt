@@ -4,12 +4,12 @@ use Rattle.std.specs.Prelude.{◌⊎◌, List, if◌then◌else◌}
 use Rattle.std.specs.Cmp.{nat_cmp_total, unsigned_tied}
 use Rattle.std.specs.FinMap.{get, get-insert}
 use Rattle.std.proofs.lemmas.Bool.{cases_Bool, cond-true, cond-false, eq-eqb}
-use Rattle.dart_tree.specs.Tree.{Tree, Trees, no_more, more, declare}
-use Rattle.flow_model.specs.Flow.{FlowModel, facts_of, fresh_facts}
-use Rattle.flow_model.specs.Join.{HaveSameScope}
-use Rattle.flow_model.specs.declared.locals.LocalId.{LocalId}
-use Rattle.flow_model.specs.declared.locals.Facts.{Facts}
-use Rattle.flow_model.proofs.Scopes.{facts_of-declare_same}
+use Rattle.small_tree.specs.Tree.{Tree, Trees, no_more, more, declare}
+use Rattle.small_flow.specs.Flow.{FlowModel, facts_of, fresh_facts}
+use Rattle.small_flow.specs.Join.{HaveSameScope}
+use Rattle.small_flow.specs.declared.locals.LocalId.{LocalId}
+use Rattle.small_flow.specs.declared.locals.Facts.{Facts}
+use Rattle.small_flow.proofs.Scopes.{facts_of-declare_same}
 use Rattle.judgement.specs.Names.{Names, local_of, names_within}
 use Rattle.judgement.specs.Rows.{declared_local}
 use Rattle.judgement.specs.Judgement.{type_of}

@@ -6,18 +6,18 @@ use Rattle.std.proofs.lemmas.Bool.Decides.{nat_tests}
 use Rattle.std.proofs.lemmas.List.{length-map}
 use Rattle.std.proofs.lemmas.List.Elements.{All-append, All-cons, All-weaker, filter_passes}
 use Rattle.std.proofs.lemmas.List.Kept.{AllPairs-filter, AllPairs-cons}
-use Rattle.flow_model.specs.Ty.{Ty}
-use Rattle.flow_model.specs.Sub.{no_rows, sub}
-use Rattle.flow_model.specs.Flow.{FlowModel, IsInOrder, is_of, is_listed, facts_of, at_local, current_of, last_or, fresh_facts, declare_of, end_of}
-use Rattle.flow_model.specs.Assign.{assign_facts}
-use Rattle.flow_model.specs.Join.{HaveSameScope, scope_of, common_of, join_facts, join_locals, join_of}
-use Rattle.flow_model.specs.declared.locals.LocalId.{LocalId}
-use Rattle.flow_model.specs.declared.locals.LocalDecl.{LocalDecl}
-use Rattle.flow_model.specs.declared.locals.Facts.{Facts}
-use Rattle.flow_model.proofs.ListTests.{find-filter_kept, find-filter_left}
-use Rattle.flow_model.proofs.Scopes.{facts_of-declare_other, facts_of-declare_same, facts_of-at_local_other}
-use Rattle.flow_model.proofs.SameScope.{local_of as scoped, scope-join_of}
-use Rattle.flow_model.proofs.JoinLaws.{find-join}
+use Rattle.small_flow.specs.Ty.{Ty}
+use Rattle.small_flow.specs.Sub.{no_rows, sub}
+use Rattle.small_flow.specs.Flow.{FlowModel, IsInOrder, is_of, is_listed, facts_of, at_local, current_of, last_or, fresh_facts, declare_of, end_of}
+use Rattle.small_flow.specs.Assign.{assign_facts}
+use Rattle.small_flow.specs.Join.{HaveSameScope, scope_of, common_of, join_facts, join_locals, join_of}
+use Rattle.small_flow.specs.declared.locals.LocalId.{LocalId}
+use Rattle.small_flow.specs.declared.locals.LocalDecl.{LocalDecl}
+use Rattle.small_flow.specs.declared.locals.Facts.{Facts}
+use Rattle.small_flow.proofs.ListTests.{find-filter_kept, find-filter_left}
+use Rattle.small_flow.proofs.Scopes.{facts_of-declare_other, facts_of-declare_same, facts_of-at_local_other}
+use Rattle.small_flow.proofs.SameScope.{local_of as scoped, scope-join_of}
+use Rattle.small_flow.proofs.JoinLaws.{find-join}
 use Rattle.elaborate.specs.Frame.{Frame, is_local}
 use Rattle.elaborate.proofs.Claims.{is_shape, Fits, IsGood}
 use Rattle.elaborate.proofs.Shapes.{Shape, shape_of, joined_shape, joined_above_first, joined_above_second, joined_below}

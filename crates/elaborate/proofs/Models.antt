@@ -5,16 +5,16 @@ use Rattle.std.specs.Option.{option_map}
 use Rattle.std.proofs.lemmas.Bool.{or_parts, cond_both}
 use Rattle.std.proofs.lemmas.Bool.Decides.{nat_tests}
 use Rattle.std.proofs.lemmas.List.Folds.{list_any-append}
-use Rattle.flow_model.specs.Ty.{Ty, same_type, non_null_of}
-use Rattle.flow_model.specs.Sub.{no_rows, sub}
-use Rattle.flow_model.specs.Flow.{FlowModel, is_of, is_listed, facts_of, at_local, current_of}
-use Rattle.flow_model.specs.Assign.{assign_facts}
-use Rattle.flow_model.specs.Join.{HaveSameScope, scope_of}
-use Rattle.flow_model.specs.Steps.{exit_of, non_null_facts, conservative_facts, conservative_of}
-use Rattle.flow_model.specs.declared.locals.LocalId.{LocalId}
-use Rattle.flow_model.specs.declared.locals.Facts.{Facts}
-use Rattle.flow_model.proofs.SubLaws.{sub-refl}
-use Rattle.flow_model.proofs.SameScope.{local_of as scoped, scope-map, local-non_null, local-conservative}
+use Rattle.small_flow.specs.Ty.{Ty, same_type, non_null_of}
+use Rattle.small_flow.specs.Sub.{no_rows, sub}
+use Rattle.small_flow.specs.Flow.{FlowModel, is_of, is_listed, facts_of, at_local, current_of}
+use Rattle.small_flow.specs.Assign.{assign_facts}
+use Rattle.small_flow.specs.Join.{HaveSameScope, scope_of}
+use Rattle.small_flow.specs.Steps.{exit_of, non_null_facts, conservative_facts, conservative_of}
+use Rattle.small_flow.specs.declared.locals.LocalId.{LocalId}
+use Rattle.small_flow.specs.declared.locals.Facts.{Facts}
+use Rattle.small_flow.proofs.SubLaws.{sub-refl}
+use Rattle.small_flow.proofs.SameScope.{local_of as scoped, scope-map, local-non_null, local-conservative}
 use Rattle.elaborate.specs.Frame.{Frame}
 use Rattle.elaborate.proofs.Claims.{Fits, IsGood}
 use Rattle.elaborate.proofs.Shapes.{shape_of, sub_through, forgotten_shape, written_shape, not_null_shape}

@@ -1,8 +1,8 @@
 -- A loop over statements: those that were seen were laid, and the rest goes on from there.
 use Rattle.std.proofs.Common.{◌≡◌, ℕ, List, ◌++◌, length}
-use Rattle.dart_tree.specs.Tree.{Trees}
-use Rattle.flow_model.specs.Sub.{no_rows}
-use Rattle.flow_model.specs.Flow.{FlowModel}
+use Rattle.small_tree.specs.Tree.{Trees}
+use Rattle.small_flow.specs.Sub.{no_rows}
+use Rattle.small_flow.specs.Flow.{FlowModel}
 use Rattle.judgement.specs.NodeFacts.{NodeFacts}
 use Rattle.judgement.specs.Names.{Names}
 use Rattle.judgement.specs.Typed.{typed_statements}

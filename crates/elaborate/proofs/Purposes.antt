@@ -5,12 +5,12 @@ use Rattle.std.specs.List.{range_with_len, position_or_len}
 use Rattle.std.proofs.lemmas.List.{length-map}
 use Rattle.std.proofs.lemmas.Option.{slice_get_within, slice_get-get_or, get_or_from_slice_get}
 use Rattle.std.proofs.lemmas.Bool.{and_parts, cases_lt}
-use Rattle.dart_tree.specs.declared.nodes.OperatorKind.{OperatorKind}
-use Rattle.dart_tree.specs.declared.nodes.OperatorKind.TheVariants.{Plus, Less, NotEqual}
-use Rattle.flow_model.specs.Ty.{Ty, invalid, int, bool, same_type}
-use Rattle.flow_model.specs.Flow.{FlowModel}
-use Rattle.flow_model.specs.declared.locals.LocalId.{LocalId}
-use Rattle.flow_model.proofs.SameType.{equal_from_same_type}
+use Rattle.small_tree.specs.declared.nodes.OperatorKind.{OperatorKind}
+use Rattle.small_tree.specs.declared.nodes.OperatorKind.TheVariants.{Plus, Less, NotEqual}
+use Rattle.small_flow.specs.Ty.{Ty, invalid, int, bool, same_type}
+use Rattle.small_flow.specs.Flow.{FlowModel}
+use Rattle.small_flow.specs.declared.locals.LocalId.{LocalId}
+use Rattle.small_flow.proofs.SameType.{equal_from_same_type}
 use Rattle.core_ir.specs.Program.{Program}
 use Rattle.core_ir.specs.Values.{declared_at}
 use Rattle.core_check.specs.Known.{no_fact, known_of}

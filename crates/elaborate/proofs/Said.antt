@@ -1,8 +1,8 @@
 -- How many nodes a typed tree has.
 use Rattle.std.proofs.Common.{◌≡◌, ℕ, ◌+◌, List, [], ◌∷◌, ◌++◌, length, length-append, refl, ap, sym, ◌∙◌, arith}
-use Rattle.dart_tree.specs.Tree.{Tree, Trees, Part, no_more, more, absent, present, binary, declare, assign, eval, print, if_statement, while_statement, block}
-use Rattle.flow_model.specs.Sub.{no_rows}
-use Rattle.flow_model.specs.Flow.{FlowModel}
+use Rattle.small_tree.specs.Tree.{Tree, Trees, Part, no_more, more, absent, present, binary, declare, assign, eval, print, if_statement, while_statement, block}
+use Rattle.small_flow.specs.Sub.{no_rows}
+use Rattle.small_flow.specs.Flow.{FlowModel}
 use Rattle.judgement.specs.Names.{Names, names_within}
 use Rattle.judgement.specs.Rows.{loop_head}
 use Rattle.judgement.specs.Written.{written_in}

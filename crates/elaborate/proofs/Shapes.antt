@@ -1,12 +1,12 @@
 -- What a step does to a local of one of the shapes: a case for each shape.
 use Rattle.std.proofs.Common.{◌≡◌, false, arith, refl}
 use Rattle.std.specs.Prelude.{Bool, IsTrue, List, [], ◌∷◌, ◌++◌}
-use Rattle.flow_model.specs.Ty.{Ty, invalid, never, null, int, bool, nullable, same_type, non_null_of}
-use Rattle.flow_model.specs.Sub.{no_rows, sub}
-use Rattle.flow_model.specs.Flow.{last_or}
-use Rattle.flow_model.specs.Assign.{chain_after}
-use Rattle.flow_model.specs.Join.{common_of}
-use Rattle.flow_model.proofs.SubLaws.{transitive, related_from_sub, sub_from_related}
+use Rattle.small_flow.specs.Ty.{Ty, invalid, never, null, int, bool, nullable, same_type, non_null_of}
+use Rattle.small_flow.specs.Sub.{no_rows, sub}
+use Rattle.small_flow.specs.Flow.{last_or}
+use Rattle.small_flow.specs.Assign.{chain_after}
+use Rattle.small_flow.specs.Join.{common_of}
+use Rattle.small_flow.proofs.SubLaws.{transitive, related_from_sub, sub_from_related}
 use Rattle.elaborate.proofs.Claims.{is_shape}
 
 -- the shapes of a local, by its declared type and what it is promoted to

@@ -1,7 +1,7 @@
 -- The number of nodes of a list's trees, and what it bounds.
 use Rattle.std.proofs.Common.{◌≡◌, Bool, true, false, if◌then◌else◌, is_some, ℕ, zero, suc, ◌+◌, ◌<◌, ◌≤◌, List, [], ◌∷◌, ◌++◌, length, length-append, get_or, drop, refl, ap, sym, ◌∙◌, subst, arith, add-one, drop-cons}
-use Rattle.dart_tree.specs.Tree.{Tree, Trees, Part, no_more, more, absent, present, trees_of, name, integer, boolean, null_literal, binary, int_type, bool_type, declare, assign, eval, print, if_statement, while_statement, block, function, unit}
-use Rattle.dart_tree.specs.Numbers.{nodes_in, nodes_in_all, nodes_in_part}
+use Rattle.small_tree.specs.Tree.{Tree, Trees, Part, no_more, more, absent, present, trees_of, name, integer, boolean, null_literal, binary, int_type, bool_type, declare, assign, eval, print, if_statement, while_statement, block, function, unit}
+use Rattle.small_tree.specs.Numbers.{nodes_in, nodes_in_all, nodes_in_part}
 use Rattle.elaborate.specs.Layout.{value_count, tested_word, condition_count, initial_count, count, count_all, count_part}
 use Rattle.elaborate.specs.Frame.{locals_in, locals_in_all, locals_in_part}
 

@@ -4,8 +4,8 @@ use Rattle.std.proofs.lemmas.List.{map-append}
 use Rattle.std.proofs.lemmas.List.FromFn.{map-range_with_len_more}
 use Rattle.std.specs.List.{range_with_len}
 use Rattle.std.proofs.lemmas.List.{length-map, drop_all}
-use Rattle.flow_model.specs.Ty.{Ty, int, bool}
-use Rattle.flow_model.specs.Flow.{FlowModel}
+use Rattle.small_flow.specs.Ty.{Ty, int, bool}
+use Rattle.small_flow.specs.Flow.{FlowModel}
 use Rattle.elaborate.specs.Frame.{Local, Purpose, Frame, of_local, of_temporary, temporaries_of, purposes, Temporary}
 use Rattle.elaborate.specs.Known.{facts_for, fact_for}
 

@@ -3,11 +3,11 @@ use Rattle.std.proofs.Common.{◌≡◌, ℕ, ◌+◌, ◌≤◌, ◌<◌, List,
 use Rattle.std.specs.Prelude.{IsTrue, Some}
 use Rattle.std.proofs.lemmas.Bool.{and_parts}
 use Rattle.std.proofs.lemmas.List.Elements.{All-nil, All-cons}
-use Rattle.dart_tree.specs.Tree.{Tree, Trees, Part, no_more, more, absent, present, declare, assign, eval, print, if_statement, while_statement, block}
-use Rattle.dart_tree.specs.Places.{place_of}
-use Rattle.dart_tree.specs.declared.places.Place.{Place}
-use Rattle.flow_model.specs.Sub.{no_rows}
-use Rattle.flow_model.specs.Flow.{FlowModel, end_of}
+use Rattle.small_tree.specs.Tree.{Tree, Trees, Part, no_more, more, absent, present, declare, assign, eval, print, if_statement, while_statement, block}
+use Rattle.small_tree.specs.Places.{place_of}
+use Rattle.small_tree.specs.declared.places.Place.{Place}
+use Rattle.small_flow.specs.Sub.{no_rows}
+use Rattle.small_flow.specs.Flow.{FlowModel, end_of}
 use Rattle.judgement.specs.Names.{Names, names_within, locals_of}
 use Rattle.judgement.specs.Written.{written_in}
 use Rattle.judgement.specs.Rows.{condition_faults, loop_head}

@@ -3,9 +3,9 @@ use Rattle.std.proofs.Common.{◌≡◌, ◌≢◌, ℕ, ◌<◌, List, [], leng
 use Rattle.std.specs.Prelude.{IsTrue, nat_eq}
 use Rattle.std.proofs.lemmas.Bool.{cases_eq, cond-true, cond-false}
 use Rattle.std.proofs.lemmas.Option.{slice_get_within, get_or_from_slice_get}
-use Rattle.flow_model.specs.Ty.{Ty}
-use Rattle.flow_model.specs.Sub.{no_rows}
-use Rattle.flow_model.specs.Flow.{FlowModel}
+use Rattle.small_flow.specs.Ty.{Ty}
+use Rattle.small_flow.specs.Sub.{no_rows}
+use Rattle.small_flow.specs.Flow.{FlowModel}
 use Rattle.core_ir.specs.Program.{Program}
 use Rattle.core_ir.specs.Values.{declared_at}
 use Rattle.core_ir.specs.declared.facts.SlotFact.{SlotFact}

@@ -1,13 +1,13 @@
 -- Subtyping among the types that expressions and locals have where nothing is wrong.
 use Rattle.std.proofs.Common.{◌≡◌, Bool, true, false, refl, sym, subst}
 use Rattle.std.specs.Prelude.{IsTrue, List, [], ◌∷◌, ◌++◌, ◌||◌, if◌then◌else◌, filter, map}
-use Rattle.flow_model.specs.Ty.{Ty, null, int, bool, nullable, same_type, non_null_of}
-use Rattle.flow_model.specs.Sub.{no_rows, same, sub}
-use Rattle.flow_model.specs.Flow.{last_or, current_of}
-use Rattle.flow_model.specs.Assign.{appended_of, assign_facts}
-use Rattle.flow_model.specs.Steps.{non_null_facts}
-use Rattle.flow_model.specs.declared.locals.Facts.{Facts}
-use Rattle.flow_model.proofs.SubLaws.{transitive, related_from_sub, sub_from_related}
+use Rattle.small_flow.specs.Ty.{Ty, null, int, bool, nullable, same_type, non_null_of}
+use Rattle.small_flow.specs.Sub.{no_rows, same, sub}
+use Rattle.small_flow.specs.Flow.{last_or, current_of}
+use Rattle.small_flow.specs.Assign.{appended_of, assign_facts}
+use Rattle.small_flow.specs.Steps.{non_null_facts}
+use Rattle.small_flow.specs.declared.locals.Facts.{Facts}
+use Rattle.small_flow.proofs.SubLaws.{transitive, related_from_sub, sub_from_related}
 use Rattle.elaborate.proofs.Claims.{is_shape}
 
 -- a type is a subtype of itself

@@ -2,13 +2,13 @@
 use Rattle.std.proofs.Common.{◌≡◌, ◌≢◌, ℕ, ◌+◌, ◌≤◌, max, List, [], ◌∷◌, ◌++◌, length, Option, Some, refl, sym, ap, ap₂, subst, ◌∙◌, inr, ⊎_elim, arith, append_assoc, append-nil, length-append, le_refl, ne_eqb}
 use Rattle.std.specs.Prelude.{IsTrue, nat_eq}
 use Rattle.std.proofs.lemmas.Bool.{and_parts, cases_eq, cond-false}
-use Rattle.dart_tree.specs.Tree.{Tree, name, integer, boolean, null_literal, binary}
-use Rattle.dart_tree.specs.declared.places.Place.{Place}
-use Rattle.dart_tree.specs.declared.places.NodeId.{NodeId}
-use Rattle.dart_tree.specs.declared.nodes.Operator.{Operator}
-use Rattle.flow_model.specs.Sub.{no_rows}
-use Rattle.flow_model.specs.Flow.{FlowModel}
-use Rattle.flow_model.specs.declared.subtyping.Rows.{Rows}
+use Rattle.small_tree.specs.Tree.{Tree, name, integer, boolean, null_literal, binary}
+use Rattle.small_tree.specs.declared.places.Place.{Place}
+use Rattle.small_tree.specs.declared.places.NodeId.{NodeId}
+use Rattle.small_tree.specs.declared.nodes.Operator.{Operator}
+use Rattle.small_flow.specs.Sub.{no_rows}
+use Rattle.small_flow.specs.Flow.{FlowModel}
+use Rattle.small_flow.specs.declared.subtyping.Rows.{Rows}
 use Rattle.judgement.specs.Names.{Names}
 use Rattle.judgement.specs.Judgement.{evaluate}
 use Rattle.core_ir.specs.Program.{Program}

@@ -4,16 +4,16 @@ use Rattle.std.specs.Prelude.{IsTrue, All}
 use Rattle.std.specs.Option.{option_map_or}
 use Rattle.std.specs.FinMap.{get}
 use Rattle.std.proofs.lemmas.List.Elements.{All-nil}
-use Rattle.dart_tree.specs.Tree.{Tree, int_type, bool_type}
-use Rattle.dart_tree.specs.declared.places.Place.{Place}
-use Rattle.dart_tree.specs.declared.places.NodeId.{NodeId}
-use Rattle.dart_tree.specs.declared.nodes.Name.{Name}
-use Rattle.flow_model.specs.Ty.{Ty, int, nullable_of}
-use Rattle.flow_model.specs.Sub.{no_rows, sub}
-use Rattle.flow_model.specs.Flow.{FlowModel, facts_of, at_local, declare_of}
-use Rattle.flow_model.specs.Assign.{assign_facts}
-use Rattle.flow_model.specs.declared.locals.LocalId.{LocalId}
-use Rattle.flow_model.specs.declared.locals.Facts.{Facts}
+use Rattle.small_tree.specs.Tree.{Tree, int_type, bool_type}
+use Rattle.small_tree.specs.declared.places.Place.{Place}
+use Rattle.small_tree.specs.declared.places.NodeId.{NodeId}
+use Rattle.small_tree.specs.declared.nodes.Name.{Name}
+use Rattle.small_flow.specs.Ty.{Ty, int, nullable_of}
+use Rattle.small_flow.specs.Sub.{no_rows, sub}
+use Rattle.small_flow.specs.Flow.{FlowModel, facts_of, at_local, declare_of}
+use Rattle.small_flow.specs.Assign.{assign_facts}
+use Rattle.small_flow.specs.declared.locals.LocalId.{LocalId}
+use Rattle.small_flow.specs.declared.locals.Facts.{Facts}
 use Rattle.judgement.specs.declared.DiagnosticCode.TheVariants.{DuplicateDefinition, InvalidAssignment, UndefinedName}
 use Rattle.judgement.specs.Names.{Names}
 use Rattle.judgement.specs.Rows.{Outcome, just, complains, fault_at, fits, fit_faults, write_row, assign_row, declared_local, declare_row, initialize_row}

@@ -1,12 +1,12 @@
 -- How frames and laid points are stored.
 use Rattle.std.specs.Prelude.{ℕ, List, Option, refl}
 use Rattle.std.specs.Coded.{Coded, code_by, coded×, coded_ℕ, coded_list, coded_option}
-use Rattle.dart_tree.specs.declared.places.NodeId.{NodeId}
-use Rattle.dart_tree.specs.contracts.places.NodeId as node_id
-use Rattle.flow_model.specs.Ty.{Ty}
-use Rattle.flow_model.specs.TyCode.{type_code}
-use Rattle.flow_model.specs.declared.locals.LocalId.{LocalId}
-use Rattle.flow_model.specs.contracts.locals.LocalId as local_id
+use Rattle.small_tree.specs.declared.places.NodeId.{NodeId}
+use Rattle.small_tree.specs.contracts.places.NodeId as node_id
+use Rattle.small_flow.specs.Ty.{Ty}
+use Rattle.small_flow.specs.TyCode.{type_code}
+use Rattle.small_flow.specs.declared.locals.LocalId.{LocalId}
+use Rattle.small_flow.specs.contracts.locals.LocalId as local_id
 use Rattle.core_ir.specs.PointFacts.{PointFacts, facts_code}
 use Rattle.core_ir.specs.declared.points.Term.{Term}
 use Rattle.core_ir.specs.contracts.points.Term as term

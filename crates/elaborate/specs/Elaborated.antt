@@ -1,7 +1,7 @@
 -- The core program of a tree.
 use Rattle.std.specs.Prelude.{◌≡◌, List, map, slice_index_or}
-use Rattle.flow_model.specs.Sub.{no_rows}
-use Rattle.dart_tree.specs.Tree.{Tree}
+use Rattle.small_flow.specs.Sub.{no_rows}
+use Rattle.small_tree.specs.Tree.{Tree}
 use Rattle.core_ir.specs.Program.{Program}
 use Rattle.core_check.specs.Known.{no_facts}
 use Rattle.elaborate.specs.Frame.{frame_of, slot_types}

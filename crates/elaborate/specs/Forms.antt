@@ -1,6 +1,6 @@
 -- Where expressions, written types, blocks and statements stand.
 use Rattle.std.specs.Prelude.{Bool, true, false, ◌&&◌}
-use Rattle.dart_tree.specs.Tree.{Tree, Trees, Part, no_more, more, absent, present, name, integer, boolean, null_literal, binary, int_type, bool_type, declare, assign, eval, print, if_statement, while_statement, block, function, unit}
+use Rattle.small_tree.specs.Tree.{Tree, Trees, Part, no_more, more, absent, present, name, integer, boolean, null_literal, binary, int_type, bool_type, declare, assign, eval, print, if_statement, while_statement, block, function, unit}
 
 -- whether a tree is an expression, whose operands are expressions
 abbrev pub is_expression : Tree → Bool

@@ -2,9 +2,9 @@
 use Rattle.std.specs.Prelude.{Bool, false, ◌&&◌, List, map, nat_eq, if◌then◌else◌}
 use Rattle.std.specs.Option.{option_map_or}
 use Rattle.std.specs.List.{list_any}
-use Rattle.flow_model.specs.Ty.{Ty, same_type}
-use Rattle.flow_model.specs.Flow.{FlowModel, facts_of, current_of}
-use Rattle.flow_model.specs.declared.locals.Facts.{Facts}
+use Rattle.small_flow.specs.Ty.{Ty, same_type}
+use Rattle.small_flow.specs.Flow.{FlowModel, facts_of, current_of}
+use Rattle.small_flow.specs.declared.locals.Facts.{Facts}
 use Rattle.core_ir.specs.PointFacts.{PointFacts}
 use Rattle.core_ir.specs.declared.facts.Held.TheVariants.{Own, Shared}
 use Rattle.core_ir.specs.declared.facts.SlotFact.{SlotFact}

@@ -1,9 +1,9 @@
 -- A program that is being laid out: its points so far, over its frame.
 use Rattle.std.specs.Prelude.{◌≡◌, ℕ, ◌+◌, ◌<◌, ◌≤◌, ◌^◌, List, ◌++◌, map, length, slice_index_or, All, Option}
 use Rattle.std.specs.Option.{option_map_or}
-use Rattle.dart_tree.specs.Tree.{Tree}
-use Rattle.dart_tree.specs.Numbers.{nodes_in}
-use Rattle.flow_model.specs.declared.locals.LocalId.{LocalId}
+use Rattle.small_tree.specs.Tree.{Tree}
+use Rattle.small_tree.specs.Numbers.{nodes_in}
+use Rattle.small_flow.specs.declared.locals.LocalId.{LocalId}
 use Rattle.core_ir.specs.PointFacts.{PointFacts}
 use Rattle.core_ir.specs.Program.{Program}
 use Rattle.core_ir.specs.declared.points.Point.{Point}

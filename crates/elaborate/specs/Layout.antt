@@ -4,13 +4,13 @@ use Rattle.std.specs.Int.{cast_signed}
 use Rattle.std.specs.Option.{option_map_or}
 use Rattle.std.specs.FinMap.{empty, get}
 use mir.Syntax.{w64}
-use Rattle.dart_tree.specs.Tree.{Tree, Trees, Part, no_more, more, absent, present, name, integer, boolean, null_literal, binary, int_type, bool_type, declare, assign, eval, print, if_statement, while_statement, block, function, unit}
-use Rattle.dart_tree.specs.declared.places.NodeId.{NodeId}
-use Rattle.dart_tree.specs.declared.nodes.OperatorKind.{OperatorKind}
-use Rattle.dart_tree.specs.declared.nodes.OperatorKind.TheVariants.{Plus, Less as LessThan, NotEqual as Unequal}
-use Rattle.flow_model.specs.Ty.{Ty, admits_null}
-use Rattle.flow_model.specs.Flow.{FlowModel, start_of}
-use Rattle.flow_model.specs.declared.subtyping.Rows.{Rows}
+use Rattle.small_tree.specs.Tree.{Tree, Trees, Part, no_more, more, absent, present, name, integer, boolean, null_literal, binary, int_type, bool_type, declare, assign, eval, print, if_statement, while_statement, block, function, unit}
+use Rattle.small_tree.specs.declared.places.NodeId.{NodeId}
+use Rattle.small_tree.specs.declared.nodes.OperatorKind.{OperatorKind}
+use Rattle.small_tree.specs.declared.nodes.OperatorKind.TheVariants.{Plus, Less as LessThan, NotEqual as Unequal}
+use Rattle.small_flow.specs.Ty.{Ty, admits_null}
+use Rattle.small_flow.specs.Flow.{FlowModel, start_of}
+use Rattle.small_flow.specs.declared.subtyping.Rows.{Rows}
 use Rattle.judgement.specs.Names.{Names, names_within}
 use Rattle.judgement.specs.Written.{written_in}
 use Rattle.judgement.specs.Rows.{loop_head}

@@ -1,10 +1,10 @@
 -- What the code does with the nodes of a typed tree: it reads those of an expression, a statement or a block, and lays its points.
 use Rattle.std.specs.Prelude.{◌≡◌, ℕ, ◌+◌, List, [], ◌++◌, length, Option}
 use Rattle.std.specs.FinMap.{empty}
-use Rattle.dart_tree.specs.Tree.{Tree, Trees, Part, no_more, more, absent, present, name, integer, boolean, null_literal, binary, int_type, bool_type, declare, assign, eval, print, if_statement, while_statement, block, function, unit}
-use Rattle.dart_tree.specs.declared.places.NodeId.{NodeId}
-use Rattle.flow_model.specs.Sub.{no_rows}
-use Rattle.flow_model.specs.Flow.{FlowModel, start_of}
+use Rattle.small_tree.specs.Tree.{Tree, Trees, Part, no_more, more, absent, present, name, integer, boolean, null_literal, binary, int_type, bool_type, declare, assign, eval, print, if_statement, while_statement, block, function, unit}
+use Rattle.small_tree.specs.declared.places.NodeId.{NodeId}
+use Rattle.small_flow.specs.Sub.{no_rows}
+use Rattle.small_flow.specs.Flow.{FlowModel, start_of}
 use Rattle.judgement.specs.NodeFacts.{NodeFacts}
 use Rattle.judgement.specs.Names.{Names}
 use Rattle.judgement.specs.Typed.{said_of_expression, typed_expression, typed_statement, typed_statements, typed_part}

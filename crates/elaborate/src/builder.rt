@@ -1,7 +1,7 @@
 //! The points of a program that is being laid out.
 
 ghost use Rattle.std.specs.Prelude.{◌≡◌, ◌≢◌, ◌∷◌, [], ◌<◌, ◌≤◌, ◌^◌, IsTrue, OnOk, OnErr, IfOk, IfSome, length, map, slice_index_or};
-ghost use Rattle.flow_model.specs.declared.locals.LocalId.{LocalId};
+ghost use Rattle.small_flow.specs.declared.locals.LocalId.{LocalId};
 ghost use Rattle.core_check.specs.Known.{no_facts};
 ghost use Rattle.elaborate.specs.Frame as frame;
 ghost use Rattle.elaborate.specs.Known.{facts_for};
@@ -9,8 +9,8 @@ ghost use Rattle.elaborate.specs.Laid.{IsBuilt, Shares, laid_behind, slot_meant,
 
 use crate::frame::{HeldValue, Slots};
 use core_ir::{Facts, Held, Point, SlotFact, SlotId, Term};
-use dart_tree::{NodeId, OperatorKind};
-use flow_model::{Flow, LocalId};
+use small_flow::{Flow, LocalId};
+use small_tree::{NodeId, OperatorKind};
 use std::alloc::{AllocError, Global};
 use std::marker::Model;
 

@@ -1,11 +1,11 @@
 //! How many points trees have.
 
 ghost use Rattle.std.specs.Prelude.{◌≡◌, ◌<◌, ◌^◌, ◌&&◌, IsTrue, is_some};
-ghost use Rattle.dart_tree.specs.Tree.{trees_of, part_of};
+ghost use Rattle.small_tree.specs.Tree.{trees_of, part_of};
 ghost use Rattle.elaborate.specs.Layout as layout;
 ghost use Rattle.elaborate.specs.Forms.{are_statements, is_expression, is_statement, is_written_type};
 
-use dart_tree::{
+use small_tree::{
     Block, Expr, ExprNode, OperatorKind, Stmt, StmtNode, WrittenType, WrittenTypeNode,
 };
 

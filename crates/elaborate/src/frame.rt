@@ -3,9 +3,9 @@
 ghost use Rattle.std.specs.Prelude.{◌≡◌, ◌<◌, ◌^◌, ◌+◌, ◌++◌, ◌∷◌, [], List, map, IfOk, OnOk};
 ghost use Rattle.std.specs.Option.{option_map_or};
 ghost use Rattle.std.specs.List.{list_any, position_or_len};
-ghost use Rattle.dart_tree.specs.Numbers.{nodes_in};
-ghost use Rattle.flow_model.specs.Ty.{Ty};
-ghost use Rattle.flow_model.specs.Flow.{FlowModel};
+ghost use Rattle.small_tree.specs.Numbers.{nodes_in};
+ghost use Rattle.small_flow.specs.Ty.{Ty};
+ghost use Rattle.small_flow.specs.Flow.{FlowModel};
 ghost use Rattle.elaborate.specs.Frame.{is_local, frame_of, of_local, of_temporary, slot_for, slot_types, temporaries_of, type_for, type_of_result};
 ghost use Rattle.elaborate.specs.Known.{fact_for, fact_of_none, facts_for, same_temporary};
 ghost use Rattle.elaborate.specs.Laid.{slot_meant};
@@ -13,8 +13,8 @@ ghost use Rattle.elaborate.specs.Laid.{slot_meant};
 use crate::height::height_of_statements;
 use crate::locals::add_locals;
 use core_ir::{Facts, Held, SlotFact, SlotId};
-use dart_tree::{Block, OperatorKind};
-use flow_model::{DartType, Flow, LocalId, TypeNode};
+use small_flow::{DartType, Flow, LocalId, TypeNode};
+use small_tree::{Block, OperatorKind};
 use std::alloc::{AllocError, Global};
 use std::marker::Model;
 

@@ -1,11 +1,11 @@
 //! How many values of operators a program holds at once.
 
 ghost use Rattle.std.specs.Prelude.{◌≡◌, ◌<◌, ◌≤◌, ◌^◌};
-ghost use Rattle.dart_tree.specs.Tree.{trees_of};
-ghost use Rattle.dart_tree.specs.Numbers.{nodes_in, nodes_in_all};
+ghost use Rattle.small_tree.specs.Tree.{trees_of};
+ghost use Rattle.small_tree.specs.Numbers.{nodes_in, nodes_in_all};
 ghost use Rattle.elaborate.specs.Frame.{height_of, height_of_all, holds, value_height};
 
-use dart_tree::{Expr, ExprNode, Stmt, StmtNode};
+use small_tree::{Expr, ExprNode, Stmt, StmtNode};
 
 // How many values statements hold at once at most.
 #[cycle(height)]

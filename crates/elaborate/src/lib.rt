@@ -18,9 +18,9 @@ mod values;
 
 ghost use Rattle.std.specs.Prelude.{◌≡◌, ◌<◌, ◌≤◌, ◌*◌, ◌^◌, ℕ, List, length, IfOk, IfSome, OnOk, IsTrue, []};
 ghost use Rattle.std.specs.FinMap.{empty};
-ghost use Rattle.dart_tree.specs.Numbers.{nodes_in};
-ghost use Rattle.flow_model.specs.Sub.{no_rows};
-ghost use Rattle.flow_model.specs.Flow.{start_of};
+ghost use Rattle.small_tree.specs.Numbers.{nodes_in};
+ghost use Rattle.small_flow.specs.Sub.{no_rows};
+ghost use Rattle.small_flow.specs.Flow.{start_of};
 ghost use Rattle.judgement.specs.Typed.{typed_unit};
 ghost use Rattle.check_library.specs.Checked.{IsCheckOf, IsFaultless};
 ghost use Rattle.dart_scan.specs.Scanned.{tokens_of};
@@ -37,9 +37,9 @@ use crate::nodes::Nodes;
 use crate::statements::lay_body;
 use check_library::Checked;
 use core_ir::CoreProgram;
-use dart_tree::{Block, Function, Unit};
-use flow_model::Rows;
 use judgement::TypedNode;
+use small_flow::Rows;
+use small_tree::{Block, Function, Unit};
 use std::alloc::{AllocError, Global};
 
 /// The core program of a library in whose text nothing is wrong. It takes time and memory linear in

@@ -1,13 +1,13 @@
 //! The locals that a program declares.
 
 ghost use Rattle.std.specs.Prelude.{◌≡◌, ◌++◌, IfOk, OnOk};
-ghost use Rattle.dart_tree.specs.Tree.{trees_of};
+ghost use Rattle.small_tree.specs.Tree.{trees_of};
 ghost use Rattle.judgement.specs.Judgement.{type_of};
 ghost use Rattle.elaborate.specs.Frame.{locals_in, locals_in_all};
 
 use crate::frame::DeclaredLocal;
-use dart_tree::{Stmt, StmtNode, WrittenType, WrittenTypeNode};
-use flow_model::{DartType, LocalId, TypeNode};
+use small_flow::{DartType, LocalId, TypeNode};
+use small_tree::{Stmt, StmtNode, WrittenType, WrittenTypeNode};
 use std::alloc::{AllocError, Global};
 
 // Puts the locals that statements declare behind those before, in reading order.

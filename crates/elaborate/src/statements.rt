@@ -1,10 +1,10 @@
 //! The points of statements.
 
 ghost use Rattle.std.specs.Prelude.{◌≡◌, ◌+◌, ◌∷◌, [], ◌<◌, ◌≤◌, ◌^◌, ℕ, IsTrue, OnOk, length};
-ghost use Rattle.dart_tree.specs.Tree.{Trees, assign, block, declare, eval, if_statement, print, while_statement, trees_of, part_of};
-ghost use Rattle.dart_tree.specs.declared.places.Place.{Place as TreePlace};
-ghost use Rattle.dart_tree.specs.declared.nodes.Name.{Name};
-ghost use Rattle.flow_model.specs.Ty as ty;
+ghost use Rattle.small_tree.specs.Tree.{Trees, assign, block, declare, eval, if_statement, print, while_statement, trees_of, part_of};
+ghost use Rattle.small_tree.specs.declared.places.Place.{Place as TreePlace};
+ghost use Rattle.small_tree.specs.declared.nodes.Name.{Name};
+ghost use Rattle.small_flow.specs.Ty as ty;
 ghost use Rattle.judgement.specs.Judgement.{type_of};
 ghost use Rattle.elaborate.specs.Forms.{are_statements};
 ghost use Rattle.elaborate.specs.Layout as layout;
@@ -15,7 +15,7 @@ use crate::count::{count_condition, count_else, count_statement, count_statement
 use crate::nodes::Nodes;
 use crate::values::{lay_condition, lay_value};
 use core_ir::{Operand, PointId, SlotId, Term, Value};
-use dart_tree::{Block, Expr, Place, Stmt, StmtNode, WrittenType, WrittenTypeNode};
+use small_tree::{Block, Expr, Place, Stmt, StmtNode, WrittenType, WrittenTypeNode};
 use std::alloc::AllocError;
 
 // Lays the points of a body, and the one at which the program ends.

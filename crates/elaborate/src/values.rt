@@ -12,8 +12,8 @@ use crate::count::{count_value, tests_local};
 use crate::frame::HeldValue;
 use crate::nodes::Nodes;
 use core_ir::{Operand, PointId, SlotId, Term, Value};
-use dart_tree::{Expr, ExprNode, IntegerLiteral, NodeId, OperatorKind};
 use judgement::TypedNode;
+use small_tree::{Expr, ExprNode, IntegerLiteral, NodeId, OperatorKind};
 use std::alloc::AllocError;
 
 /// An expression whose points are laid: where its value then is, and what is said of it.

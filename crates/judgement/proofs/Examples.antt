@@ -1,19 +1,19 @@
 -- The table on a few small trees, computed.
 use Rattle.std.specs.Prelude.{◌≡◌, ℕ, ◌+◌, true, false, List, [], ◌∷◌, ◌++◌, Some, None, refl, map}
 use Rattle.std.specs.FinMap.{get, gets}
-use Rattle.dart_tree.specs.declared.places.Place.{Place}
-use Rattle.dart_tree.specs.declared.nodes.Name.{Name}
-use Rattle.dart_tree.specs.declared.nodes.Operator.{Operator}
-use Rattle.dart_tree.specs.declared.nodes.OperatorKind.{OperatorKind}
-use Rattle.dart_tree.specs.declared.nodes.OperatorKind.TheVariants.{Plus, Less, NotEqual}
-use Rattle.dart_tree.specs.declared.nodes.Radix.TheVariants.{Decimal, Hexadecimal}
-use Rattle.dart_tree.specs.Tree.{Tree, Trees, no_more, more, absent, present, name, integer, boolean, null_literal, binary, int_type, bool_type, declare, assign, eval, if_statement, while_statement, block}
-use Rattle.flow_model.specs.Ty.{never}
-use Rattle.flow_model.specs.Sub.{no_rows}
-use Rattle.flow_model.specs.Flow.{FlowModel, facts_of, current_of}
-use Rattle.flow_model.specs.Steps.{exit_of}
-use Rattle.flow_model.specs.declared.locals.Facts.{Facts}
-use Rattle.flow_model.specs.declared.locals.LocalId.{LocalId}
+use Rattle.small_tree.specs.declared.places.Place.{Place}
+use Rattle.small_tree.specs.declared.nodes.Name.{Name}
+use Rattle.small_tree.specs.declared.nodes.Operator.{Operator}
+use Rattle.small_tree.specs.declared.nodes.OperatorKind.{OperatorKind}
+use Rattle.small_tree.specs.declared.nodes.OperatorKind.TheVariants.{Plus, Less, NotEqual}
+use Rattle.small_tree.specs.declared.nodes.Radix.TheVariants.{Decimal, Hexadecimal}
+use Rattle.small_tree.specs.Tree.{Tree, Trees, no_more, more, absent, present, name, integer, boolean, null_literal, binary, int_type, bool_type, declare, assign, eval, if_statement, while_statement, block}
+use Rattle.small_flow.specs.Ty.{never}
+use Rattle.small_flow.specs.Sub.{no_rows}
+use Rattle.small_flow.specs.Flow.{FlowModel, facts_of, current_of}
+use Rattle.small_flow.specs.Steps.{exit_of}
+use Rattle.small_flow.specs.declared.locals.Facts.{Facts}
+use Rattle.small_flow.specs.declared.locals.LocalId.{LocalId}
 use Rattle.judgement.specs.declared.Fault.{Fault}
 use Rattle.judgement.specs.declared.DiagnosticCode.{DiagnosticCode}
 use Rattle.judgement.specs.declared.DiagnosticCode.TheVariants.{ArgumentType, ConditionNotBool, DuplicateDefinition, IntegerLiteralOutOfRange, InvalidAssignment, ReferencedBeforeDeclaration, UnassignedRead, UncheckedNullableUse, UndefinedOperator}

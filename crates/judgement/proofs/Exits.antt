@@ -1,8 +1,8 @@
 -- What is reached behind an expression, by its type.
 use Rattle.std.proofs.Common.{◌≡◌, true, false, refl}
-use Rattle.flow_model.specs.Ty.{Ty, invalid, never, null, int, bool, nullable, same_type}
-use Rattle.flow_model.specs.Flow.{FlowModel}
-use Rattle.flow_model.specs.Steps.{exit_of}
+use Rattle.small_flow.specs.Ty.{Ty, invalid, never, null, int, bool, nullable, same_type}
+use Rattle.small_flow.specs.Flow.{FlowModel}
+use Rattle.small_flow.specs.Steps.{exit_of}
 use Rattle.judgement.specs.Rows.{Value, exit_by, exits_if_never}
 
 -- behind a type that isn't Never all is as it was

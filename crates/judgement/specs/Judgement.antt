@@ -1,13 +1,13 @@
 -- The judgement of trees.
 use Rattle.std.specs.Prelude.{Bool, true, false, List, [], Option, None, if◌then◌else◌}
 use Rattle.std.specs.FinMap.{empty}
-use Rattle.dart_tree.specs.Tree.{Tree, Trees, Part, no_more, more, absent, present, name, integer, boolean, null_literal, binary, int_type, bool_type, declare, assign, eval, print, if_statement, while_statement, block, function, unit}
-use Rattle.dart_tree.specs.Places.{place_of}
-use Rattle.dart_tree.specs.declared.nodes.Name.{Name}
-use Rattle.flow_model.specs.Ty.{Ty, invalid, null, int, bool, nullable_of}
-use Rattle.flow_model.specs.Flow.{FlowModel, start_of, end_of}
-use Rattle.flow_model.specs.declared.locals.LocalId.{LocalId}
-use Rattle.flow_model.specs.declared.subtyping.Rows.{Rows}
+use Rattle.small_tree.specs.Tree.{Tree, Trees, Part, no_more, more, absent, present, name, integer, boolean, null_literal, binary, int_type, bool_type, declare, assign, eval, print, if_statement, while_statement, block, function, unit}
+use Rattle.small_tree.specs.Places.{place_of}
+use Rattle.small_tree.specs.declared.nodes.Name.{Name}
+use Rattle.small_flow.specs.Ty.{Ty, invalid, null, int, bool, nullable_of}
+use Rattle.small_flow.specs.Flow.{FlowModel, start_of, end_of}
+use Rattle.small_flow.specs.declared.locals.LocalId.{LocalId}
+use Rattle.small_flow.specs.declared.subtyping.Rows.{Rows}
 use Rattle.judgement.specs.declared.Fault.{Fault}
 use Rattle.judgement.specs.Names.{Names, named_by, names_within, locals_of}
 use Rattle.judgement.specs.Written.{written_in}

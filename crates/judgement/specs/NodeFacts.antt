@@ -1,14 +1,14 @@
 -- What the judgement says of a node, as a value.
 use Rattle.std.specs.Prelude.{Option, refl}
 use Rattle.std.specs.Coded.{Coded, code_by, coded×, coded_option}
-use Rattle.dart_tree.specs.declared.places.NodeId.{NodeId}
-use Rattle.dart_tree.specs.contracts.places.NodeId as node_id
-use Rattle.flow_model.specs.Ty.{Ty}
-use Rattle.flow_model.specs.TyCode.{type_code}
-use Rattle.flow_model.specs.Flow.{FlowModel, flow_code, at_local}
-use Rattle.flow_model.specs.Steps.{exit_of, non_null_facts}
-use Rattle.flow_model.specs.declared.locals.LocalId.{LocalId}
-use Rattle.flow_model.specs.contracts.locals.LocalId as local_id
+use Rattle.small_tree.specs.declared.places.NodeId.{NodeId}
+use Rattle.small_tree.specs.contracts.places.NodeId as node_id
+use Rattle.small_flow.specs.Ty.{Ty}
+use Rattle.small_flow.specs.TyCode.{type_code}
+use Rattle.small_flow.specs.Flow.{FlowModel, flow_code, at_local}
+use Rattle.small_flow.specs.Steps.{exit_of, non_null_facts}
+use Rattle.small_flow.specs.declared.locals.LocalId.{LocalId}
+use Rattle.small_flow.specs.contracts.locals.LocalId as local_id
 use Rattle.judgement.specs.declared.typed.Branch.{Branch}
 use Rattle.judgement.specs.declared.typed.Branch.TheVariants.{Same, Unreached, NotNull}
 

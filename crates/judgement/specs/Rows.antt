@@ -2,24 +2,24 @@
 use Rattle.std.specs.Prelude.{ℕ, ◌^◌, Bool, true, false, not, ◌&&◌, ◌||◌, List, [], ◌∷◌, ◌++◌, nat_lt, is_some, if◌then◌else◌, Option, Some, None}
 use Rattle.std.specs.Option.{option_map_or}
 use Rattle.std.specs.FinMap.{get}
-use Rattle.dart_tree.specs.declared.places.Place.{Place}
-use Rattle.dart_tree.specs.declared.places.Span.{Span}
-use Rattle.dart_tree.specs.declared.nodes.Name.{Name}
-use Rattle.dart_tree.specs.declared.nodes.IntegerLiteral.{IntegerLiteral}
-use Rattle.dart_tree.specs.declared.nodes.OperatorKind.{OperatorKind}
-use Rattle.dart_tree.specs.declared.nodes.OperatorKind.TheVariants.{Plus, Less, NotEqual}
-use Rattle.dart_tree.specs.declared.nodes.Radix.{Radix}
-use Rattle.dart_tree.specs.declared.nodes.Radix.TheVariants.{Decimal, Hexadecimal}
-use Rattle.flow_model.specs.Ty.{Ty, invalid, never, null, int, bool, nullable, bare_of, same_type, non_null_of, admits_null}
-use Rattle.flow_model.specs.Sub.{sub}
-use Rattle.flow_model.specs.Flow.{FlowModel, facts_of, at_local, current_of, declare_of}
-use Rattle.flow_model.specs.Assign.{assign_facts}
-use Rattle.flow_model.specs.Join.{join_of}
-use Rattle.flow_model.specs.Steps.{exit_of, non_null_facts, conservative_of}
-use Rattle.flow_model.specs.declared.locals.LocalId.{LocalId}
-use Rattle.flow_model.specs.declared.locals.Facts.{Facts}
-use Rattle.flow_model.specs.declared.locals.LocalDecl.{LocalDecl}
-use Rattle.flow_model.specs.declared.subtyping.Rows.{Rows}
+use Rattle.small_tree.specs.declared.places.Place.{Place}
+use Rattle.small_tree.specs.declared.places.Span.{Span}
+use Rattle.small_tree.specs.declared.nodes.Name.{Name}
+use Rattle.small_tree.specs.declared.nodes.IntegerLiteral.{IntegerLiteral}
+use Rattle.small_tree.specs.declared.nodes.OperatorKind.{OperatorKind}
+use Rattle.small_tree.specs.declared.nodes.OperatorKind.TheVariants.{Plus, Less, NotEqual}
+use Rattle.small_tree.specs.declared.nodes.Radix.{Radix}
+use Rattle.small_tree.specs.declared.nodes.Radix.TheVariants.{Decimal, Hexadecimal}
+use Rattle.small_flow.specs.Ty.{Ty, invalid, never, null, int, bool, nullable, bare_of, same_type, non_null_of, admits_null}
+use Rattle.small_flow.specs.Sub.{sub}
+use Rattle.small_flow.specs.Flow.{FlowModel, facts_of, at_local, current_of, declare_of}
+use Rattle.small_flow.specs.Assign.{assign_facts}
+use Rattle.small_flow.specs.Join.{join_of}
+use Rattle.small_flow.specs.Steps.{exit_of, non_null_facts, conservative_of}
+use Rattle.small_flow.specs.declared.locals.LocalId.{LocalId}
+use Rattle.small_flow.specs.declared.locals.Facts.{Facts}
+use Rattle.small_flow.specs.declared.locals.LocalDecl.{LocalDecl}
+use Rattle.small_flow.specs.declared.subtyping.Rows.{Rows}
 use Rattle.judgement.specs.declared.Fault.{Fault}
 use Rattle.judgement.specs.declared.DiagnosticCode.{DiagnosticCode}
 use Rattle.judgement.specs.declared.DiagnosticCode.TheVariants.{ArgumentType, ConditionNotBool, DuplicateDefinition, IntegerLiteralOutOfRange, InvalidAssignment, ReferencedBeforeDeclaration, UnassignedRead, UncheckedNullableUse, UndefinedName, UndefinedOperator}

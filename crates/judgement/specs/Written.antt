@@ -2,9 +2,9 @@
 use Rattle.std.specs.Prelude.{List, [], ◌∷◌, ◌++◌}
 use Rattle.std.specs.Option.{option_map_or}
 use Rattle.std.specs.FinMap.{get}
-use Rattle.dart_tree.specs.Tree.{Tree, Trees, Part, no_more, more, absent, present, name, integer, boolean, null_literal, binary, int_type, bool_type, declare, assign, eval, print, if_statement, while_statement, block, function, unit}
-use Rattle.dart_tree.specs.declared.nodes.Name.{Name}
-use Rattle.flow_model.specs.declared.locals.LocalId.{LocalId}
+use Rattle.small_tree.specs.Tree.{Tree, Trees, Part, no_more, more, absent, present, name, integer, boolean, null_literal, binary, int_type, bool_type, declare, assign, eval, print, if_statement, while_statement, block, function, unit}
+use Rattle.small_tree.specs.declared.nodes.Name.{Name}
+use Rattle.small_flow.specs.declared.locals.LocalId.{LocalId}
 use Rattle.judgement.specs.Names.{Names, names_within}
 
 -- the local that an assignment to this name writes, if the name means one

@@ -10,7 +10,7 @@
 
 mod typed;
 
-use dart_tree::Span;
+use small_tree::Span;
 pub use typed::{Branch, TypedNode};
 
 /// What a diagnostic says, in the order of the codes' names.

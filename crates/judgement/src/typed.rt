@@ -1,7 +1,7 @@
 //! What the judgement says of each node.
 
-use dart_tree::NodeId;
-use flow_model::{DartType, Flow, LocalId};
+use small_flow::{DartType, Flow, LocalId};
+use small_tree::NodeId;
 use std::marker::Model;
 use std::rc::Rc;
 

@@ -6,7 +6,7 @@ use core_machine::{
     Machine, Turn, a_run_that_is_over_stays, each_way_to_go_wrong_is_taken, misuse_goes_wrong,
     never_wrong, steps_add_to_what_was_printed,
 };
-use flow_model::{DartType, Rows, TypeNode};
+use small_flow::{DartType, Rows, TypeNode};
 use std::alloc::{AllocError, Global};
 use std::process::Abort;
 use std::test::Fail;

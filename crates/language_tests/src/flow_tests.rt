@@ -1,4 +1,4 @@
-use flow_model::{DartType, Flow, LocalDecl, LocalId, Rows, TypeList, TypeNode, is_subtype};
+use small_flow::{DartType, Flow, LocalDecl, LocalId, Rows, TypeList, TypeNode, is_subtype};
 use std::alloc::{AllocError, Global};
 use std::test::Fail;
 

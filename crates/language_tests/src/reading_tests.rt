@@ -1,6 +1,6 @@
 //! The tokens between two places of a list.
 
-use readings::tokens_read;
+use small_readings::tokens_read;
 
 #[test]
 fn the_tokens_before_the_rest_were_read(rt: HostRuntime) {

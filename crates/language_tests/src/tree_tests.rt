@@ -1,6 +1,6 @@
 //! A small unit, built by hand and numbered.
 
-use dart_tree::{
+use small_tree::{
     Block, Expr, ExprNode, Function, IntegerLiteral, Name, NodeId, Place, Radix, Span, Stmt,
     StmtNode, Unit, WrittenType, WrittenTypeNode, number_unit,
 };

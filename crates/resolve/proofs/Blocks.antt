@@ -6,9 +6,9 @@ use Rattle.std.specs.Ordering.{nat_cmp, is_eq, eq_by_cmp}
 use Rattle.std.specs.declared.cmp.Ordering.TheVariants.{Less, Equal, Greater}
 use Rattle.std.specs.Cmp.{nat_cmp_total, ranked}
 use Rattle.std.specs.FinMap.{get, get-insert}
-use Rattle.dart_tree.specs.Tree.{Trees, no_more, more, declare}
-use Rattle.dart_tree.specs.declared.nodes.Name.{Name}
-use Rattle.flow_model.specs.declared.locals.LocalId.{LocalId}
+use Rattle.small_tree.specs.Tree.{Trees, no_more, more, declare}
+use Rattle.small_tree.specs.declared.nodes.Name.{Name}
+use Rattle.small_flow.specs.declared.locals.LocalId.{LocalId}
 use Rattle.judgement.specs.Names.{Names, local_of, names_within}
 use Rattle.resolve.specs.Declarations.{first_declared}
 

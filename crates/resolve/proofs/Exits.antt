@@ -1,9 +1,9 @@
 -- What exits is judged as what doesn't, but for what is known behind it.
 use Rattle.std.proofs.Common.{◌≡◌, true, false, List, [], refl, sym, ap, ◌∙◌}
-use Rattle.dart_tree.specs.declared.places.Place.{Place}
-use Rattle.flow_model.specs.Ty.{Ty, never, same_type}
-use Rattle.flow_model.specs.Flow.{FlowModel}
-use Rattle.flow_model.specs.Steps.{exit_of}
+use Rattle.small_tree.specs.declared.places.Place.{Place}
+use Rattle.small_flow.specs.Ty.{Ty, never, same_type}
+use Rattle.small_flow.specs.Flow.{FlowModel}
+use Rattle.small_flow.specs.Steps.{exit_of}
 use Rattle.judgement.specs.declared.typed.Branch.{Branch}
 use Rattle.judgement.specs.declared.typed.Branch.TheVariants.{Same, Unreached, NotNull}
 use Rattle.judgement.specs.NodeFacts.{NodeFacts, at_branch}

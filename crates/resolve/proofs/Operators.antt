@@ -1,13 +1,13 @@
 -- Operators: which types have them, and what they give once their sides are judged.
 use Rattle.std.proofs.Common.{◌≡◌, List, ◌++◌, Option, refl, sym, ◌∙◌, append_assoc, append-nil}
-use Rattle.dart_tree.specs.declared.places.Place.{Place}
-use Rattle.dart_tree.specs.declared.places.Span.{Span}
-use Rattle.dart_tree.specs.declared.nodes.OperatorKind.{OperatorKind}
-use Rattle.dart_tree.specs.declared.nodes.OperatorKind.TheVariants.{Plus, Less, NotEqual}
-use Rattle.flow_model.specs.Ty.{Ty, invalid, never, null, int, bool, nullable, bare_of, same_type}
-use Rattle.flow_model.specs.Flow.{FlowModel}
-use Rattle.flow_model.specs.declared.locals.LocalId.{LocalId}
-use Rattle.flow_model.specs.declared.subtyping.Rows.{Rows}
+use Rattle.small_tree.specs.declared.places.Place.{Place}
+use Rattle.small_tree.specs.declared.places.Span.{Span}
+use Rattle.small_tree.specs.declared.nodes.OperatorKind.{OperatorKind}
+use Rattle.small_tree.specs.declared.nodes.OperatorKind.TheVariants.{Plus, Less, NotEqual}
+use Rattle.small_flow.specs.Ty.{Ty, invalid, never, null, int, bool, nullable, bare_of, same_type}
+use Rattle.small_flow.specs.Flow.{FlowModel}
+use Rattle.small_flow.specs.declared.locals.LocalId.{LocalId}
+use Rattle.small_flow.specs.declared.subtyping.Rows.{Rows}
 use Rattle.judgement.specs.declared.Fault.{Fault}
 use Rattle.judgement.specs.NodeFacts.{NodeFacts}
 use Rattle.judgement.specs.Rows.{Value, has_operators, operator_row}

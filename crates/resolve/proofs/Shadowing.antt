@@ -4,7 +4,7 @@ use Rattle.std.specs.Ordering.{nat_cmp, eq_by_cmp, is_eq}
 use Rattle.std.specs.declared.cmp.Ordering.TheVariants.{Less, Equal, Greater}
 use Rattle.std.specs.Cmp.{nat_cmp_total}
 use Rattle.std.specs.FinMap.{get, insert, get-insert, get-remove, get_tied, same_map, nat_cmp-IsAntisymmetric}
-use Rattle.flow_model.specs.declared.locals.LocalId.{LocalId}
+use Rattle.small_flow.specs.declared.locals.LocalId.{LocalId}
 use Rattle.judgement.specs.Names.{Names}
 use Rattle.resolve.specs.declared.names.Shadowed.{Shadowed}
 use Rattle.resolve.specs.Shadows.{with_meaning, restored, undone}

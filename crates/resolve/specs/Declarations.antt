@@ -1,7 +1,7 @@
 -- Which names a block declares.
 use Rattle.std.specs.Prelude.{ℕ, nat_eq, List, [], ◌∷◌, ◌++◌, Option, find}
-use Rattle.dart_tree.specs.Tree.{Tree, Trees, no_more, more, name, integer, boolean, null_literal, binary, int_type, bool_type, declare, assign, eval, print, if_statement, while_statement, block, function, unit}
-use Rattle.dart_tree.specs.declared.nodes.Name.{Name}
+use Rattle.small_tree.specs.Tree.{Tree, Trees, no_more, more, name, integer, boolean, null_literal, binary, int_type, bool_type, declare, assign, eval, print, if_statement, while_statement, block, function, unit}
+use Rattle.small_tree.specs.declared.nodes.Name.{Name}
 
 -- the name that a statement itself declares
 abbrev pub name_declared : Tree → List Name

@@ -1,10 +1,10 @@
 -- What the code of the judge does with a row of the judgement.
 use Rattle.std.specs.Prelude.{◌≡◌, List, [], ◌++◌, Option, None}
-use Rattle.dart_tree.specs.Tree.{Tree, name, integer, boolean, null_literal, binary, int_type, bool_type, declare, assign, eval, print, if_statement, while_statement, block, function, unit}
-use Rattle.dart_tree.specs.declared.places.Place.{Place}
-use Rattle.flow_model.specs.Flow.{FlowModel}
-use Rattle.flow_model.specs.declared.locals.LocalId.{LocalId}
-use Rattle.flow_model.specs.declared.subtyping.Rows.{Rows}
+use Rattle.small_tree.specs.Tree.{Tree, name, integer, boolean, null_literal, binary, int_type, bool_type, declare, assign, eval, print, if_statement, while_statement, block, function, unit}
+use Rattle.small_tree.specs.declared.places.Place.{Place}
+use Rattle.small_flow.specs.Flow.{FlowModel}
+use Rattle.small_flow.specs.declared.locals.LocalId.{LocalId}
+use Rattle.small_flow.specs.declared.subtyping.Rows.{Rows}
 use Rattle.judgement.specs.declared.Fault.{Fault}
 use Rattle.judgement.specs.Names.{Names}
 use Rattle.judgement.specs.NodeFacts.{NodeFacts, at_branch}

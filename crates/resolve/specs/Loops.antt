@@ -1,11 +1,11 @@
 -- What is known where a loop is judged.
 use Rattle.std.specs.Prelude.{◌≡◌, false, IsTrue, List, [], ◌∷◌, ◌++◌}
 use Rattle.std.specs.Option.{option_map}
-use Rattle.dart_tree.specs.Tree.{Tree, while_statement}
-use Rattle.dart_tree.specs.declared.places.Place.{Place}
-use Rattle.flow_model.specs.Flow.{FlowModel, facts_of, current_of, is_listed}
-use Rattle.flow_model.specs.declared.locals.LocalId.{LocalId}
-use Rattle.flow_model.specs.declared.subtyping.Rows.{Rows}
+use Rattle.small_tree.specs.Tree.{Tree, while_statement}
+use Rattle.small_tree.specs.declared.places.Place.{Place}
+use Rattle.small_flow.specs.Flow.{FlowModel, facts_of, current_of, is_listed}
+use Rattle.small_flow.specs.declared.locals.LocalId.{LocalId}
+use Rattle.small_flow.specs.declared.subtyping.Rows.{Rows}
 use Rattle.judgement.specs.Names.{Names}
 use Rattle.judgement.specs.Judgement.{evaluate, run}
 use Rattle.judgement.specs.Typed.{typed_expression, said_of_statement, typed_statement}

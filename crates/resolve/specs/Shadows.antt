@@ -1,7 +1,7 @@
 -- How what a block's declarations hide is put back.
 use Rattle.std.specs.Prelude.{ℕ, List, [], ◌∷◌, Option, Some, None}
 use Rattle.std.specs.FinMap.{insert, remove}
-use Rattle.flow_model.specs.declared.locals.LocalId.{LocalId}
+use Rattle.small_flow.specs.declared.locals.LocalId.{LocalId}
 use Rattle.judgement.specs.Names.{Names}
 use Rattle.resolve.specs.declared.names.Shadowed.{Shadowed}
 

@@ -9,15 +9,15 @@ mod writes;
 mod written;
 
 ghost use Rattle.std.specs.Prelude.{◌≡◌, ◌++◌, IfOk, OnOk};
-ghost use Rattle.flow_model.specs.Sub.{no_rows};
+ghost use Rattle.small_flow.specs.Sub.{no_rows};
 ghost use Rattle.judgement.specs.Rows.{fault_over};
 ghost use Rattle.judgement.specs.Judgement.{faults_of};
 ghost use Rattle.judgement.specs.Typed.{typed_unit};
 
 use crate::names::NamesInScope;
-use dart_tree::{Block, Function, Place, Span, Unit};
-use flow_model::{DartType, Flow, Rows};
 use judgement::{Branch, DiagnosticCode, Fault, TypedNode};
+use small_flow::{DartType, Flow, Rows};
+use small_tree::{Block, Function, Place, Span, Unit};
 use statements::judge_block;
 use std::alloc::{AllocError, Global};
 use std::rc::Rc;

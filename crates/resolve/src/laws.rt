@@ -3,17 +3,17 @@
 
 ghost use Rattle.std.specs.Prelude.{◌≡◌, Some, None};
 ghost use Rattle.std.specs.FinMap.{get};
-ghost use Rattle.dart_tree.specs.Tree.{trees_of};
-ghost use Rattle.dart_tree.specs.declared.nodes.Name.{Name};
-ghost use Rattle.flow_model.specs.Flow.{FlowModel};
+ghost use Rattle.small_tree.specs.Tree.{trees_of};
+ghost use Rattle.small_tree.specs.declared.nodes.Name.{Name};
+ghost use Rattle.small_flow.specs.Flow.{FlowModel};
 ghost use Rattle.judgement.specs.Names.{local_of, names_within};
 ghost use Rattle.judgement.specs.Written.{written_in};
 ghost use Rattle.resolve.specs.Declarations.{first_declared};
 ghost use Rattle.resolve.specs.Loops.{Forgets, IsJudgedFrom};
 
 use crate::names::NamesInScope;
-use dart_tree::{Block, Expr, Place, Stmt};
-use flow_model::{Flow, Rows};
+use small_flow::{Flow, Rows};
+use small_tree::{Block, Expr, Place, Stmt};
 
 /// A name that a block declares, wherever in the block, means in all of it the local of its first
 /// declaration there, whatever it means around the block. Any other name means what it means around

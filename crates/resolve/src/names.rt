@@ -2,12 +2,12 @@
 
 ghost use Rattle.std.specs.Prelude.{◌≡◌, IfOk, OnOk};
 ghost use Rattle.std.specs.FinMap.{empty, get, insert, remove};
-ghost use Rattle.dart_tree.specs.Tree.{trees_of};
+ghost use Rattle.small_tree.specs.Tree.{trees_of};
 ghost use Rattle.judgement.specs.Names.{local_of, locals_of, meaning_declared, names_within};
 ghost use Rattle.resolve.specs.Shadows.{restored, undone};
 
-use dart_tree::{Name, Stmt, StmtNode};
-use flow_model::LocalId;
+use small_flow::LocalId;
+use small_tree::{Name, Stmt, StmtNode};
 use std::alloc::{AllocError, Global};
 use std::collections::BTreeMap;
 use std::marker::Model;
@@ -32,7 +32,7 @@ impl Model for NamesInScope {
     ghost use Rattle.judgement.specs.Names.{Names};
     ghost use Rattle.std.specs.Coded.{coded_ℕ};
     ghost use Rattle.std.specs.FinMap as map;
-    ghost use Rattle.flow_model.specs.contracts.locals.LocalId as local;
+    ghost use Rattle.small_flow.specs.contracts.locals.LocalId as local;
 
     ghost Value = { Names };
 

@@ -2,7 +2,6 @@
 
 mod units;
 
-use flow_model::{DartType, LocalId, TypeNode};
 use judgement::DiagnosticCode::{
     ArgumentType, ConditionNotBool, DuplicateDefinition, InvalidAssignment,
     ReferencedBeforeDeclaration, UnassignedRead, UncheckedNullableUse, UndefinedName,
@@ -10,6 +9,7 @@ use judgement::DiagnosticCode::{
 };
 use judgement::{Branch, DiagnosticCode, TypedNode};
 use resolve::NamesInScope;
+use small_flow::{DartType, LocalId, TypeNode};
 use std::test::Fail;
 use units::{LESS, NOT_EQUAL, PLUS, Side, Step, WORD_X, WORD_Y, are_found, int_x, judged};
 

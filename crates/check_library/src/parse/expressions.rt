@@ -1,8 +1,8 @@
 //! Expressions.
 
 ghost use Rattle.std.specs.Prelude.{◌≡◌, ◌+◌, ◌-◌, ◌≤◌, length, IfOk};
-ghost use Rattle.dart_tree.specs.Numbers.{nodes_in, nodes_in_part};
-ghost use Rattle.readings.specs.Descent.{take_token, take_maybe, ◌▸◌};
+ghost use Rattle.small_tree.specs.Numbers.{nodes_in, nodes_in_part};
+ghost use Rattle.small_readings.specs.Descent.{take_token, take_maybe, ◌▸◌};
 ghost use Rattle.check_library.specs.Grammar.{is, part_behind};
 ghost use Rattle.check_library.specs.Descents.{Gives, lower};
 
@@ -10,7 +10,7 @@ use crate::parse::Miss;
 use crate::parse::leaves::{operand, place_over, right_side, token};
 use crate::token::{Kind, Token};
 use dart_tokens::Words;
-use dart_tree::{Expr, ExprNode};
+use small_tree::{Expr, ExprNode};
 use std::alloc::Global;
 
 /// An expression, where `room` nodes may lie on a way down: one operand, or two with an operator.

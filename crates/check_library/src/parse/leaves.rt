@@ -1,11 +1,11 @@
 //! The parts of a tree that need no memory: places, names, operands, operators and types.
 
 ghost use Rattle.std.specs.Prelude.{◌≡◌, ◌+◌, ◌≤◌, List, ◌∷◌, length, Some, option_map, IfSome};
-ghost use Rattle.dart_tree.specs.Numbers.{nodes_in};
-ghost use Rattle.dart_tree.specs.View.{expr_of};
+ghost use Rattle.small_tree.specs.Numbers.{nodes_in};
+ghost use Rattle.small_tree.specs.View.{expr_of};
 ghost use Rattle.check_library.specs.declared.token.Token.{Token};
-ghost use Rattle.readings.specs.Readings.{tokens_read};
-ghost use Rattle.readings.specs.Descent.{take_token, take_turn, take_maybe, ◌▸◌};
+ghost use Rattle.small_readings.specs.Readings.{tokens_read};
+ghost use Rattle.small_readings.specs.Descent.{take_token, take_turn, take_maybe, ◌▸◌};
 ghost use Rattle.check_library.specs.Grammar.{is, at_span, place_of_token, first_start, last_end, place_over, bool_type_of};
 ghost use Rattle.check_library.specs.Descents.{Finds, first_kind, second_is, take_variable, take_operand, take_operator, take_int_type, take_type, lower};
 
@@ -13,7 +13,7 @@ use crate::balance::word_at;
 use crate::literal::literal_of;
 use crate::token::{Kind, Token};
 use dart_tokens::Words;
-use dart_tree::{
+use small_tree::{
     Expr, ExprNode, IntegerLiteral, Name, NodeId, Operator, OperatorKind, Place, Span, WrittenType,
     WrittenTypeNode,
 };
@@ -53,7 +53,7 @@ fn last_end(tokens: &[Token]) -> u32
 pub fn place_over(tokens: &[Token], rest: &[Token]) -> Place
     ensures { result ≡ place_over (tokens_read tokens.now rest.now) }
 {
-    let read = readings::tokens_read(tokens, rest);
+    let read = small_readings::tokens_read(tokens, rest);
     place(first_start(read), last_end(read))
 }
 

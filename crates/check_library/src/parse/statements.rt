@@ -2,9 +2,9 @@
 //! second: what fails is not tried in another way.
 
 ghost use Rattle.std.specs.Prelude.{◌≡◌, ◌+◌, ◌-◌, ◌≤◌, length, IfOk};
-ghost use Rattle.dart_tree.specs.Tree.{trees_of};
-ghost use Rattle.dart_tree.specs.Numbers.{nodes_in, nodes_in_all, nodes_in_part};
-ghost use Rattle.readings.specs.Descent.{take_token, take_maybe, take_many, ◌▸◌, ◌⊘◌};
+ghost use Rattle.small_tree.specs.Tree.{trees_of};
+ghost use Rattle.small_tree.specs.Numbers.{nodes_in, nodes_in_all, nodes_in_part};
+ghost use Rattle.small_readings.specs.Descent.{take_token, take_maybe, take_many, ◌▸◌, ◌⊘◌};
 ghost use Rattle.check_library.specs.Grammar.{is, part_behind};
 ghost use Rattle.check_library.specs.Descents.{Gives, lower, take_declare, take_assign, take_eval, take_if, take_while, take_print, take_block, take_statement};
 
@@ -13,7 +13,7 @@ use crate::parse::expressions::{expression, initializer};
 use crate::parse::leaves::{first_kind, place_over, second_is, token, variable, written_type};
 use crate::token::{Kind, Token};
 use dart_tokens::Words;
-use dart_tree::{Block, Stmt, StmtNode};
+use small_tree::{Block, Stmt, StmtNode};
 use std::alloc::Global;
 
 /// The declaration of a local, where `room` nodes may lie on a way down from there.

@@ -1,10 +1,10 @@
 use Rattle.std.proofs.Common.{◌≡◌, ◌+◌, List, [], length, ap, sym, ◌∙◌, subst, arith}
 use Rattle.std.proofs.lemmas.List.{length-map}
 use Rattle.std.specs.FinMap.{empty}
-use Rattle.dart_tree.specs.Tree.{block, trees_of}
-use Rattle.dart_tree.specs.Numbers.{nodes_in}
-use Rattle.flow_model.specs.Sub.{no_rows}
-use Rattle.flow_model.specs.Flow.{start_of}
+use Rattle.small_tree.specs.Tree.{block, trees_of}
+use Rattle.small_tree.specs.Numbers.{nodes_in}
+use Rattle.small_flow.specs.Sub.{no_rows}
+use Rattle.small_flow.specs.Flow.{start_of}
 use Rattle.judgement.specs.NodeFacts.{NodeFacts}
 use Rattle.judgement.specs.Typed.{typed_unit}
 use Rattle.elaborate.specs.Frame.{Frame, frame_of}

@@ -1,8 +1,8 @@
 //! What expressions give.
 
 ghost use Rattle.std.specs.Prelude.{◌≡◌, IfOk};
-ghost use Rattle.dart_tree.specs.Places.{place_of};
-ghost use Rattle.flow_model.specs.Flow.{facts_of};
+ghost use Rattle.small_tree.specs.Places.{place_of};
+ghost use Rattle.small_flow.specs.Flow.{facts_of};
 ghost use Rattle.judgement.specs.Rows as row;
 ghost use Rattle.judgement.specs.Judgement.{evaluate, form_row};
 ghost use Rattle.judgement.specs.Names.{named_by};
@@ -14,9 +14,9 @@ use super::operators::{compared_local, judge_operator};
 use super::types::{bool_type, fits, int_type, invalid_type, is_never, null_type};
 use super::{Context, Judged, Typed, report};
 use crate::names::NamesInScope;
-use dart_tree::{Expr, ExprNode, IntegerLiteral, Place, Radix};
-use flow_model::{Flow, LocalId};
 use judgement::{Branch, DiagnosticCode, Fault, TypedNode};
+use small_flow::{Flow, LocalId};
+use small_tree::{Expr, ExprNode, IntegerLiteral, Place, Radix};
 use std::alloc::{AllocError, Global};
 use std::rc::Rc;
 

@@ -1,9 +1,9 @@
 //! Models that are shared where nothing changed.
 
 ghost use Rattle.std.specs.Prelude.{◌≡◌, IfOk, OnOk};
-ghost use Rattle.dart_tree.specs.Tree.{trees_of};
-ghost use Rattle.flow_model.specs.Flow.{end_of};
-ghost use Rattle.flow_model.specs.Steps.{exit_of};
+ghost use Rattle.small_tree.specs.Tree.{trees_of};
+ghost use Rattle.small_flow.specs.Flow.{end_of};
+ghost use Rattle.small_flow.specs.Steps.{exit_of};
 ghost use Rattle.judgement.specs.Names.{locals_of};
 ghost use Rattle.judgement.specs.NodeFacts.{at_branch};
 ghost use Rattle.judgement.specs.Rows.{loop_head};
@@ -11,9 +11,9 @@ ghost use Rattle.judgement.specs.Written.{written_in};
 
 use super::written::add_written_in_block;
 use crate::names::{NamesInScope, declared_locals};
-use dart_tree::{Block, Stmt};
-use flow_model::Flow;
 use judgement::Branch;
+use small_flow::Flow;
+use small_tree::{Block, Stmt};
 use std::alloc::{AllocError, Global};
 use std::rc::Rc;
 

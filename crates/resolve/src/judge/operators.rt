@@ -1,7 +1,7 @@
 //! What operators give, once their sides are judged.
 
 ghost use Rattle.std.specs.Prelude.{◌≡◌, ◌++◌, IfOk, OnOk};
-ghost use Rattle.flow_model.specs.Flow.{FlowModel};
+ghost use Rattle.small_flow.specs.Flow.{FlowModel};
 ghost use Rattle.judgement.specs.Rows as row;
 ghost use Rattle.judgement.specs.Judgement as judgement;
 ghost use Rattle.judgement.specs.NodeFacts.{at_branch};
@@ -13,9 +13,9 @@ use super::types::{
 };
 use super::{Typed, report};
 use crate::names::NamesInScope;
-use dart_tree::{Expr, ExprNode, Operator, OperatorKind, Place, Span};
-use flow_model::{DartType, LocalId, Rows, is_subtype};
 use judgement::{Branch, DiagnosticCode, Fault};
+use small_flow::{DartType, LocalId, Rows, is_subtype};
+use small_tree::{Expr, ExprNode, Operator, OperatorKind, Place, Span};
 use std::alloc::AllocError;
 
 // An operator, from its sides and from the local that it compares with `null`.

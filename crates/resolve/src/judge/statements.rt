@@ -1,8 +1,8 @@
 //! What statements give.
 
 ghost use Rattle.std.specs.Prelude.{◌≡◌, ◌++◌, ◌∷◌, [], IfOk, OnOk};
-ghost use Rattle.dart_tree.specs.Tree.{assign, block, declare, eval, if_statement, part_of, print, trees_of, while_statement};
-ghost use Rattle.dart_tree.specs.declared.places.Place.{Place};
+ghost use Rattle.small_tree.specs.Tree.{assign, block, declare, eval, if_statement, part_of, print, trees_of, while_statement};
+ghost use Rattle.small_tree.specs.declared.places.Place.{Place};
 ghost use Rattle.judgement.specs.Judgement.{declare_local, run, run_all, run_part, type_of};
 ghost use Rattle.judgement.specs.Typed.{typed_initializer, typed_part, typed_statement, typed_statements};
 ghost use Rattle.resolve.specs.Judged.{Gives, said_at};
@@ -13,9 +13,9 @@ use super::types::{bool_type, int_type};
 use super::writes::{assign, declare, initialize};
 use super::{Context, Judged};
 use crate::names::NamesInScope;
-use dart_tree::{Block, Expr, Name, Place, Stmt, StmtNode, WrittenType, WrittenTypeNode};
-use flow_model::{DartType, Flow, LocalId};
 use judgement::{Branch, TypedNode};
+use small_flow::{DartType, Flow, LocalId};
+use small_tree::{Block, Expr, Name, Place, Stmt, StmtNode, WrittenType, WrittenTypeNode};
 use std::alloc::{AllocError, Global};
 use std::rc::Rc;
 

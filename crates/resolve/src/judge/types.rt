@@ -1,10 +1,10 @@
 //! Types, and what the rows ask of them.
 
 ghost use Rattle.std.specs.Prelude.{◌≡◌};
-ghost use Rattle.flow_model.specs.Ty.{bool, int, invalid, never, null, same_type};
+ghost use Rattle.small_flow.specs.Ty.{bool, int, invalid, never, null, same_type};
 ghost use Rattle.judgement.specs.Rows as row;
 
-use flow_model::{DartType, Rows, TypeNode, is_subtype};
+use small_flow::{DartType, Rows, TypeNode, is_subtype};
 
 pub(super) fn int_type() -> DartType
     ensures { result ≡ int }

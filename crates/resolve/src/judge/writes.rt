@@ -1,8 +1,8 @@
 //! What declarations and assignments do with a local.
 
 ghost use Rattle.std.specs.Prelude.{◌≡◌, ◌++◌, IfOk, IsNone, OnOk};
-ghost use Rattle.flow_model.specs.Flow.{at_local, declare_of, facts_of};
-ghost use Rattle.flow_model.specs.Assign.{assign_facts};
+ghost use Rattle.small_flow.specs.Flow.{at_local, declare_of, facts_of};
+ghost use Rattle.small_flow.specs.Assign.{assign_facts};
 ghost use Rattle.judgement.specs.Rows as row;
 ghost use Rattle.resolve.specs.Judged.{RowGives};
 
@@ -10,9 +10,9 @@ use super::models::shared;
 use super::types::fits;
 use super::{Context, Typed, report};
 use crate::names::NamesInScope;
-use dart_tree::{Name, Place};
-use flow_model::{DartType, Flow, LocalDecl, LocalId, Rows, declare_adds_one_local};
 use judgement::{DiagnosticCode, Fault};
+use small_flow::{DartType, Flow, LocalDecl, LocalId, Rows, declare_adds_one_local};
+use small_tree::{Name, Place};
 use std::alloc::AllocError;
 use std::rc::Rc;
 

@@ -1,13 +1,13 @@
 //! The locals that statements write.
 
 ghost use Rattle.std.specs.Prelude.{◌≡◌, ◌++◌, OnOk};
-ghost use Rattle.dart_tree.specs.Tree.{trees_of};
+ghost use Rattle.small_tree.specs.Tree.{trees_of};
 ghost use Rattle.judgement.specs.Names.{names_within};
 ghost use Rattle.judgement.specs.Written.{written_by, written_in, written_in_all};
 
 use crate::names::NamesInScope;
-use dart_tree::{Name, Stmt, StmtNode};
-use flow_model::LocalId;
+use small_flow::LocalId;
+use small_tree::{Name, Stmt, StmtNode};
 use std::alloc::{AllocError, Global};
 
 // Puts the locals that the statements of a block write behind those that are written already. The

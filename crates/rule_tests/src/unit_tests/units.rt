@@ -1,11 +1,11 @@
 //! Statements of one word and two sides, and units of them.
 
-use dart_tree::{
+use judgement::{DiagnosticCode, Fault};
+use resolve::{Judged, judge_unit};
+use small_tree::{
     Block, Expr, ExprNode, Function, IntegerLiteral, Name, NodeId, Operator, OperatorKind, Place,
     Radix, Span, Stmt, StmtNode, Unit, WrittenType, WrittenTypeNode,
 };
-use judgement::{DiagnosticCode, Fault};
-use resolve::{Judged, judge_unit};
 use std::alloc::{AllocError, Global};
 
 pub(super) const PLUS: OperatorKind = OperatorKind::Plus;

@@ -1,6 +1,6 @@
 use Rattle.std.proofs.Common.{◌≤◌, [], length, arith}
-use Rattle.dart_tree.specs.Numbers.{nodes_in}
-use Rattle.dart_tree.specs.NumberLaws.{nodes_in-numbered}
+use Rattle.small_tree.specs.Numbers.{nodes_in}
+use Rattle.small_tree.specs.NumberLaws.{nodes_in-numbered}
 use Rattle.check_library.specs.Tokens.{tokens_from}
 use Rattle.check_library.proofs.TokenCounts.{tokens_from-few}
 use Rattle.check_library.proofs.tree.tree.Goals as goal

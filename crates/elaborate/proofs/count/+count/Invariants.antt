@@ -1,6 +1,6 @@
 use Rattle.std.proofs.Common.{◌≡◌, ◌+◌, ◌*◌, drop}
-use Rattle.dart_tree.specs.Tree.{trees_of}
-use Rattle.dart_tree.specs.Numbers.{nodes_in, nodes_in_all}
+use Rattle.small_tree.specs.Tree.{trees_of}
+use Rattle.small_tree.specs.Numbers.{nodes_in, nodes_in_all}
 use Rattle.elaborate.specs.Forms.{are_statements}
 use Rattle.elaborate.specs.Layout.{count_all}
 use Rattle.elaborate.proofs.count.+count.Given as goal

@@ -1,5 +1,5 @@
 use Rattle.std.proofs.Common.{◌≡◌, ◌++◌, map}
-use Rattle.flow_model.specs.Flow.{FlowModel}
+use Rattle.small_flow.specs.Flow.{FlowModel}
 use Rattle.elaborate.specs.Frame.{temporaries_of, type_of_result}
 use Rattle.elaborate.specs.Known.{fact_for}
 use Rattle.elaborate.proofs.frame.add_facts.Given as goal

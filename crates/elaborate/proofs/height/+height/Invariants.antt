@@ -1,6 +1,6 @@
 use Rattle.std.proofs.Common.{◌≡◌, ◌+◌, ◌*◌, ◌≤◌, max, drop}
-use Rattle.dart_tree.specs.Tree.{trees_of}
-use Rattle.dart_tree.specs.Numbers.{nodes_in, nodes_in_all}
+use Rattle.small_tree.specs.Tree.{trees_of}
+use Rattle.small_tree.specs.Numbers.{nodes_in, nodes_in_all}
 use Rattle.elaborate.specs.Frame.{height_of_all}
 use Rattle.elaborate.proofs.height.+height.Given as goal
 

@@ -1,5 +1,5 @@
 use Rattle.std.proofs.Common.{◌∙◌, ◌≡◌, ◌+◌, ℕ, ap, sym, subst, arith}
-use Rattle.dart_tree.specs.Tree.{Tree, block, while_statement, trees_of}
+use Rattle.small_tree.specs.Tree.{Tree, block, while_statement, trees_of}
 use Rattle.judgement.specs.NodeFacts.{NodeFacts}
 use Rattle.elaborate.specs.Layout.{count_all, entry}
 use Rattle.elaborate.specs.Walk.{said_in_all, LaidStatement}

@@ -1,6 +1,6 @@
 use Rattle.std.proofs.Common.{◌≡◌, ◌+◌, ◌*◌, drop, length}
-use Rattle.dart_tree.specs.Tree.{trees_of, part_of}
-use Rattle.dart_tree.specs.Numbers.{nodes_in, nodes_in_all, nodes_in_part}
+use Rattle.small_tree.specs.Tree.{trees_of, part_of}
+use Rattle.small_tree.specs.Numbers.{nodes_in, nodes_in_all, nodes_in_part}
 use Rattle.elaborate.specs.Layout.{count_all}
 use Rattle.elaborate.specs.Walk.{said_in_all}
 use Rattle.elaborate.proofs.Onward.{GoesOnward}

@@ -1,5 +1,5 @@
 use Rattle.std.proofs.Common.{◌∙◌, ◌+◌, ap, refl}
-use Rattle.dart_tree.specs.Tree.{trees_of}
+use Rattle.small_tree.specs.Tree.{trees_of}
 use Rattle.judgement.specs.NodeFacts.{NodeFacts}
 use Rattle.elaborate.proofs.LaidStatements.{lays_body}
 use Rattle.elaborate.proofs.statements.lay_body.Goals as goal

@@ -1,6 +1,6 @@
 use Rattle.std.proofs.Common.{◌∙◌, ap}
 use Rattle.std.specs.FinMap.{get}
-use Rattle.dart_tree.specs.Tree.{trees_of}
+use Rattle.small_tree.specs.Tree.{trees_of}
 use Rattle.resolve.proofs.Blocks.{local_or, get-names_within}
 use Rattle.resolve.proofs.laws.a_block_has_the_names_that_it_declares.Goals as goal
 

@@ -1,6 +1,6 @@
 use Rattle.std.proofs.Common.{◌∙◌, [], refl}
 use Rattle.std.proofs.Math.Bool.{or-false}
-use Rattle.flow_model.proofs.StepLaws.{conservative_forgets, conservative_keeps}
+use Rattle.small_flow.proofs.StepLaws.{conservative_forgets, conservative_keeps}
 use Rattle.judgement.specs.Rows.{loop_head}
 use Rattle.judgement.specs.Written.{written_in}
 use Rattle.resolve.proofs.laws.a_loop_head_forgets_what_its_body_writes.Goals as goal

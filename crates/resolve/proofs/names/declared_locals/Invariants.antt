@@ -1,5 +1,5 @@
 use Rattle.std.proofs.Common.{◌≡◌, ◌++◌, drop}
-use Rattle.dart_tree.specs.Tree.{trees_of}
+use Rattle.small_tree.specs.Tree.{trees_of}
 use Rattle.judgement.specs.Names.{locals_of}
 use Rattle.resolve.proofs.names.declared_locals.Given as goal
 

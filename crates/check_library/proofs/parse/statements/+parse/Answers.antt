@@ -1,5 +1,5 @@
 use Rattle.std.proofs.Common.{inl, inr, arith}
-use Rattle.readings.specs.Loops.{loop_begins, loop_goes, loop_ends}
+use Rattle.small_readings.specs.Loops.{loop_begins, loop_goes, loop_ends}
 use Rattle.check_library.specs.declared.token.Kind.TheVariants.{Identifier, Int, Bool as BoolWord, Print, If, While, OpenBrace}
 use Rattle.check_library.proofs.ParseLemmas.{nodes_in_all-snoc}
 use Rattle.check_library.proofs.Agreement.{statement_falls}

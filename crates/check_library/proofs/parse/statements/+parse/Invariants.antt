@@ -1,8 +1,8 @@
 use Rattle.std.proofs.Common.{◌≡◌, ◌+◌, ◌*◌, ◌≤◌, length}
-use Rattle.dart_tree.specs.Tree.{trees_of}
-use Rattle.dart_tree.specs.Numbers.{nodes_in_all}
-use Rattle.readings.specs.Descent.{take_many}
-use Rattle.readings.specs.Loops.{preceded}
+use Rattle.small_tree.specs.Tree.{trees_of}
+use Rattle.small_tree.specs.Numbers.{nodes_in_all}
+use Rattle.small_readings.specs.Descent.{take_many}
+use Rattle.small_readings.specs.Loops.{preceded}
 use Rattle.check_library.specs.Descents.{lower}
 use Rattle.check_library.proofs.parse.statements.+parse.Given as goal
 

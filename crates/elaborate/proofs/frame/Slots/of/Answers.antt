@@ -1,6 +1,6 @@
 use Rattle.std.proofs.Common.{◌≡◌, ◌≤◌, ap, arith}
-use Rattle.dart_tree.specs.Numbers.{nodes_in, nodes_in_all}
-use Rattle.dart_tree.specs.Tree.{trees_of}
+use Rattle.small_tree.specs.Numbers.{nodes_in, nodes_in_all}
+use Rattle.small_tree.specs.Tree.{trees_of}
 use Rattle.elaborate.specs.Frame.{locals_in_all}
 use Rattle.elaborate.proofs.Sizes.{locals_of_all-few}
 use Rattle.elaborate.proofs.frame.Slots.of.Goals as goal

@@ -1,5 +1,5 @@
 use Rattle.std.proofs.Common.{◌+◌, ◌*◌}
-use Rattle.dart_tree.specs.Numbers.{nodes_in}
+use Rattle.small_tree.specs.Numbers.{nodes_in}
 use Rattle.resolve.proofs.judge.expressions.+expression.Given as goal
 
 abbrev pub decreases-judge_expression : goal.decreases-judge_expression

@@ -1,6 +1,6 @@
 use Rattle.std.proofs.Common.{◌≡◌, true, false, refl, arith}
 use Rattle.std.proofs.lemmas.Grind.{common_steps}
-use Rattle.flow_model.specs.Ty.{never, same_type}
+use Rattle.small_flow.specs.Ty.{never, same_type}
 use Rattle.resolve.proofs.Exits.{never_exits, other_lasts}
 use Rattle.resolve.proofs.judge.expressions.exit_if_never.Goals as goal
 

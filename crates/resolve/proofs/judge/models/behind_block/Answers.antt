@@ -1,6 +1,6 @@
 use Rattle.std.proofs.Common.{rules, ◌≡◌, [], arith}
 use Rattle.std.proofs.lemmas.Grind.{common_steps}
-use Rattle.dart_tree.specs.Tree.{trees_of}
+use Rattle.small_tree.specs.Tree.{trees_of}
 use Rattle.judgement.specs.Names.{locals_of}
 use Rattle.resolve.proofs.Ends.{end_of-none}
 use Rattle.resolve.proofs.judge.models.behind_block.Goals as goal

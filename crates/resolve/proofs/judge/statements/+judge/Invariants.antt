@@ -1,6 +1,6 @@
 use Rattle.std.proofs.Common.{◌≡◌, ◌+◌, ◌*◌, drop}
-use Rattle.dart_tree.specs.Tree.{trees_of, part_of}
-use Rattle.dart_tree.specs.Numbers.{nodes_in, nodes_in_all, nodes_in_part}
+use Rattle.small_tree.specs.Tree.{trees_of, part_of}
+use Rattle.small_tree.specs.Numbers.{nodes_in, nodes_in_all, nodes_in_part}
 use Rattle.judgement.specs.Judgement.{run_all}
 use Rattle.judgement.specs.Typed.{typed_statements}
 use Rattle.resolve.proofs.Ahead.{Ahead}

@@ -1,5 +1,5 @@
 use Rattle.std.proofs.Common.{rules, ◌≡◌, true, false, ◌∙◌}
-use Rattle.flow_model.specs.Ty.{int, bare_of, same_type}
+use Rattle.small_flow.specs.Ty.{int, bare_of, same_type}
 use Rattle.resolve.proofs.Operators.{bare-has_operators}
 use Rattle.resolve.proofs.judge.types.has_operators.Goals as goal
 

@@ -1,5 +1,5 @@
 use Rattle.std.proofs.Common.{◌≡◌, drop}
-use Rattle.dart_tree.specs.Tree.{trees_of}
+use Rattle.small_tree.specs.Tree.{trees_of}
 use Rattle.judgement.specs.Names.{names_within}
 use Rattle.resolve.specs.Shadows.{undone}
 use Rattle.resolve.proofs.names.NamesInScope.enter.Given as goal

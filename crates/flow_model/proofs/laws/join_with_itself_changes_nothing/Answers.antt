@@ -1,5 +1,0 @@
-use Rattle.flow_model.proofs.JoinLaws.{join_of-self}
-use Rattle.flow_model.proofs.laws.join_with_itself_changes_nothing.Goals as goal
-
-pub returns : goal.returns
-returns c = λ free. join_of-self c.args._flow.now free

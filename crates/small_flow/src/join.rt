@@ -1,0 +1,69 @@
+//! Where two paths meet: what is known of the locals on both.
+
+ghost use Rattle.std.specs.Prelude.{◌≡◌, IfOk};
+ghost use Rattle.small_flow.specs.Join.{common_of, join_facts, join_locals, union_of};
+
+use crate::local::Local;
+use crate::locals::Facts;
+use crate::types::TypeList;
+use std::alloc::{AllocError, Global};
+
+/// What is known of each local on both paths, where the lists pair them by their places. What one
+/// has beyond the other's end is passed over. What is known of a local is shared with the first list
+/// where it is the same there.
+pub(crate) fn join_locals(alloc: Global, a: &[Local], b: &[Local]) -> Result<Vec<Local>, AllocError>
+    ensures { IfOk result (λ joined. joined.items ≡ join_locals a.now b.now) }
+{
+    let mut joined = Vec::with_capacity(alloc, a.len())?;
+    for (l, m) in a.iter().zip(b) {
+        joined.push(l.join(alloc, m)?)?;
+    }
+    Ok(joined)
+}
+
+/// What is known of a local on both paths.
+pub(crate) fn join_facts(alloc: Global, a: &Facts, b: &Facts) -> Result<Facts, AllocError>
+    ensures { IfOk result (λ joined. joined ≡ join_facts a.now b.now) }
+{
+    let captured = a.captured || b.captured;
+    let chain = if captured {
+        TypeList::new(alloc)
+    } else {
+        common(alloc, &a.chain, &b.chain)?
+    };
+    Ok(Facts {
+        var: a.var,
+        ty: a.ty.copy(alloc)?,
+        chain,
+        tested: union(alloc, &a.tested, &b.tested)?,
+        assigned: a.assigned && b.assigned,
+        unassigned: a.unassigned && b.unassigned,
+        captured,
+    })
+}
+
+// The types of the first list that are in the second.
+fn common(alloc: Global, a: &TypeList, b: &TypeList) -> Result<TypeList, AllocError>
+    ensures { IfOk result (λ types. types ≡ common_of a.now b.now) }
+{
+    let mut kept = TypeList::new(alloc);
+    for t in a.as_slice() {
+        if b.contains(t) {
+            kept.push(t.copy(alloc)?)?;
+        }
+    }
+    Ok(kept)
+}
+
+// The first list, and then what the second has beside it.
+fn union(alloc: Global, a: &TypeList, b: &TypeList) -> Result<TypeList, AllocError>
+    ensures { IfOk result (λ types. types ≡ union_of a.now b.now) }
+{
+    let mut types = a.copy(alloc)?;
+    for t in b.as_slice() {
+        if !a.contains(t) {
+            types.push(t.copy(alloc)?)?;
+        }
+    }
+    Ok(types)
+}
