@@ -23,8 +23,7 @@ use Rattle.std.proofs.Math.Dec.{eqb-suc-zero}
 use Rattle.std.proofs.lemmas.Bool.{true≢false}
 use Rattle.dart_server.specs.declared.status.Status.{Status}
 use Rattle.dart_server.specs.declared.status.Status.TheVariants.{Errors}
-use Rattle.dart_server.specs.Run.{no_text, rows_of_file, Prints, ProgramGives, RowsGive}
-use Rattle.dart_server.proofs.WritesLemmas.{Says}
+use Rattle.dart_server.specs.Run.{Says, no_text, rows_of_file, Prints, ProgramGives, RowsGive}
 use Rattle.dart_server.proofs.RunLemmas.{IsSound}
 
 -- where nothing is reported, nothing is wrong

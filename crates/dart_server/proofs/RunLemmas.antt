@@ -10,8 +10,8 @@ use Rattle.core_machine.specs.Steps.{Kind}
 use Rattle.core_machine.specs.State.{State, Outcome, Went, Done as Ended, Wrong, start, step_of, go_on, run_of, preceded_by, leads_preceded_by}
 use Rattle.dart_server.specs.declared.status.Status.{Status}
 use Rattle.dart_server.specs.declared.status.Status.TheVariants.{Done, StepsSpent}
-use Rattle.dart_server.specs.Run.{Prints, Writes, steps_spent_line}
-use Rattle.dart_server.proofs.WritesLemmas.{Says, cut_kept, keep_kept, say_kept}
+use Rattle.dart_server.specs.Run.{Says, Prints, Writes, steps_spent_line}
+use Rattle.dart_server.proofs.WritesLemmas.{cut_kept, keep_kept, say_kept}
 
 -- what was printed before changes no step
 abbrev pub Adds : Program → Type 0

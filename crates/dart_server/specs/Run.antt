@@ -52,10 +52,14 @@ rows_of_file file bytes =
     then (if nat_le (length bytes) max_text then rows_of file bytes (diagnostics bytes) else rows_of file [] (no_text ProfileFileLength ∷ []))
     else rows_of file [] (no_text FileNotUtf8 ∷ [])
 
+-- the output is this text, and the status this one
+abbrev pub Says : (text : List ℕ) → (given : Status) → (output : List ℕ) → Status → Type 0
+Says text given output status = (output ≡ text) × (status ≡ given)
+
 -- the whole output of a run whose steps lead there, and its status: what it printed, and where it hasn't ended, that its steps are spent; no run goes wrong
 abbrev pub Prints : Outcome → (output : List ℕ) → Status → Type 0
-Prints (Ended s) output status = (output ≡ s.output) × (status ≡ Done)
-Prints (Went s) output status = (output ≡ s.output ++ steps_spent_line) × (status ≡ StepsSpent)
+Prints (Ended s) output status = Says s.output Done output status
+Prints (Went s) output status = Says (s.output ++ steps_spent_line) StepsSpent output status
 Prints (Wrong kind) output status = ⊥
 
 -- the output and the status of a text in which nothing is wrong: those of its core program after so many steps; no number of steps of that program goes wrong
@@ -70,16 +74,16 @@ pub record ProgramGives (text : List ℕ) (steps : ℕ) (output : List ℕ) (sta
 -- the output and the status of a file that has these rows: their lines, or where there are none, those of its program
 abbrev pub RowsGive : (bytes : List ℕ) (steps : ℕ) → List ErrorRow → (output : List ℕ) → Status → Type 0
 RowsGive bytes steps [] output status = ProgramGives bytes steps output status
-RowsGive bytes steps (row ∷ rows) output status = (output ≡ lines_of_rows (row ∷ rows)) × (status ≡ Errors)
+RowsGive bytes steps (row ∷ rows) output status = Says (lines_of_rows (row ∷ rows)) Errors output status
 
 -- the output and the status of a library's bytes, by whether they pass the limit
 abbrev pub BytesGive : (file : List ℕ) (steps : ℕ) (bytes : List ℕ) → (passes : Bool) → (output : List ℕ) → Status → Type 0
-BytesGive file steps bytes true output status = (output ≡ limit_line) × (status ≡ Refused)
+BytesGive file steps bytes true output status = Says limit_line Refused output status
 BytesGive file steps bytes false output status = RowsGive bytes steps (rows_of_file file bytes) output status
 
 -- the output and the status of a run, by the bytes of the library
 abbrev pub RunGives : (file : List ℕ) (steps : ℕ) → Option (List ℕ) → (output : List ℕ) → Status → Type 0
-RunGives file steps None output status = (output ≡ no_library_line) × (status ≡ Refused)
+RunGives file steps None output status = Says no_library_line Refused output status
 RunGives file steps (Some bytes) output status = BytesGive file steps bytes (nat_lt MAX_BYTES (length bytes)) output status
 
 -- an output is written whole

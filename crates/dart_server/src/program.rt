@@ -46,7 +46,8 @@ fn serve_lines<S: Source, K: Sink, F: Files>(
     files: &mut F,
 ) -> Status
     ensures output { ForSome (S.left source.old) (λ input.
-        ServeOutput (F.told files.old) input (K.written sink.old) (K.written sink.new) (S.left source.new) (F.faults files.old) (F.faults files.new) (K.shortages sink.old) (K.shortages sink.new) result) }
+        ServeOutput (F.told files.old) input (K.written sink.old) (K.written sink.new) (S.left source.new)
+        (F.faults files.old) (F.faults files.new) (K.shortages sink.old) (K.shortages sink.new) result) }
     ensures statuses { MayEnd Serve result }
     ensures read_fault { result ≡ Status.ReadFault → Rose (S.faults source.old) (S.faults source.new) }
     ensures no_read_fault { result ≢ Status.ReadFault → S.faults source.new ≡ S.faults source.old }
@@ -90,7 +91,9 @@ pub fn dart_main<S: Source, K: Sink, F: Files>(
     sink: &mut K,
     files: &mut F,
 ) -> Status
-    ensures output { Output words.now (F.told files.old) (S.left source.old) (K.written sink.old) (K.written sink.new) (S.left source.new) (F.faults files.old) (F.faults files.new) (K.shortages sink.old) (K.shortages sink.new) result }
+    ensures output { Output words.now (F.told files.old)
+        (S.left source.old) (K.written sink.old) (K.written sink.new) (S.left source.new)
+        (F.faults files.old) (F.faults files.new) (K.shortages sink.old) (K.shortages sink.new) result }
     ensures statuses { MayEnd (command_of words.now) result }
     ensures read_fault { result ≡ Status.ReadFault → Rose (S.faults source.old) (S.faults source.new) }
     ensures no_read_fault { result ≢ Status.ReadFault → S.faults source.new ≡ S.faults source.old }

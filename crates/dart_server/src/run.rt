@@ -12,7 +12,7 @@ ghost use Rattle.core_machine.specs.Steps.{Kind};
 ghost use Rattle.core_machine.specs.State.{Wrong, run_of, step_of, told};
 ghost use Rattle.dart_server.specs.Words.{Run};
 ghost use Rattle.dart_server.specs.Output.{MayEnd};
-ghost use Rattle.dart_server.specs.Run.{no_library_line, rows_of_file, Prints, RowsGive, BytesGive, Writes, Counts, status_after, no_text, RunOutput};
+ghost use Rattle.dart_server.specs.Run.{no_library_line, rows_of_file, Prints, Says, RowsGive, BytesGive, Writes, Counts, status_after, no_text, RunOutput};
 
 use crate::session::is_dart;
 use crate::status::Status;
@@ -49,7 +49,7 @@ fn say<K: Sink>(
     text: &[u8],
     status: Status,
 ) -> Result<Status, WriteRefusal>
-    ensures writes { Writes (λ output s. (output ≡ text.now) × (s ≡ status)) (K.written sink.old) (K.written sink.new) result }
+    ensures writes { Writes (Says text.now status) (K.written sink.old) (K.written sink.new) result }
     ensures counts { Counts result (K.faults sink.old) (K.faults sink.new) }
 {
     write_all_of(alloc, sink, text)?;
@@ -64,7 +64,7 @@ fn report<K: Sink>(
     text: &Text,
     faults: &[Fault],
 ) -> Result<Status, WriteRefusal>
-    ensures writes { Writes (λ output s. (output ≡ lines_of_rows (rows_of file.now text.now faults.now)) × (s ≡ Status.Errors)) (K.written sink.old) (K.written sink.new) result }
+    ensures writes { Writes (Says (lines_of_rows (rows_of file.now text.now faults.now)) Status.Errors) (K.written sink.old) (K.written sink.new) result }
     ensures counts { Counts result (K.faults sink.old) (K.faults sink.new) }
 {
     let rows = render(alloc, file, text, faults)?;
@@ -91,7 +91,7 @@ fn report_file<K: Sink>(
     file: &str,
     code: DiagnosticCode,
 ) -> Result<Status, WriteRefusal>
-    ensures writes { Writes (λ output s. (output ≡ lines_of_rows (rows_of file.now [] (no_text code ∷ []))) × (s ≡ Status.Errors)) (K.written sink.old) (K.written sink.new) result }
+    ensures writes { Writes (Says (lines_of_rows (rows_of file.now [] (no_text code ∷ []))) Status.Errors) (K.written sink.old) (K.written sink.new) result }
     ensures counts { Counts result (K.faults sink.old) (K.faults sink.new) }
 {
     let span = Span { start: 0, end: 0 };

@@ -4,7 +4,7 @@ ghost use Rattle.std.specs.Prelude.{◌≡◌, Some, IfOk, option_map, option_co
 ghost use Rattle.serve_loop.specs.Event.{event_of, line as line_event};
 ghost use Rattle.proto_json.specs.Requests.{answer};
 ghost use Rattle.protocol_rules.specs.Turns.{at_start, invalid_turn, overlays_turn, update_turn, is_library, analyzed, errors_turn, asked_turn, request_turn, bytes_of};
-ghost use Rattle.dart_server.specs.Said.{Gives, Answered};
+ghost use Rattle.dart_server.specs.Said.{Gives, Answered, AreBytesOf};
 
 use check_library::check;
 use dart_text::Text;
@@ -125,7 +125,7 @@ fn said_to_line(alloc: Global, contents: &mut Contents, line: &[u8]) -> Result<S
 
 /// The bytes of a reply.
 fn written(alloc: Global, said: &Said) -> Result<Option<Vec<u8>>, AllocError>
-    ensures { IfOk result (λ bytes. (contents : Contents) → option_map (λ v. v.items) bytes ≡ Some (bytes_of (record { id = said.now.id; body = said.now.body; after = contents }))) }
+    ensures { IfOk result (λ bytes. AreBytesOf said.now (option_map (λ v. v.items) bytes)) }
 {
     let bytes = write_reply(alloc, said.id.as_str(), &said.body)?;
     Ok(Some(bytes))

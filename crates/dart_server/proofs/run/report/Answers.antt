@@ -1,8 +1,7 @@
 use Rattle.std.proofs.Common.{◌≡◌, ℕ, List, subst, rules}
 use Rattle.diagnostics.specs.Rendering.{rows_of, lines_of_rows}
 use Rattle.dart_server.specs.declared.status.Status.TheVariants.{Errors}
-use Rattle.dart_server.specs.Run.{Writes}
-use Rattle.dart_server.proofs.WritesLemmas.{Says}
+use Rattle.dart_server.specs.Run.{Says, Writes}
 use Rattle.dart_server.proofs.run.report.Goals as goal
 
 pub returns-clause-writes : goal.returns-clause-writes

@@ -5,8 +5,8 @@ use Rattle.check_library.specs.Checked.{IsCheckOf}
 use Rattle.diagnostics.specs.Rendering.{rows_of, lines_of_rows}
 use Rattle.core_machine.specs.State.{run_of}
 use Rattle.dart_server.specs.declared.status.Status.TheVariants.{Errors}
-use Rattle.dart_server.specs.Run.{Writes, Prints, RowsGive}
-use Rattle.dart_server.proofs.WritesLemmas.{Says, writes_map}
+use Rattle.dart_server.specs.Run.{Says, Writes, Prints, RowsGive}
+use Rattle.dart_server.proofs.WritesLemmas.{writes_map}
 use Rattle.dart_server.proofs.ProgramLemmas.{none_of_length, some_of_length, faultless, given_by_program, given_by_rows}
 use Rattle.dart_server.proofs.run.run_text.Goals as goal
 
