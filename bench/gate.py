@@ -37,18 +37,21 @@ def text_of(path: str) -> str:
         return ""
 
 
-def applied(edit: str, crate: str) -> Tuple[str, str]:
-    """The file that an edit changes, and its text then."""
-    path, text, old = "", "", ""
+def applied(edit: str, crate: str) -> Dict[str, str]:
+    """The files that an edit changes, with their texts then."""
+    texts: Dict[str, str] = {}
+    path, old = "", ""
     for line in text_of(edit).split("\n"):
-        word, _, rest = line.partition(": ")
+        word, _, rest = line.partition(":")
+        rest = rest[1:]
         if word == "file":
-            path, text = rest, text_of(f"{crate}/{rest}")
+            path = rest
+            texts.setdefault(path, text_of(f"{crate}/{path}"))
         elif word == "old":
             old = rest
-        elif word in ("new", "new:"):
-            text = text.replace(old, rest, 1)
-    return path, text
+        elif word == "new" and path:
+            texts[path] = texts[path].replace(old, rest, 1)
+    return texts
 
 
 @functools.lru_cache(maxsize=None)
@@ -56,8 +59,8 @@ def edit_of(folder: str, crate: str) -> str:
     """The name of the edit that is tried in this folder, a copy of the crate."""
     own = os.path.join(HERE, os.pardir, "crates", crate)
     for edit in sorted(glob.glob(f"{own}/must-fail/*.edit")):
-        path, text = applied(edit, own)
-        if path and text == text_of(f"{folder}/{path}"):
+        texts = applied(edit, own)
+        if texts and all(text == text_of(f"{folder}/{path}") for path, text in texts.items()):
             return os.path.basename(edit)[: -len(".edit")]
     return "(as it stands)"
 
