@@ -1,5 +1,6 @@
 //! Whole runs of the loop over an answerer that echoes.
 
+use crate::outside::{bytes_in, cell};
 use fault_io::{Files, MemorySink, MemorySource, SteadyFiles};
 use serve_loop::{Answerer, Heard, ServeEnd, serve};
 use std::alloc::{AllocError, Global};
@@ -41,50 +42,55 @@ impl Answerer for Echo {
     }
 }
 
-/// What is written and how serving ends, for a source with one failing read and a sink with one
-/// failing write.
+// Runs, `INPUT|READ|WRITE|OUTPUT|END`: the input, the number of the read that fails and that of the
+// write, each from 0, what is written, and how serving ends. A `/` is a line feed. A read gives 4 bytes
+// at most, and a write takes 3; a line has at most 5, and all lines 20.
+const RUNS: &str = "\
+|99|99||Done
+ab//cd|99|99|ab/cd/|Done
+abcde/abcdef/x/|99|99|abcde/?/x/|Done
+abc/abc/abc/abc/abc/abc/|99|99|abc/abc/abc/abc/abc/|InputSpent
+abc/defg/|1|99|abc/|ReadFault
+abc/defg/|99|0||WriteFault
+abc/defg/|99|3|abc/def|WriteFault";
+
+/// How serving this input ends, and what the sink holds then.
 fn served(
     alloc: Global,
-    input: &str,
-    failing_read: u64,
-    failing_write: u64,
-) -> Result<(Vec<u8>, ServeEnd), Fail> {
-    let input = input.as_bytes().to_vec(alloc)?;
-    let mut source = MemorySource::new(input, 4, vec![in alloc; failing_read]?);
-    let mut sink = MemorySink::new(alloc, 3, vec![in alloc; failing_write]?);
+    input: Vec<u8>,
+    failing_read: Vec<u64>,
+    failing_write: Vec<u64>,
+) -> Result<(ServeEnd, Vec<u8>), AllocError> {
+    let mut source = MemorySource::new(input, 4, failing_read);
+    let mut sink = MemorySink::new(alloc, 3, failing_write);
     let mut files = SteadyFiles::new(Vec::new(alloc));
     let end = serve(alloc, 5, 20, &mut source, &mut sink, &mut Echo, &mut files);
-    let written = sink.written().to_vec(alloc)?;
-    Ok((written, end))
+    Ok((end, sink.written().to_vec(alloc)?))
+}
+
+/// The one call that fails, by its number in this text.
+fn failing(alloc: Global, text: &str) -> Result<Vec<u64>, Fail> {
+    let call = text.parse::<u64>()?;
+    Ok(vec![in alloc; call]?)
+}
+
+/// Whether a run writes and ends as its line says.
+fn is_right(alloc: Global, line: &str) -> Result<bool, Fail> {
+    let (input, line) = cell(line)?;
+    let (read, line) = cell(line)?;
+    let (write, line) = cell(line)?;
+    let (output, end) = cell(line)?;
+    let input = bytes_in(alloc, input)?;
+    let output = bytes_in(alloc, output)?;
+    let (ended, written) = served(alloc, input, failing(alloc, read)?, failing(alloc, write)?)?;
+    let ended = format!(in alloc; "{ended:?}")?;
+    Ok(ended.as_str() == end && written.as_slice() == output.as_slice())
 }
 
 #[test]
 fn each_line_is_answered(rt: HostRuntime) -> Result<(), Fail> {
-    let table = [
-        ("", 99, 99, "", ServeEnd::Done),
-        ("ab\n\ncd", 99, 99, "ab\ncd\n", ServeEnd::Done),
-        (
-            "abcde\nabcdef\nx\n",
-            99,
-            99,
-            "abcde\n?\nx\n",
-            ServeEnd::Done,
-        ),
-        (
-            "abc\nabc\nabc\nabc\nabc\nabc\n",
-            99,
-            99,
-            "abc\nabc\nabc\nabc\nabc\n",
-            ServeEnd::InputSpent,
-        ),
-        ("abc\ndefg\n", 1, 99, "abc\n", ServeEnd::ReadFault),
-        ("abc\ndefg\n", 99, 0, "", ServeEnd::WriteFault),
-        ("abc\ndefg\n", 99, 3, "abc\ndef", ServeEnd::WriteFault),
-    ];
-    for (input, failing_read, failing_write, written, end) in table {
-        let (bytes, ended) = served(rt.alloc(), input, failing_read, failing_write)?;
-        assert_eq!(rt; bytes.as_slice(), written.as_bytes(), "{input}");
-        assert_eq!(rt; ended, end, "{input}");
+    for line in RUNS.lines() {
+        assert!(rt; is_right(rt.alloc(), line)?, "{line}");
     }
     Ok(())
 }
