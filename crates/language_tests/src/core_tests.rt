@@ -1,4 +1,9 @@
 //! Core programs: which are accepted, what the others are refused for, and what a run prints.
+//!
+//! The programs are texts, which are read when the tests run. A point is a text as `4 store x 2 9`: the
+//! number of what is known there, which is a line of `KNOWN`; the term by its name; then its slots and
+//! operands; and the points that come next. The slots are x and z of the type `int?`, y of the type
+//! `int`, and t of the type `bool`. Other operands are values.
 
 use core_check::{AcceptRefusal, Accepted, accept, faults_are_clauses_that_fail, is_well_formed};
 use core_ir::{CoreProgram, Facts, Held, Operand, Point, PointId, SlotFact, SlotId, Term, Value};
@@ -8,407 +13,329 @@ use core_machine::{
 };
 use small_flow::{DartType, Rows, TypeNode};
 use std::alloc::{AllocError, Global};
-use std::process::Abort;
 use std::test::Fail;
 
-const X: SlotId = SlotId(0);
+// What is known at points, numbered from 0: whether a run may come there; and of x, y, z and t, in this
+// order, `+` where the slot has a value for certain and `-` where it hasn't, before the type of the value,
+// `n` for `int?`, `i` for `int` and `b` for `bool`, or before `*` where the slot is shared.
+const KNOWN: &str = "\
+reached -n -i -n -b
+reached +n -i -n -b
+reached +n +i -n -b
+reached +n +i +i -b
+reached +n +i +i +b
+reached +i +i +i +b
+unreached +n +i +i +b
+reached +* +i +i +b
+reached -n -i -n +b";
 
-const Y: SlotId = SlotId(1);
+// The points of this program, numbered from 0, whose loop begins at the point 3:
+// `int? x = null; int y = 0; int? z = 1;
+// while (y < 3) { if (x != null) { y = x + 1; } else { x = 2; y = y + z; } } print(y);`
+const POINTS: &str = "\
+0 initialize x null 1
+1 initialize y 0 2
+2 initialize z 1 3
+3 loop 4
+3 less t y 3 5
+4 branch t 6 10
+4 test_null x 8 7
+5 add y x 1 3
+4 store x 2 9
+4 add y y z 3
+4 output y 11
+4 end";
 
-const Z: SlotId = SlotId(2);
+// Points that stand in place of those of the program, `NUMBER:POINT`, with semicolons between them; and
+// what becomes of the program then: it is ill formed, or rejected at a point, with the type that was
+// asked for and the one that was found, or it takes these steps, up to a hundred, and prints this, in
+// which `/` is a line feed.
+const CHANGED: &str = "\
+-- a loop with a test for null
+3:3 loop 4 = 12 points, 19 steps: 3/
+-- a constant that never lets the loop end
+5:4 branch true 6 10;10:6 output x 11 = 12 points, 100 steps: 
+-- a term goes to its own point, or names a point or a slot that there is none of
+3:3 loop 3 = ill formed
+3:3 loop 12 = ill formed
+3:3 store s4 null 4 = ill formed
+-- it prints a slot that has no value
+10:3 output t 11 = rejected at 10: invalid, invalid
+-- it stores null into an int
+8:4 store y null 9 = rejected at 8: int, Null
+-- it adds to what may be null
+7:4 add y x 1 3 = rejected at 7: int, nullable
+-- it branches on an int
+5:4 branch y 6 10 = rejected at 5: bool, int
+-- it takes a null back to the head of the loop, where `z` is an int
+9:4 store z null 3 = rejected at 9: int, Null
+-- it takes a slot without a value back there
+9:4 declare y 3 = rejected at 9: invalid, invalid
+-- it goes where no run is said to come
+10:6 output y 11 = rejected at 5: invalid, invalid
+-- it narrows a slot that is shared
+6:7 test_null x 8 7 = rejected at 6: int, nullable
+-- something is assigned at the entry, and no run comes there
+0:1 initialize x null 1 = rejected at 0: invalid, invalid
+0:6 initialize x null 1 = rejected at 0: invalid, invalid";
 
-const T: SlotId = SlotId(3);
+// Terms, and what a program prints that does the term and then prints the slot which it writes.
+const OPERATORS: &str = "\
+-- Sums wrap.
+add x 9223372036854775807 1 = -9223372036854775808
+add x -9223372036854775807 -2 = 9223372036854775807
+add x 40 2 = 42
+-- Values are told apart by kind and by value.
+not_equal t null null = false
+not_equal t null 0 = true
+not_equal t null false = true
+not_equal t 7 7 = false
+not_equal t 7 -7 = true
+not_equal t 0 false = true
+not_equal t true true = false
+not_equal t true false = true";
 
-fn plain(node: TypeNode) -> DartType {
-    DartType { node }
+// The words of a text that are still to be read.
+#[derive(Drop)]
+struct Words<'t> {
+    rest: &'t str,
 }
 
-fn maybe_int(alloc: Global) -> Result<DartType, AllocError> {
-    DartType::nullable(alloc, plain(TypeNode::Int))
+impl Words<'_> {
+    // The next word; empty behind the last.
+    fn next(&mut self) -> &str {
+        let (word, rest) = self.rest.split_once(' ').unwrap_or((self.rest, ""));
+        self.rest = rest;
+        word
+    }
+
+    fn number(&mut self) -> Result<u32, Fail> {
+        Ok(self.next().parse::<u32>()?)
+    }
+
+    fn point(&mut self) -> Result<PointId, Fail> {
+        Ok(PointId(self.number()?))
+    }
+
+    fn slot(&mut self) -> Result<SlotId, Fail> {
+        match slot_of(self.next()) {
+            Some(slot) => Ok(slot),
+            None => Err("no slot".into()),
+        }
+    }
+
+    fn operand(&mut self) -> Result<Operand, Fail> {
+        operand_of(self.next())
+    }
 }
 
-fn fact(assigned: bool, held: Held) -> SlotFact {
-    SlotFact { assigned, held }
+// The slot of a word; `s4` is one that there isn't.
+fn slot_of(word: &str) -> Option<SlotId> {
+    match word {
+        "x" => Some(SlotId(0)),
+        "y" => Some(SlotId(1)),
+        "z" => Some(SlotId(2)),
+        "t" => Some(SlotId(3)),
+        "s4" => Some(SlotId(4)),
+        _ => None,
+    }
 }
 
-// What is known where the first slots, so many, have a value; `x` is as said, and `z` has been given
-// an int.
-fn facts(alloc: Global, reachable: bool, assigned: u32, x: Held) -> Result<Facts, AllocError> {
-    let z = if assigned > 2 {
-        plain(TypeNode::Int)
-    } else {
-        maybe_int(alloc)?
+// The slot of a word, or its value.
+fn operand_of(word: &str) -> Result<Operand, Fail> {
+    if let Some(slot) = slot_of(word) {
+        return Ok(Operand::Slot(slot));
+    }
+    let value = match word {
+        "null" => Value::Null,
+        "true" => Value::Boolean(true),
+        "false" => Value::Boolean(false),
+        _ => Value::Integer(word.parse::<i64>()?),
     };
+    Ok(Operand::Constant(value))
+}
+
+// A term that writes what it makes of two operands, by its name.
+fn binary(name: &str, words: &mut Words<'_>) -> Result<Term, Fail> {
+    let to = words.slot()?;
+    let left = words.operand()?;
+    let right = words.operand()?;
+    let next = words.point()?;
+    match name {
+        "add" => Ok(Term::Add {
+            to,
+            left,
+            right,
+            next,
+        }),
+        "less" => Ok(Term::Less {
+            to,
+            left,
+            right,
+            next,
+        }),
+        "not_equal" => Ok(Term::NotEqual {
+            to,
+            left,
+            right,
+            next,
+        }),
+        _ => Err("no term".into()),
+    }
+}
+
+// A term that gives a slot a value.
+fn given(name: &str, words: &mut Words<'_>) -> Result<Term, Fail> {
+    let slot = words.slot()?;
+    let from = words.operand()?;
+    let next = words.point()?;
+    if name == "store" {
+        return Ok(Term::Store {
+            to: slot,
+            from,
+            next,
+        });
+    }
+    Ok(Term::Initialize { slot, from, next })
+}
+
+// A term that goes one of two ways.
+fn parting(name: &str, words: &mut Words<'_>) -> Result<Term, Fail> {
+    let on = words.operand()?;
+    let when_true = words.point()?;
+    let when_false = words.point()?;
+    match on {
+        Operand::Slot(slot) if name == "test_null" => Ok(Term::TestNull {
+            slot,
+            null: when_true,
+            other: when_false,
+        }),
+        _ => Ok(Term::Branch {
+            on,
+            when_true,
+            when_false,
+        }),
+    }
+}
+
+// The term of a text.
+fn term_in(text: &str) -> Result<Term, Fail> {
+    let (name, rest) = text.split_once(' ').unwrap_or((text, ""));
+    let mut words = Words { rest };
+    match name {
+        "store" | "initialize" => given(name, &mut words),
+        "branch" | "test_null" => parting(name, &mut words),
+        "declare" => {
+            let slot = words.slot()?;
+            let next = words.point()?;
+            Ok(Term::Declare { slot, next })
+        }
+        "loop" => {
+            let next = words.point()?;
+            Ok(Term::Loop { next })
+        }
+        "output" => {
+            let from = words.operand()?;
+            let next = words.point()?;
+            Ok(Term::Output { from, next })
+        }
+        "end" => Ok(Term::End),
+        _ => binary(name, &mut words),
+    }
+}
+
+// The point of a text.
+fn point_in(text: &str) -> Result<Point, Fail> {
+    let (facts, term) = text.split_once(' ').ok_or("no term")?;
+    Ok(Point {
+        source: None,
+        facts: facts.parse::<u32>()?,
+        term: term_in(term)?,
+    })
+}
+
+// The points of a text, one a line.
+fn points_in(alloc: Global, text: &str) -> Result<Vec<Point>, Fail> {
+    let mut points = Vec::new(alloc);
+    for line in text.lines() {
+        points.push(point_in(line)?)?;
+    }
+    Ok(points)
+}
+
+// The points of the program with these changed.
+fn changed(alloc: Global, changes: &str) -> Result<Vec<Point>, Fail> {
+    let mut points = points_in(alloc, POINTS)?;
+    for change in changes.split(';') {
+        let (number, point) = change.split_once(':').ok_or("no point")?;
+        let number = number.parse::<usize>()?;
+        let point = point_in(point)?;
+        match points.get_mut(number) {
+            Some(changed) => *changed = point,
+            None => return Err("no such point".into()),
+        }
+    }
+    Ok(points)
+}
+
+fn type_of(alloc: Global, letter: u8) -> Result<DartType, AllocError> {
+    let node = if letter == b'b' {
+        TypeNode::Bool
+    } else {
+        TypeNode::Int
+    };
+    let ty = DartType { node };
+    if letter == b'n' {
+        return DartType::nullable(alloc, ty);
+    }
+    Ok(ty)
+}
+
+// What is known of a slot, by its sign and its letter.
+fn fact_in(alloc: Global, sign: u8, letter: u8) -> Result<SlotFact, AllocError> {
+    let held = if letter == b'*' {
+        Held::Shared
+    } else {
+        Held::Own(type_of(alloc, letter)?)
+    };
+    let assigned = sign == b'+';
+    Ok(SlotFact { assigned, held })
+}
+
+// What is known at a point, by its line.
+fn facts_in(alloc: Global, line: &str) -> Result<Facts, Fail> {
     let mut slots = Vec::new(alloc);
-    slots.push(fact(assigned > 0, x))?;
-    slots.push(fact(assigned > 1, Held::Own(plain(TypeNode::Int))))?;
-    slots.push(fact(assigned > 2, Held::Own(z)))?;
-    slots.push(fact(assigned > 3, Held::Own(plain(TypeNode::Bool))))?;
+    let (word, facts) = line.split_once(' ').ok_or("no facts")?;
+    for slot in facts.split(' ') {
+        match slot.as_bytes() {
+            [sign, letter] => slots.push(fact_in(alloc, *sign, *letter)?)?,
+            _ => return Err("no sign and letter of a slot".into()),
+        }
+    }
+    let reachable = word == "reached";
     Ok(Facts { reachable, slots })
 }
 
-// The facts of 0 to 4 assigned slots; of 4 where `x` is an int, where no run comes, and where `x` is
-// shared; and of `t` alone.
-fn table(alloc: Global) -> Result<Vec<Facts>, AllocError> {
-    let mut table = Vec::new(alloc);
-    for assigned in 0..5 {
-        let x = maybe_int(alloc)?;
-        table.push(facts(alloc, true, assigned, Held::Own(x))?)?;
+// All that is known somewhere.
+fn known(alloc: Global) -> Result<Vec<Facts>, Fail> {
+    let mut known = Vec::new(alloc);
+    for line in KNOWN.lines() {
+        known.push(facts_in(alloc, line)?)?;
     }
-    let int = plain(TypeNode::Int);
-    table.push(facts(alloc, true, 4, Held::Own(int))?)?;
-    let x = maybe_int(alloc)?;
-    table.push(facts(alloc, false, 4, Held::Own(x))?)?;
-    table.push(facts(alloc, true, 4, Held::Shared)?)?;
-    let x = maybe_int(alloc)?;
-    let mut last = facts(alloc, true, 0, Held::Own(x))?;
-    if let Some(t) = last.slots.last_mut() {
-        t.assigned = true;
-    }
-    table.push(last)?;
-    Ok(table)
-}
-
-const NULL: Operand = Operand::Constant(Value::Null);
-
-const ONE: Operand = Operand::Constant(Value::Integer(1));
-
-// The facts and the terms of this program, whose loop begins at the point 3:
-// `int? x = null; int y = 0; int? z = 1;
-// while (y < 3) { if (x != null) { y = x + 1; } else { x = 2; y = y + z; } } print(y);`
-const POINTS: [(u32, Term); 12] = [
-    (
-        0,
-        Term::Initialize {
-            slot: X,
-            from: NULL,
-            next: PointId(1),
-        },
-    ),
-    (
-        1,
-        Term::Initialize {
-            slot: Y,
-            from: Operand::Constant(Value::Integer(0)),
-            next: PointId(2),
-        },
-    ),
-    (
-        2,
-        Term::Initialize {
-            slot: Z,
-            from: ONE,
-            next: PointId(3),
-        },
-    ),
-    (3, Term::Loop { next: PointId(4) }),
-    (
-        3,
-        Term::Less {
-            to: T,
-            left: Operand::Slot(Y),
-            right: Operand::Constant(Value::Integer(3)),
-            next: PointId(5),
-        },
-    ),
-    (
-        4,
-        Term::Branch {
-            on: Operand::Slot(T),
-            when_true: PointId(6),
-            when_false: PointId(10),
-        },
-    ),
-    (
-        4,
-        Term::TestNull {
-            slot: X,
-            null: PointId(8),
-            other: PointId(7),
-        },
-    ),
-    (
-        5,
-        Term::Add {
-            to: Y,
-            left: Operand::Slot(X),
-            right: ONE,
-            next: PointId(3),
-        },
-    ),
-    (
-        4,
-        Term::Store {
-            to: X,
-            from: Operand::Constant(Value::Integer(2)),
-            next: PointId(9),
-        },
-    ),
-    (
-        4,
-        Term::Add {
-            to: Y,
-            left: Operand::Slot(Y),
-            right: Operand::Slot(Z),
-            next: PointId(3),
-        },
-    ),
-    (
-        4,
-        Term::Output {
-            from: Operand::Slot(Y),
-            next: PointId(11),
-        },
-    ),
-    (4, Term::End),
-];
-
-// A place in the program, and the facts and the term of the point that stands there in another one.
-type Changed = (usize, (u32, Term));
-
-// Its constant never lets the loop end.
-const ENDLESS: [Changed; 2] = [
-    (
-        5,
-        (
-            4,
-            Term::Branch {
-                on: Operand::Constant(Value::Boolean(true)),
-                when_true: PointId(6),
-                when_false: PointId(10),
-            },
-        ),
-    ),
-    (
-        10,
-        (
-            6,
-            Term::Output {
-                from: Operand::Slot(X),
-                next: PointId(11),
-            },
-        ),
-    ),
-];
-
-// What is changed; then the program is rejected at this point, with the type that was asked for and
-// the one that was found.
-const FAULTS: [(Changed, (u32, &str, &str)); 10] = [
-    // it prints a slot that has no value
-    (
-        (
-            10,
-            (
-                3,
-                Term::Output {
-                    from: Operand::Slot(T),
-                    next: PointId(11),
-                },
-            ),
-        ),
-        (10, "invalid", "invalid"),
-    ),
-    // it stores null into an int
-    (
-        (
-            8,
-            (
-                4,
-                Term::Store {
-                    to: Y,
-                    from: NULL,
-                    next: PointId(9),
-                },
-            ),
-        ),
-        (8, "int", "Null"),
-    ),
-    // it adds to what may be null
-    (
-        (
-            7,
-            (
-                4,
-                Term::Add {
-                    to: Y,
-                    left: Operand::Slot(X),
-                    right: ONE,
-                    next: PointId(3),
-                },
-            ),
-        ),
-        (7, "int", "nullable"),
-    ),
-    // it branches on an int
-    (
-        (
-            5,
-            (
-                4,
-                Term::Branch {
-                    on: Operand::Slot(Y),
-                    when_true: PointId(6),
-                    when_false: PointId(10),
-                },
-            ),
-        ),
-        (5, "bool", "int"),
-    ),
-    // it takes a null back to the head of the loop, where `z` is an int
-    (
-        (
-            9,
-            (
-                4,
-                Term::Store {
-                    to: Z,
-                    from: NULL,
-                    next: PointId(3),
-                },
-            ),
-        ),
-        (9, "int", "Null"),
-    ),
-    // it takes a slot without a value back there
-    (
-        (
-            9,
-            (
-                4,
-                Term::Declare {
-                    slot: Y,
-                    next: PointId(3),
-                },
-            ),
-        ),
-        (9, "invalid", "invalid"),
-    ),
-    // it goes where no run is said to come
-    (
-        (
-            10,
-            (
-                6,
-                Term::Output {
-                    from: Operand::Slot(Y),
-                    next: PointId(11),
-                },
-            ),
-        ),
-        (5, "invalid", "invalid"),
-    ),
-    // it narrows a slot that is shared
-    (
-        (
-            6,
-            (
-                7,
-                Term::TestNull {
-                    slot: X,
-                    null: PointId(8),
-                    other: PointId(7),
-                },
-            ),
-        ),
-        (6, "int", "nullable"),
-    ),
-    // something is assigned at the entry, and no run comes there
-    (
-        (
-            0,
-            (
-                1,
-                Term::Initialize {
-                    slot: X,
-                    from: NULL,
-                    next: PointId(1),
-                },
-            ),
-        ),
-        (0, "invalid", "invalid"),
-    ),
-    (
-        (
-            0,
-            (
-                6,
-                Term::Initialize {
-                    slot: X,
-                    from: NULL,
-                    next: PointId(1),
-                },
-            ),
-        ),
-        (0, "invalid", "invalid"),
-    ),
-];
-
-// What stands in place of the head of the loop, and whether the program is well formed with it: a
-// term may not go to its own point, and names a point and a slot that there are.
-const HEADS: [(Term, bool); 4] = [
-    (Term::Loop { next: PointId(4) }, true),
-    (Term::Loop { next: PointId(3) }, false),
-    (Term::Loop { next: PointId(12) }, false),
-    (
-        Term::Store {
-            to: SlotId(4),
-            from: NULL,
-            next: PointId(4),
-        },
-        false,
-    ),
-];
-
-// Sums wrap.
-const SUMS: [(i64, i64, &str); 3] = [
-    (9_223_372_036_854_775_807, 1, "-9223372036854775808\n"),
-    (-9_223_372_036_854_775_807, -2, "9223372036854775807\n"),
-    (40, 2, "42\n"),
-];
-
-// Values are told apart by kind and by value.
-const DIFFERENCES: [(Value, Value, &str); 8] = [
-    (Value::Null, Value::Null, "false\n"),
-    (Value::Null, Value::Integer(0), "true\n"),
-    (Value::Null, Value::Boolean(false), "true\n"),
-    (Value::Integer(7), Value::Integer(7), "false\n"),
-    (Value::Integer(7), Value::Integer(-7), "true\n"),
-    (Value::Integer(0), Value::Boolean(false), "true\n"),
-    (Value::Boolean(true), Value::Boolean(true), "false\n"),
-    (Value::Boolean(true), Value::Boolean(false), "true\n"),
-];
-
-// The points of the program with these changed.
-fn changed(changes: &[Changed]) -> [(u32, Term); 12] {
-    let mut points = POINTS;
-    for (place, point) in changes {
-        if *place < points.len() {
-            points[*place] = *point;
-        }
-    }
-    points
+    Ok(known)
 }
 
 // The program of these points.
-fn program(alloc: Global, points: &[(u32, Term)]) -> Result<CoreProgram, AllocError> {
+fn program(alloc: Global, points: Vec<Point>) -> Result<CoreProgram, Fail> {
     let mut slots = Vec::new(alloc);
-    slots.push(maybe_int(alloc)?)?;
-    slots.push(plain(TypeNode::Int))?;
-    slots.push(maybe_int(alloc)?)?;
-    slots.push(plain(TypeNode::Bool))?;
-    let mut made = Vec::new(alloc);
-    for (facts, term) in points {
-        made.push(Point {
-            source: None,
-            facts: *facts,
-            term: *term,
-        })?;
+    for letter in b"ninb" {
+        slots.push(type_of(alloc, *letter)?)?;
     }
     Ok(CoreProgram {
         rows: Rows::new(),
         slots,
-        facts: table(alloc)?,
-        points: made,
+        facts: known(alloc)?,
+        points,
     })
 }
 
@@ -423,146 +350,102 @@ fn name(t: &DartType) -> &'static str {
     }
 }
 
-// The point of a rejection and its two types, if there is one.
-fn rejection(
-    rt: &impl Abort,
-    alloc: Global,
-    points: &[(u32, Term)],
-) -> Result<Option<(u32, &'static str, &'static str)>, AllocError> {
-    let program = program(alloc, points)?;
-    assert!(rt; is_well_formed(&program));
-    faults_are_clauses_that_fail(&program);
-    match accept(alloc, program) {
-        Ok(accepted) => {
-            assert_eq!(rt; accepted.program().points.len(), points.len());
-            Ok(None)
+// How many steps a run takes, up to a hundred, and what it prints: taken after each step, or at the end.
+fn run(alloc: Global, program: Accepted, after_each: bool) -> Result<String, AllocError> {
+    never_wrong(&program);
+    let points = program.program().points.len();
+    let mut machine = Machine::new(alloc, program)?;
+    let mut printed = Vec::new(alloc);
+    let mut steps = 0;
+    for step in 1..101u32 {
+        steps = step;
+        let turn = machine.step()?;
+        if after_each || turn == Turn::Done {
+            printed.extend_from_slice(&machine.take_output())?;
         }
+        if turn == Turn::Done {
+            break;
+        }
+    }
+    let printed = String::from_utf8_lossy(alloc, &printed)?;
+    let printed = printed.replace(alloc, "\n", "/")?;
+    format!(in alloc; "{points} points, {steps} steps: {printed}")
+}
+
+// Laws of the program, which are proved.
+fn laws_hold(program: &CoreProgram) {
+    faults_are_clauses_that_fail(program);
+    a_run_that_is_over_stays(program);
+    steps_add_to_what_was_printed(program);
+    misuse_goes_wrong(program);
+    each_way_to_go_wrong_is_taken();
+}
+
+// What becomes of the program of these points.
+fn told(alloc: Global, points: Vec<Point>, after_each: bool) -> Result<String, Fail> {
+    let program = program(alloc, points)?;
+    laws_hold(&program);
+    if !is_well_formed(&program) {
+        return Ok(format!(in alloc; "ill formed")?);
+    }
+    let told = match accept(alloc, program) {
+        Ok(accepted) => run(alloc, accepted, after_each)?,
         Err(
             AcceptRefusal::Rejected {
                 point,
                 expected,
                 found,
             },
-        ) => { Ok(Some((point.0, name(&expected), name(&found)))) }
-        Err(AcceptRefusal::Memory) => Err(AllocError),
-    }
-}
-
-// A program of these points, which is accepted.
-fn accepted(
-    rt: &impl Abort,
-    alloc: Global,
-    points: &[(u32, Term)],
-) -> Result<Accepted, AllocError> {
-    let program = program(alloc, points)?;
-    assert!(rt; is_well_formed(&program));
-    a_run_that_is_over_stays(&program);
-    steps_add_to_what_was_printed(&program);
-    misuse_goes_wrong(&program);
-    match accept(alloc, program) {
-        Ok(accepted) => Ok(accepted),
-        Err(AcceptRefusal::Rejected { .. }) => panic!(rt; "the program is rejected"),
-        Err(AcceptRefusal::Memory) => Err(AllocError),
-    }
-}
-
-// How many steps a run takes, up to a hundred, and what it prints: taken after each step, or at the
-// end.
-fn run(program: Accepted, alloc: Global, after_each: bool) -> Result<(u32, String), AllocError> {
-    never_wrong(&program);
-    let mut machine = Machine::new(alloc, program)?;
-    let mut printed = String::new(alloc);
-    let mut steps = 0;
-    for step in 1..101u32 {
-        steps = step;
-        let turn = machine.step()?;
-        if after_each || turn == Turn::Done {
-            let taken = machine.take_output();
-            if let Ok(text) = std::str::from_utf8(&taken) {
-                printed.push_str(text)?;
-            }
+        ) => {
+            let expected = name(&expected);
+            let found = name(&found);
+            format!(in alloc; "rejected at {}: {expected}, {found}", point.0)?
         }
-        if turn == Turn::Done {
-            break;
+        Err(AcceptRefusal::Memory) => return Err(AllocError.into()),
+    };
+    Ok(told)
+}
+
+// Whether what becomes of a changed program is what its line says, however its output is taken.
+fn is_changed(alloc: Global, line: &str) -> Result<bool, Fail> {
+    let (changes, answer) = line.split_once(" = ").ok_or("no answer")?;
+    let each = told(alloc, changed(alloc, changes)?, true)?;
+    let once = told(alloc, changed(alloc, changes)?, false)?;
+    Ok(each.as_str() == answer && (once.as_str() == answer))
+}
+
+// Whether a term gives the value that its line says. Where it has been done, the line 1 or 8 of what is
+// known holds, by the slot that it writes.
+fn is_operator(alloc: Global, line: &str) -> Result<bool, Fail> {
+    let (term, value) = line.split_once(" = ").ok_or("no value")?;
+    let (slot, facts) = if term.starts_with("add") {
+        ("x", 1)
+    } else {
+        ("t", 8)
+    };
+    let points = format!(in alloc; "0 {term} 1\n{facts} output {slot} 2\n{facts} end")?;
+    let told = told(alloc, points_in(alloc, &points)?, false)?;
+    let answer = format!(in alloc; "3 points, 3 steps: {value}/")?;
+    Ok(told.as_str() == answer.as_str())
+}
+
+// Whether a line is a comment, or right by its table.
+fn is_right(alloc: Global, line: &str) -> Result<bool, Fail> {
+    if line.starts_with("--") {
+        return Ok(true);
+    }
+    if line.contains(':') {
+        return is_changed(alloc, line);
+    }
+    is_operator(alloc, line)
+}
+
+#[test]
+fn programs_are_accepted_and_run_as_their_rows_say(rt: HostRuntime) -> Result<(), Fail> {
+    for table in [CHANGED, OPERATORS] {
+        for line in table.lines() {
+            assert!(rt; is_right(rt.alloc(), line)?, "{line}");
         }
-    }
-    Ok((steps, printed))
-}
-
-// A loop with a test for null is accepted, and prints the same however its output is taken. So is
-// the loop that a constant never lets end.
-#[test]
-fn loops_are_accepted_and_run(rt: HostRuntime) -> Result<(), Fail> {
-    let alloc = rt.alloc();
-    for after_each in [true, false] {
-        let (steps, printed) = run(accepted(&rt, alloc, &POINTS)?, alloc, after_each)?;
-        assert_eq!(rt; printed.as_str(), "3\n");
-        assert_eq!(rt; steps, 19);
-    }
-    let endless = changed(&ENDLESS);
-    let (steps, printed) = run(accepted(&rt, alloc, &endless)?, alloc, true)?;
-    assert_eq!(rt; printed.as_str(), "");
-    assert_eq!(rt; steps, 100);
-    each_way_to_go_wrong_is_taken();
-    Ok(())
-}
-
-// What a program prints that does this term and then prints a slot, of which these facts say that it
-// has a value.
-fn printed(
-    rt: &impl Abort,
-    alloc: Global,
-    term: Term,
-    facts: u32,
-    slot: SlotId,
-) -> Result<String, AllocError> {
-    let from = Operand::Slot(slot);
-    let next = PointId(2);
-    let output = Term::Output { from, next };
-    let points = [(0, term), (facts, output), (facts, Term::End)];
-    let (_, printed) = run(accepted(rt, alloc, &points)?, alloc, false)?;
-    Ok(printed)
-}
-
-#[test]
-fn operators_give_their_values(rt: HostRuntime) -> Result<(), Fail> {
-    let alloc = rt.alloc();
-    let next = PointId(1);
-    for (left, right, text) in SUMS {
-        let term = Term::Add {
-            to: X,
-            left: Operand::Constant(Value::Integer(left)),
-            right: Operand::Constant(Value::Integer(right)),
-            next,
-        };
-        assert_eq!(rt; printed(&rt, alloc, term, 1, X)?.as_str(), text);
-    }
-    for (left, right, text) in DIFFERENCES {
-        let term = Term::NotEqual {
-            to: T,
-            left: Operand::Constant(left),
-            right: Operand::Constant(right),
-            next,
-        };
-        assert_eq!(rt; printed(&rt, alloc, term, 8, T)?.as_str(), text);
-    }
-    Ok(())
-}
-
-#[test]
-fn faults_are_found_where_they_are(rt: HostRuntime) -> Result<(), Fail> {
-    for (change, expected) in FAULTS {
-        let points = changed(&[change]);
-        assert_eq!(rt; rejection(&rt, rt.alloc(), &points)?, Some(expected));
-    }
-    Ok(())
-}
-
-#[test]
-fn well_formed_programs_are_told(rt: HostRuntime) -> Result<(), Fail> {
-    for (term, is_fine) in HEADS {
-        let program = program(rt.alloc(), &changed(&[(3, (3, term))]))?;
-        assert_eq!(rt; is_well_formed(&program), is_fine);
     }
     Ok(())
 }
