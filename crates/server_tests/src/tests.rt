@@ -1,10 +1,13 @@
-//! What the tests have in common: texts in parts, and a run of the program over them.
+//! What the tests have in common: texts in a short notation, and a run of the program over them.
+//!
+//! The tables are texts, which are read when the tests run: a line is a case, and one that is empty or
+//! begins with `--` is none. In a text `¶` is a line feed, `«#255»` the byte 255, and `«3:ab»` the text
+//! `ab` three times. Where `№` stands between such marks, it is the number of the time, from 0.
 
-use dart_server::{Status, dart_main};
+use dart_server::dart_main;
 use fault_io::{MemoryFiles, MemorySink, MemorySource, are_files};
 use plain_text::{PlainBytes, PlainText};
-use std::alloc::Global;
-use std::process::Abort;
+use std::alloc::{AllocError, Global};
 use std::test::Fail;
 
 mod faults;
@@ -12,101 +15,133 @@ mod limits;
 mod runs;
 mod words;
 
-const USAGE_LINE: &str = "usage: dart_serve serve|check FILE|run FILE|make N [options]\n";
-
-const NO_LIBRARY: &str = "dart_serve: no such library\n";
-
-const STEPS_SPENT: &str = "steps spent\n";
-
-/// A part of a text.
-#[derive(Clone, Copy)]
-enum Part {
-    /// This text.
-    Is(&'static str),
-    /// This text, so many times.
-    Times(&'static str, u32),
-    /// A byte, which need not be UTF-8.
-    Byte(u8),
-    /// The numbers below this one, each between these texts.
-    Numbered(&'static str, &'static str, u32),
+/// Whether a line of a table is no case.
+fn is_comment(line: &str) -> bool {
+    line.is_empty() || line.starts_with("--")
 }
 
-/// The bytes of some parts, one after another.
-fn bytes_of(alloc: Global, parts: &[Part]) -> Result<Vec<u8>, Fail> {
+/// The text up to a bar, and the text behind it.
+fn cell(text: &str) -> Result<(&str, &str), Fail> {
+    match text.split_once('|') {
+        Some(parts) => Ok(parts),
+        None => Err("a bar is missing in a line".into()),
+    }
+}
+
+/// Puts what stands between two marks of the notation behind some bytes.
+fn push_group(alloc: Global, bytes: &mut Vec<u8>, group: &str) -> Result<(), Fail> {
+    if let Some(byte) = group.strip_prefix('#') {
+        bytes.push(byte.parse::<u8>()?)?;
+        return Ok(());
+    }
+    let (count, text) = group.split_once(':').ok_or("no count")?;
+    let count = count.parse::<usize>()?;
+    if text.contains('№') {
+        return push_numbered(alloc, bytes, count, text);
+    }
+    let block = text.repeat(alloc, 64)?;
+    bytes.extend_from_slice(block.repeat(alloc, count / 64)?.as_bytes())?;
+    bytes.extend_from_slice(text.repeat(alloc, count % 64)?.as_bytes())?;
+    Ok(())
+}
+
+/// Puts a text so many times behind some bytes, each with its number.
+fn push_numbered(alloc: Global, bytes: &mut Vec<u8>, count: usize, text: &str) -> Result<(), Fail> {
+    for number in 0..count {
+        let number = format!(in alloc; "{number}")?;
+        let text = text.replace(alloc, "№", &number)?;
+        bytes.extend_from_slice(text.as_bytes())?;
+    }
+    Ok(())
+}
+
+/// The bytes of a text in the notation.
+fn bytes_in(alloc: Global, text: &str) -> Result<Vec<u8>, Fail> {
+    let text = text.replace(alloc, "¶", "\n")?;
     let mut bytes = Vec::new(alloc);
-    for part in parts {
-        match *part {
-            Part::Is(text) => bytes.extend_from_slice(text.as_bytes())?,
-            Part::Times(text, count) => {
-                for _ in 0..count {
-                    bytes.extend_from_slice(text.as_bytes())?;
-                }
+    for part in text.split('«') {
+        let behind = match part.split_once('»') {
+            Some((group, behind)) => {
+                push_group(alloc, &mut bytes, group)?;
+                behind
             }
-            Part::Byte(byte) => bytes.push(byte)?,
-            Part::Numbered(before, behind, count) => {
-                for number in 0..count {
-                    let text = format!(in alloc; "{before}{number}{behind}")?;
-                    bytes.extend_from_slice(text.as_bytes())?;
-                }
-            }
-        }
+            None => part,
+        };
+        bytes.extend_from_slice(behind.as_bytes())?;
     }
     Ok(bytes)
 }
 
-/// The call that fails, by its number from 0.
+/// A run of the program, over a store of one file.
 #[derive(Clone, Copy)]
-enum Fails {
-    /// None does.
-    Nothing,
-    /// A read.
-    Read(u64),
-    /// A write.
-    Write(u64),
-    /// A call of the store.
-    Store(u64),
+struct Run<'t> {
+    /// The words of the command line, each behind a blank.
+    words: &'t str,
+    /// What fails, none if it is empty: `read`, `write` or `store`, a call of the store, and the number
+    /// of the call, from 0.
+    fails: &'t str,
+    /// The path of the file, and its text in the notation.
+    file: (&'t str, &'t str),
 }
 
-/// A store of one file.
-fn store(
-    rt: &impl Abort,
-    alloc: Global,
-    path: &str,
-    bytes: &[u8],
-    fails: Fails,
-) -> Result<MemoryFiles, Fail> {
-    let mut failing = Vec::new(alloc);
-    if let Fails::Store(call) = fails {
-        failing.push(call)?;
+/// The words, each of which stands behind a blank.
+fn words_in(alloc: Global, text: &str) -> Result<Vec<PlainText>, AllocError> {
+    let mut words = Vec::new(alloc);
+    for word in text.split(' ').skip(1) {
+        words.push(PlainText::new(alloc, word)?)?;
     }
-    let mut files = Vec::new(alloc);
-    files.push((PlainText::new(alloc, path)?, PlainBytes::new(alloc, bytes)?))?;
-    assert!(rt; are_files(files.as_slice()));
-    Ok(MemoryFiles::new(files, failing))
+    Ok(words)
 }
 
-/// How the program ends for these words, this input and these files, and what it writes. A write
-/// takes 8 bytes at most, and a read gives 16, or 65,536 where none is to fail.
-fn ran(
+/// The numbers of the calls of this kind that fail.
+fn failing(alloc: Global, fails: &str, kind: &str) -> Result<Vec<u64>, Fail> {
+    let mut calls = Vec::new(alloc);
+    if let Some(call) = fails.strip_prefix(kind) {
+        calls.push(call.parse::<u64>()?)?;
+    }
+    Ok(calls)
+}
+
+/// A store of the file.
+fn store(alloc: Global, run: Run<'_>) -> Result<MemoryFiles, Fail> {
+    let (path, text) = run.file;
+    let path = PlainText::new(alloc, path)?;
+    let bytes = PlainBytes::from_vec(bytes_in(alloc, text)?);
+    let files = vec![in alloc; (path, bytes)]?;
+    if !are_files(files.as_slice()) {
+        return Err("no path of a file".into());
+    }
+    Ok(MemoryFiles::new(files, failing(alloc, run.fails, "store ")?))
+}
+
+/// A source of this input. A read gives 16 bytes, or 65,536 where none is to fail.
+fn source(alloc: Global, fails: &str, input: Vec<u8>) -> Result<MemorySource, Fail> {
+    let calls = failing(alloc, fails, "read ")?;
+    if calls.is_empty() {
+        return Ok(MemorySource::new(input, 65_536, calls));
+    }
+    Ok(MemorySource::new(input, 16, calls))
+}
+
+/// A sink that takes 8 bytes at most in a write.
+fn sink(alloc: Global, fails: &str) -> Result<MemorySink, Fail> {
+    let calls = failing(alloc, fails, "write ")?;
+    Ok(MemorySink::new(alloc, 8, calls))
+}
+
+/// Whether a run over this input ends with this status and writes these bytes.
+fn ends(
     alloc: Global,
-    words: &[&str],
+    run: Run<'_>,
     input: Vec<u8>,
-    files: &mut MemoryFiles,
-    fails: Fails,
-) -> Result<(Status, Vec<u8>), Fail> {
-    let mut given = Vec::new(alloc);
-    for word in words {
-        given.push(PlainText::new(alloc, word)?)?;
-    }
-    let mut source = match fails {
-        Fails::Read(call) => MemorySource::new(input, 16, vec![in alloc; call]?),
-        _ => MemorySource::new(input, 65_536, Vec::new(alloc)),
-    };
-    let mut failing = Vec::new(alloc);
-    if let Fails::Write(call) = fails {
-        failing.push(call)?;
-    }
-    let mut sink = MemorySink::new(alloc, 8, failing);
-    let status = dart_main(alloc, &given, &mut source, &mut sink, files);
-    Ok((status, sink.written().to_vec(alloc)?))
+    status: &str,
+    output: &[u8],
+) -> Result<bool, Fail> {
+    let words = words_in(alloc, run.words)?;
+    let mut files = store(alloc, run)?;
+    let mut source = source(alloc, run.fails, input)?;
+    let mut sink = sink(alloc, run.fails)?;
+    let ended = dart_main(alloc, &words, &mut source, &mut sink, &mut files);
+    let ended = format!(in alloc; "{ended:?}")?;
+    Ok(ended.as_str() == status && sink.written() == output)
 }

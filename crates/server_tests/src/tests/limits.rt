@@ -1,417 +1,237 @@
 //! Lines and texts as long as the limits allow, and longer; edits of long texts.
 
-use super::{Fails, Part, bytes_of, ran, store};
-use dart_server::Status;
+use super::{Run, bytes_in, ends, is_comment};
 use std::alloc::Global;
 use std::test::Fail;
 
-/// 64 letters.
-const LETTERS: &str = "xxxxxxxxxxxxxxxxxxxxxxxxxxxxxxxxxxxxxxxxxxxxxxxxxxxxxxxxxxxxxxxx";
+// Sessions, each behind the comment that says what it is about. A line of a session is a request and the
+// reply to it, `REQUEST = REPLY`. The requests, all with the id 1, are:
+//
+// | Request | What it asks for |
+// |---|---|
+// | `get PATH`, `get PATH BLANKS` | the errors of a file, with so much behind the request |
+// | `add PATH TEXT` | a text for a file |
+// | `edit PATH EDITS` | these edits of a file's text |
+// | `files FILES` | an update of these files |
+// | `line TEXT` | nothing: the line is this text |
+const SESSIONS: &str =
+    r#"-- Lines of 16,777,216 bytes and of one more: requests, and then blanks. A request for errors alone has 68
+-- bytes, and a line of blanks alone is no request.
+add /a.dart void main() {} = done
+get /a.dart «16777148: » = clean
+get /a.dart «16777149: » = no request
+get /a.dart = clean
+line «16777216: » = nothing
+line «16777217: » = no request
+get /a.dart = clean
 
-/// 64 blanks.
-const BLANKS: &str = "                                                                ";
+-- Texts of 4,194,304 bytes and of one more, by `add` and by `change`; of two faults in one update the
+-- first file, by its path, decides.
+add /a.dart void main(){} = done
+add /a.dart «4194304:x»y = limit
+get /a.dart = clean
+add /b.dart «4194304:x» = done
+edit /b.dart {"offset":7,"length":0,"replacement":"y"} = limit
+edit /b.dart {"offset":7,"length":1,"replacement":"y"} = done
+edit /b.dart {"offset":7,"length":1,"replacement":"é"} = limit
+files "/c.dart":{"type":"change","edits":[]},"/b.dart":{"type":"change","edits":[{"offset":7,"length":0,"replacement":"y"}]} = limit
+files "/0.dart":{"type":"change","edits":[]},"/b.dart":{"type":"change","edits":[{"offset":7,"length":0,"replacement":"y"}]} = bad change
 
-/// The request for the errors of `/a.dart`, of 68 bytes.
-const GET: &str =
-    "{\"id\":\"1\",\"method\":\"analysis.getErrors\",\"params\":{\"file\":\"/a.dart\"}}";
+-- Texts of 67,108,864 bytes together, and of one more.
+add /0 «4194304:x» = done
+add /1 «4194304:x» = done
+add /2 «4194304:x» = done
+add /3 «4194304:x» = done
+add /4 «4194304:x» = done
+add /5 «4194304:x» = done
+add /6 «4194304:x» = done
+add /7 «4194304:x» = done
+add /8 «4194304:x» = done
+add /9 «4194304:x» = done
+add /a «4194304:x» = done
+add /b «4194304:x» = done
+add /c «4194304:x» = done
+add /d «4194304:x» = done
+add /e «4194304:x» = done
+add /f «4194304:x» = done
+add /a.dart y = limit
+get /a.dart = not analyzed
+files "/a.dart":{"type":"add","content":"void main(){}"},"/f":{"type":"change","edits":[{"offset":0,"length":13,"replacement":""}]} = done
+get /a.dart = clean
+add /b.dart  = done
+add /b.dart y = limit
 
-const DONE: &str = "{\"id\":\"1\"}\n";
+-- Texts of 10,000 files, and of one more; the limit is looked at when all files of an update are taken, so
+-- that one may come and one go.
+files "/a.dart":{"type":"remove"}«10001:,"/№.dart":{"type":"add","content":""}» = limit
+get /0.dart = not analyzed
+files "/a.dart":{"type":"remove"}«10000:,"/№.dart":{"type":"add","content":""}» = done
+add /a.dart void main(){} = limit
+get /a.dart = not analyzed
+add /0.dart void main(){} = done
+get /0.dart = clean
+files "/+.dart":{"type":"add","content":""},"/9.dart":{"type":"remove"} = done
+files "/a.dart":{"type":"remove"}«10000:,"/№.dart":{"type":"add","content":""}» = limit
 
-const CLEAN: &str = "{\"id\":\"1\",\"result\":{\"errors\":[]}}\n";
+-- Edits of a text of 40,026 bytes and 20,026 units, in which 10,000 characters of two units stand before the
+-- one error: edits that split a character, 4,001 in one request, which put 2,000 blanks before the error and
+-- take them out again, and one of all of the characters but one.
+add /a.dart /*«10000:😀»*/void main(){bool b=1;} = done
+get /a.dart = invalid assignment at 20023
+edit /a.dart {"offset":10003,"length":0,"replacement":"x"} = bad change
+edit /a.dart {"offset":10002,"length":3,"replacement":""} = bad change
+edit /a.dart «2000:{"offset":20016,"length":0,"replacement":" "},»«2000:{"offset":20016,"length":1,"replacement":""},»{"offset":20023,"length":1,"replacement":"2"} = done
+get /a.dart = invalid assignment at 20023
+edit /a.dart {"offset":4,"length":19998,"replacement":""} = done
+get /a.dart = invalid assignment at 25
 
-const NO_REQUEST: &str =
-    "{\"error\":{\"code\":\"INVALID_REQUEST\",\"message\":\"The line is not a request.\"},\"id\":\"\"}\n";
+-- Texts so deep that no call may be nested like them: blocks, branches and loops.
+add /a.dart void main(){«10000:{»«10000:}»} = done
+get /a.dart = syntax error of 20013
+add /a.dart void main(){«10000:if(true){»«10000:}»} = done
+get /a.dart = syntax error of 100013
+add /a.dart void main(){«10000:while(true){»«10000:}»} = done
+get /a.dart = syntax error of 130013"#;
 
-const LIMIT: &str =
-    "{\"error\":{\"code\":\"PROFILE_LIMIT\",\"message\":\"A limit is passed.\"},\"id\":\"1\"}\n";
-
-const BAD_CHANGE: &str =
-    "{\"error\":{\"code\":\"INVALID_OVERLAY_CHANGE\",\"message\":\"The change does not fit the overlay.\"},\"id\":\"1\"}\n";
-
-const NOT_ANALYZED: &str =
-    "{\"error\":{\"code\":\"GET_ERRORS_INVALID_FILE\",\"message\":\"The file is not analyzed.\"},\"id\":\"1\"}\n";
-
-/// Lines of 16,777,216 bytes and of one more: requests, and then blanks.
-const LONG_LINES: &[Part] = &[
-    Part::Is(
-        "{\"id\":\"1\",\"method\":\"analysis.updateContent\",\"params\":{\"files\":{\"/a.dart\":{\"type\":\"add\",\"content\":\"void main() {}\"}}}}\n",
-    ),
-    Part::Is(GET),
-    Part::Times(" ", 60),
-    Part::Times(BLANKS, 262_142),
-    Part::Is("\n"),
-    Part::Is(GET),
-    Part::Times(" ", 61),
-    Part::Times(BLANKS, 262_142),
-    Part::Is("\n"),
-    Part::Is(GET),
-    Part::Is("\n"),
-    Part::Times(BLANKS, 262_144),
-    Part::Is("\n"),
-    Part::Times(BLANKS, 262_144),
-    Part::Is(" \n"),
-    Part::Is(GET),
-    Part::Is("\n"),
-];
-
-/// Texts of 4,194,304 bytes and of one more, by `add` and by `change`; of two faults in one update the
-/// first file, by its path, decides.
-const LONG_TEXTS: &[Part] = &[
-    Part::Is(
-        "{\"id\":\"1\",\"method\":\"analysis.updateContent\",\"params\":{\"files\":{\"/a.dart\":{\"type\":\"add\",\"content\":\"void main(){}\"}}}}\n",
-    ),
-    Part::Is(
-        "{\"id\":\"1\",\"method\":\"analysis.updateContent\",\"params\":{\"files\":{\"/a.dart\":{\"type\":\"add\",\"content\":\"",
-    ),
-    Part::Times(LETTERS, 65_536),
-    Part::Is("y"),
-    Part::Is("\"}}}}\n"),
-    Part::Is(GET),
-    Part::Is("\n"),
-    Part::Is(
-        "{\"id\":\"1\",\"method\":\"analysis.updateContent\",\"params\":{\"files\":{\"/b.dart\":{\"type\":\"add\",\"content\":\"",
-    ),
-    Part::Times(LETTERS, 65_536),
-    Part::Is("\"}}}}\n"),
-    Part::Is(
-        "{\"id\":\"1\",\"method\":\"analysis.updateContent\",\"params\":{\"files\":{\"/b.dart\":{\"type\":\"change\",\"edits\":[{\"offset\":7,\"length\":0,\"replacement\":\"y\"}]}}}}\n",
-    ),
-    Part::Is(
-        "{\"id\":\"1\",\"method\":\"analysis.updateContent\",\"params\":{\"files\":{\"/b.dart\":{\"type\":\"change\",\"edits\":[{\"offset\":7,\"length\":1,\"replacement\":\"y\"}]}}}}\n",
-    ),
-    Part::Is(
-        "{\"id\":\"1\",\"method\":\"analysis.updateContent\",\"params\":{\"files\":{\"/b.dart\":{\"type\":\"change\",\"edits\":[{\"offset\":7,\"length\":1,\"replacement\":\"é\"}]}}}}\n",
-    ),
-    Part::Is(
-        "{\"id\":\"1\",\"method\":\"analysis.updateContent\",\"params\":{\"files\":{\"/c.dart\":{\"type\":\"change\",\"edits\":[]},\"/b.dart\":{\"type\":\"change\",\"edits\":[{\"offset\":7,\"length\":0,\"replacement\":\"y\"}]}}}}\n",
-    ),
-    Part::Is(
-        "{\"id\":\"1\",\"method\":\"analysis.updateContent\",\"params\":{\"files\":{\"/0.dart\":{\"type\":\"change\",\"edits\":[]},\"/b.dart\":{\"type\":\"change\",\"edits\":[{\"offset\":7,\"length\":0,\"replacement\":\"y\"}]}}}}\n",
-    ),
-];
-
-/// Texts of 67,108,864 bytes together, and of one more.
-const ALL_TEXTS: &[Part] = &[
-    Part::Is(
-        "{\"id\":\"1\",\"method\":\"analysis.updateContent\",\"params\":{\"files\":{\"/0\":{\"type\":\"add\",\"content\":\"",
-    ),
-    Part::Times(LETTERS, 65_536),
-    Part::Is("\"}}}}\n"),
-    Part::Is(
-        "{\"id\":\"1\",\"method\":\"analysis.updateContent\",\"params\":{\"files\":{\"/1\":{\"type\":\"add\",\"content\":\"",
-    ),
-    Part::Times(LETTERS, 65_536),
-    Part::Is("\"}}}}\n"),
-    Part::Is(
-        "{\"id\":\"1\",\"method\":\"analysis.updateContent\",\"params\":{\"files\":{\"/2\":{\"type\":\"add\",\"content\":\"",
-    ),
-    Part::Times(LETTERS, 65_536),
-    Part::Is("\"}}}}\n"),
-    Part::Is(
-        "{\"id\":\"1\",\"method\":\"analysis.updateContent\",\"params\":{\"files\":{\"/3\":{\"type\":\"add\",\"content\":\"",
-    ),
-    Part::Times(LETTERS, 65_536),
-    Part::Is("\"}}}}\n"),
-    Part::Is(
-        "{\"id\":\"1\",\"method\":\"analysis.updateContent\",\"params\":{\"files\":{\"/4\":{\"type\":\"add\",\"content\":\"",
-    ),
-    Part::Times(LETTERS, 65_536),
-    Part::Is("\"}}}}\n"),
-    Part::Is(
-        "{\"id\":\"1\",\"method\":\"analysis.updateContent\",\"params\":{\"files\":{\"/5\":{\"type\":\"add\",\"content\":\"",
-    ),
-    Part::Times(LETTERS, 65_536),
-    Part::Is("\"}}}}\n"),
-    Part::Is(
-        "{\"id\":\"1\",\"method\":\"analysis.updateContent\",\"params\":{\"files\":{\"/6\":{\"type\":\"add\",\"content\":\"",
-    ),
-    Part::Times(LETTERS, 65_536),
-    Part::Is("\"}}}}\n"),
-    Part::Is(
-        "{\"id\":\"1\",\"method\":\"analysis.updateContent\",\"params\":{\"files\":{\"/7\":{\"type\":\"add\",\"content\":\"",
-    ),
-    Part::Times(LETTERS, 65_536),
-    Part::Is("\"}}}}\n"),
-    Part::Is(
-        "{\"id\":\"1\",\"method\":\"analysis.updateContent\",\"params\":{\"files\":{\"/8\":{\"type\":\"add\",\"content\":\"",
-    ),
-    Part::Times(LETTERS, 65_536),
-    Part::Is("\"}}}}\n"),
-    Part::Is(
-        "{\"id\":\"1\",\"method\":\"analysis.updateContent\",\"params\":{\"files\":{\"/9\":{\"type\":\"add\",\"content\":\"",
-    ),
-    Part::Times(LETTERS, 65_536),
-    Part::Is("\"}}}}\n"),
-    Part::Is(
-        "{\"id\":\"1\",\"method\":\"analysis.updateContent\",\"params\":{\"files\":{\"/a\":{\"type\":\"add\",\"content\":\"",
-    ),
-    Part::Times(LETTERS, 65_536),
-    Part::Is("\"}}}}\n"),
-    Part::Is(
-        "{\"id\":\"1\",\"method\":\"analysis.updateContent\",\"params\":{\"files\":{\"/b\":{\"type\":\"add\",\"content\":\"",
-    ),
-    Part::Times(LETTERS, 65_536),
-    Part::Is("\"}}}}\n"),
-    Part::Is(
-        "{\"id\":\"1\",\"method\":\"analysis.updateContent\",\"params\":{\"files\":{\"/c\":{\"type\":\"add\",\"content\":\"",
-    ),
-    Part::Times(LETTERS, 65_536),
-    Part::Is("\"}}}}\n"),
-    Part::Is(
-        "{\"id\":\"1\",\"method\":\"analysis.updateContent\",\"params\":{\"files\":{\"/d\":{\"type\":\"add\",\"content\":\"",
-    ),
-    Part::Times(LETTERS, 65_536),
-    Part::Is("\"}}}}\n"),
-    Part::Is(
-        "{\"id\":\"1\",\"method\":\"analysis.updateContent\",\"params\":{\"files\":{\"/e\":{\"type\":\"add\",\"content\":\"",
-    ),
-    Part::Times(LETTERS, 65_536),
-    Part::Is("\"}}}}\n"),
-    Part::Is(
-        "{\"id\":\"1\",\"method\":\"analysis.updateContent\",\"params\":{\"files\":{\"/f\":{\"type\":\"add\",\"content\":\"",
-    ),
-    Part::Times(LETTERS, 65_536),
-    Part::Is("\"}}}}\n"),
-    Part::Is(
-        "{\"id\":\"1\",\"method\":\"analysis.updateContent\",\"params\":{\"files\":{\"/a.dart\":{\"type\":\"add\",\"content\":\"y\"}}}}\n",
-    ),
-    Part::Is(GET),
-    Part::Is("\n"),
-    Part::Is(
-        "{\"id\":\"1\",\"method\":\"analysis.updateContent\",\"params\":{\"files\":{\"/a.dart\":{\"type\":\"add\",\"content\":\"void main(){}\"},\"/f\":{\"type\":\"change\",\"edits\":[{\"offset\":0,\"length\":13,\"replacement\":\"\"}]}}}}\n",
-    ),
-    Part::Is(GET),
-    Part::Is("\n"),
-    Part::Is(
-        "{\"id\":\"1\",\"method\":\"analysis.updateContent\",\"params\":{\"files\":{\"/b.dart\":{\"type\":\"add\",\"content\":\"\"}}}}\n",
-    ),
-    Part::Is(
-        "{\"id\":\"1\",\"method\":\"analysis.updateContent\",\"params\":{\"files\":{\"/b.dart\":{\"type\":\"add\",\"content\":\"y\"}}}}\n",
-    ),
-];
-
-/// Texts of 10,000 files, and of one more; the limit is looked at when all files of an update are
-/// taken, so that one may come and one go.
-const MANY_FILES: &[Part] = &[
-    Part::Is(
-        "{\"id\":\"1\",\"method\":\"analysis.updateContent\",\"params\":{\"files\":{\"/a.dart\":{\"type\":\"remove\"}",
-    ),
-    Part::Numbered(
-        ",\"/",
-        ".dart\":{\"type\":\"add\",\"content\":\"\"}",
-        10_001,
-    ),
-    Part::Is("}}}\n"),
-    Part::Is(
-        "{\"id\":\"1\",\"method\":\"analysis.getErrors\",\"params\":{\"file\":\"/0.dart\"}}\n",
-    ),
-    Part::Is(
-        "{\"id\":\"1\",\"method\":\"analysis.updateContent\",\"params\":{\"files\":{\"/a.dart\":{\"type\":\"remove\"}",
-    ),
-    Part::Numbered(
-        ",\"/",
-        ".dart\":{\"type\":\"add\",\"content\":\"\"}",
-        10_000,
-    ),
-    Part::Is("}}}\n"),
-    Part::Is(
-        "{\"id\":\"1\",\"method\":\"analysis.updateContent\",\"params\":{\"files\":{\"/a.dart\":{\"type\":\"add\",\"content\":\"void main(){}\"}}}}\n",
-    ),
-    Part::Is(GET),
-    Part::Is("\n"),
-    Part::Is(
-        "{\"id\":\"1\",\"method\":\"analysis.updateContent\",\"params\":{\"files\":{\"/0.dart\":{\"type\":\"add\",\"content\":\"void main(){}\"}}}}\n",
-    ),
-    Part::Is(
-        "{\"id\":\"1\",\"method\":\"analysis.getErrors\",\"params\":{\"file\":\"/0.dart\"}}\n",
-    ),
-    Part::Is(
-        "{\"id\":\"1\",\"method\":\"analysis.updateContent\",\"params\":{\"files\":{\"/+.dart\":{\"type\":\"add\",\"content\":\"\"},\"/9.dart\":{\"type\":\"remove\"}}}}\n",
-    ),
-    Part::Is(
-        "{\"id\":\"1\",\"method\":\"analysis.updateContent\",\"params\":{\"files\":{\"/a.dart\":{\"type\":\"remove\"}",
-    ),
-    Part::Numbered(
-        ",\"/",
-        ".dart\":{\"type\":\"add\",\"content\":\"\"}",
-        10_000,
-    ),
-    Part::Is("}}}\n"),
-];
-
-/// Edits of a text of 40,026 bytes and 20,026 units, in which 10,000 characters of two units stand
-/// before the one error: edits that split a character, 1,000 in one request, which put as many
-/// blanks before the error and take them out again, and one of all of the characters but one.
-const LONG_EDITS: &[Part] = &[
-    Part::Is(
-        "{\"id\":\"1\",\"method\":\"analysis.updateContent\",\"params\":{\"files\":{\"/a.dart\":{\"type\":\"add\",\"content\":\"/*",
-    ),
-    Part::Times("😀", 10_000),
-    Part::Is("*/void main(){bool b=1;}\"}}}}\n"),
-    Part::Is(GET),
-    Part::Is("\n"),
-    Part::Is(
-        "{\"id\":\"1\",\"method\":\"analysis.updateContent\",\"params\":{\"files\":{\"/a.dart\":{\"type\":\"change\",\"edits\":[{\"offset\":10003,\"length\":0,\"replacement\":\"x\"}]}}}}\n",
-    ),
-    Part::Is(
-        "{\"id\":\"1\",\"method\":\"analysis.updateContent\",\"params\":{\"files\":{\"/a.dart\":{\"type\":\"change\",\"edits\":[{\"offset\":10002,\"length\":3,\"replacement\":\"\"}]}}}}\n",
-    ),
-    Part::Is(
-        "{\"id\":\"1\",\"method\":\"analysis.updateContent\",\"params\":{\"files\":{\"/a.dart\":{\"type\":\"change\",\"edits\":[",
-    ),
-    Part::Times(
-        "{\"offset\":20016,\"length\":0,\"replacement\":\" \"},",
-        2_000,
-    ),
-    Part::Times(
-        "{\"offset\":20016,\"length\":1,\"replacement\":\"\"},",
-        2_000,
-    ),
-    Part::Is("{\"offset\":20023,\"length\":1,\"replacement\":\"2\"}]}}}}\n"),
-    Part::Is(GET),
-    Part::Is("\n"),
-    Part::Is(
-        "{\"id\":\"1\",\"method\":\"analysis.updateContent\",\"params\":{\"files\":{\"/a.dart\":{\"type\":\"change\",\"edits\":[{\"offset\":4,\"length\":19998,\"replacement\":\"\"}]}}}}\n",
-    ),
-    Part::Is(GET),
-    Part::Is("\n"),
-];
-
-/// The replies while 10,000 characters stand before the error, and when one does.
-const FAR: &str =
-    "{\"id\":\"1\",\"result\":{\"errors\":[{\"code\":\"invalid_assignment\",\"location\":{\"file\":\"/a.dart\",\"length\":1,\"offset\":20023,\"startColumn\":20024,\"startLine\":1},\"message\":\"Invalid assignment.\",\"severity\":\"ERROR\",\"type\":\"COMPILE_TIME_ERROR\"}]}}\n";
-
-const NEAR: &str =
-    "{\"id\":\"1\",\"result\":{\"errors\":[{\"code\":\"invalid_assignment\",\"location\":{\"file\":\"/a.dart\",\"length\":1,\"offset\":25,\"startColumn\":26,\"startLine\":1},\"message\":\"Invalid assignment.\",\"severity\":\"ERROR\",\"type\":\"COMPILE_TIME_ERROR\"}]}}\n";
-
-/// Texts so deep that no call may be nested like them.
-const DEEP_TEXTS: &[Part] = &[
-    Part::Is(
-        "{\"id\":\"1\",\"method\":\"analysis.updateContent\",\"params\":{\"files\":{\"/a.dart\":{\"type\":\"add\",\"content\":\"",
-    ),
-    Part::Is("void main(){"),
-    Part::Times("{", 10_000),
-    Part::Times("}", 10_000),
-    Part::Is("}"),
-    Part::Is("\"}}}}\n"),
-    Part::Is(GET),
-    Part::Is("\n"),
-    Part::Is(
-        "{\"id\":\"1\",\"method\":\"analysis.updateContent\",\"params\":{\"files\":{\"/a.dart\":{\"type\":\"add\",\"content\":\"",
-    ),
-    Part::Is("void main(){"),
-    Part::Times("if(true){", 10_000),
-    Part::Times("}", 10_000),
-    Part::Is("}"),
-    Part::Is("\"}}}}\n"),
-    Part::Is(GET),
-    Part::Is("\n"),
-    Part::Is(
-        "{\"id\":\"1\",\"method\":\"analysis.updateContent\",\"params\":{\"files\":{\"/a.dart\":{\"type\":\"add\",\"content\":\"",
-    ),
-    Part::Is("void main(){"),
-    Part::Times("while(true){", 10_000),
-    Part::Times("}", 10_000),
-    Part::Is("}"),
-    Part::Is("\"}}}}\n"),
-    Part::Is(GET),
-    Part::Is("\n"),
-];
-
-/// The reply where blocks stand 10,000 deep in one another.
-const DEEP_BLOCKS: &str =
-    "{\"id\":\"1\",\"result\":{\"errors\":[{\"code\":\"syntax_error\",\"location\":{\"file\":\"/a.dart\",\"length\":20013,\"offset\":0,\"startColumn\":1,\"startLine\":1},\"message\":\"Syntax error.\",\"severity\":\"ERROR\",\"type\":\"SYNTACTIC_ERROR\"}]}}\n";
-
-/// The reply where branches stand 10,000 deep in one another.
-const DEEP_BRANCHES: &str =
-    "{\"id\":\"1\",\"result\":{\"errors\":[{\"code\":\"syntax_error\",\"location\":{\"file\":\"/a.dart\",\"length\":100013,\"offset\":0,\"startColumn\":1,\"startLine\":1},\"message\":\"Syntax error.\",\"severity\":\"ERROR\",\"type\":\"SYNTACTIC_ERROR\"}]}}\n";
-
-/// The reply where loops stand 10,000 deep in one another.
-const DEEP_LOOPS: &str =
-    "{\"id\":\"1\",\"result\":{\"errors\":[{\"code\":\"syntax_error\",\"location\":{\"file\":\"/a.dart\",\"length\":130013,\"offset\":0,\"startColumn\":1,\"startLine\":1},\"message\":\"Syntax error.\",\"severity\":\"ERROR\",\"type\":\"SYNTACTIC_ERROR\"}]}}\n";
-
-/// Sessions and their replies.
-const TABLE: [(&[Part], &[&str]); 6] = [
-    (
-        LONG_LINES,
-        &[DONE, CLEAN, NO_REQUEST, CLEAN, NO_REQUEST, CLEAN],
-    ),
-    (
-        LONG_TEXTS,
-        &[
-            DONE, LIMIT, CLEAN, DONE, LIMIT, DONE, LIMIT, LIMIT, BAD_CHANGE,
-        ],
-    ),
-    (
-        ALL_TEXTS,
-        &[
-            DONE,
-            DONE,
-            DONE,
-            DONE,
-            DONE,
-            DONE,
-            DONE,
-            DONE,
-            DONE,
-            DONE,
-            DONE,
-            DONE,
-            DONE,
-            DONE,
-            DONE,
-            DONE,
-            LIMIT,
-            NOT_ANALYZED,
-            DONE,
-            CLEAN,
-            DONE,
-            LIMIT,
-        ],
-    ),
-    (
-        MANY_FILES,
-        &[
-            LIMIT,
-            NOT_ANALYZED,
-            DONE,
-            LIMIT,
-            NOT_ANALYZED,
-            DONE,
-            CLEAN,
-            DONE,
-            LIMIT,
-        ],
-    ),
-    (
-        LONG_EDITS,
-        &[DONE, FAR, BAD_CHANGE, BAD_CHANGE, DONE, FAR, DONE, NEAR],
-    ),
-    (
-        DEEP_TEXTS,
-        &[DONE, DEEP_BLOCKS, DONE, DEEP_BRANCHES, DONE, DEEP_LOOPS],
-    ),
-];
-
-/// The bytes of these replies, one after another.
-fn joined(alloc: Global, replies: &[&str]) -> Result<Vec<u8>, Fail> {
-    let mut bytes = Vec::new(alloc);
-    for reply in replies {
-        bytes.extend_from_slice(reply.as_bytes())?;
+/// A reply: why a request is refused.
+fn refused(reply: &str) -> Option<(&'static str, &'static str)> {
+    match reply {
+        "no request" => Some(("INVALID_REQUEST", "The line is not a request.")),
+        "limit" => Some(("PROFILE_LIMIT", "A limit is passed.")),
+        "bad change" => Some((
+            "INVALID_OVERLAY_CHANGE",
+            "The change does not fit the overlay.",
+        )),
+        "not analyzed" => Some(("GET_ERRORS_INVALID_FILE", "The file is not analyzed.")),
+        _ => None,
     }
-    Ok(bytes)
+}
+
+/// A reply of one error of `/a.dart`: what it is, its type, its length and its offset.
+fn error(
+    alloc: Global,
+    words: (&str, &str, &str),
+    length: u32,
+    offset: u32,
+) -> Result<String, Fail> {
+    let (code, message, kind) = words;
+    let column = offset.saturating_add(1);
+    Ok(format!(in alloc;
+        "{{\"id\":\"1\",\"result\":{{\"errors\":[{{\"code\":\"{code}\",\"location\":{{\"file\":\"/a.dart\",\"length\":{length},\"offset\":{offset},\"startColumn\":{column},\"startLine\":1}},\"message\":\"{message}\",\"severity\":\"ERROR\",\"type\":\"{kind}\"}}]}}}}\n"
+    )?)
+}
+
+/// The reply of a word.
+fn reply_of(alloc: Global, reply: &str) -> Result<String, Fail> {
+    if let Some((code, message)) = refused(reply) {
+        let id = if reply == "no request" { "" } else { "1" };
+        return Ok(format!(in alloc;
+            "{{\"error\":{{\"code\":\"{code}\",\"message\":\"{message}\"}},\"id\":\"{id}\"}}\n"
+        )?);
+    }
+    if let Some(offset) = reply.strip_prefix("invalid assignment at ") {
+        let words = (
+            "invalid_assignment",
+            "Invalid assignment.",
+            "COMPILE_TIME_ERROR",
+        );
+        return error(alloc, words, 1, offset.parse::<u32>()?);
+    }
+    if let Some(length) = reply.strip_prefix("syntax error of ") {
+        let words = ("syntax_error", "Syntax error.", "SYNTACTIC_ERROR");
+        return error(alloc, words, length.parse::<u32>()?, 0);
+    }
+    match reply {
+        "nothing" => Ok(String::new(alloc)),
+        "done" => Ok(String::from_str(alloc, "{\"id\":\"1\"}\n")?),
+        "clean" => Ok(String::from_str(alloc, "{\"id\":\"1\",\"result\":{\"errors\":[]}}\n")?),
+        _ => Err("no reply".into()),
+    }
+}
+
+/// The request that asks for an update of these files.
+fn update(alloc: Global, files: &str) -> Result<String, Fail> {
+    Ok(format!(in alloc;
+        "{{\"id\":\"1\",\"method\":\"analysis.updateContent\",\"params\":{{\"files\":{{{files}}}}}}}"
+    )?)
+}
+
+/// The request, in the notation, of a word and what stands behind it.
+fn request_of(alloc: Global, word: &str, rest: &str) -> Result<String, Fail> {
+    let (path, behind) = rest.split_once(' ').unwrap_or((rest, ""));
+    let request = match word {
+        "line" => String::from_str(alloc, rest)?,
+        "files" => update(alloc, rest)?,
+        "get" => format!(in alloc;
+            "{{\"id\":\"1\",\"method\":\"analysis.getErrors\",\"params\":{{\"file\":\"{path}\"}}}}{behind}"
+        )?,
+        "add" => {
+            let file = format!(in alloc;
+                "\"{path}\":{{\"type\":\"add\",\"content\":\"{behind}\"}}"
+            )?;
+            update(alloc, &file)?
+        }
+        "edit" => {
+            let file = format!(in alloc;
+                "\"{path}\":{{\"type\":\"change\",\"edits\":[{behind}]}}"
+            )?;
+            update(alloc, &file)?
+        }
+        _ => return Err("no request".into()),
+    };
+    Ok(request)
+}
+
+/// What is sent in a session, and what is to come back.
+#[derive(Drop)]
+struct Session {
+    input: Vec<u8>,
+    output: Vec<u8>,
+}
+
+impl Session {
+    /// Sends the request of a line.
+    fn send(&mut self, alloc: Global, line: &str) -> Result<(), Fail> {
+        let (request, reply) = line.split_once(" = ").ok_or("no reply")?;
+        let (word, rest) = request.split_once(' ').ok_or("no request")?;
+        let request = request_of(alloc, word, rest)?;
+        let reply = reply_of(alloc, reply)?;
+        self.input.extend_from_slice(&bytes_in(alloc, &request)?)?;
+        self.input.push(b'\n')?;
+        self.output.extend_from_slice(reply.as_bytes())?;
+        Ok(())
+    }
+}
+
+/// The session of a text.
+fn session_in(alloc: Global, text: &str) -> Result<Session, Fail> {
+    let mut session = Session {
+        input: Vec::new(alloc),
+        output: Vec::new(alloc),
+    };
+    for line in text.lines() {
+        if !is_comment(line) {
+            session.send(alloc, line)?;
+        }
+    }
+    Ok(session)
+}
+
+/// Whether a session has the replies of its lines. The store, which fails, isn't asked.
+fn is_right(alloc: Global, text: &str) -> Result<bool, Fail> {
+    let session = session_in(alloc, text)?;
+    let run = Run {
+        words: " serve",
+        fails: "store 0",
+        file: ("/a.dart", ""),
+    };
+    ends(alloc, run, session.input, "Done", &session.output)
 }
 
 #[test]
 fn limits_are_kept(rt: HostRuntime) -> Result<(), Fail> {
-    let alloc = rt.alloc();
-    for (number, (session, replies)) in TABLE.into_iter().enumerate() {
-        let mut files = store(&rt, alloc, "/a.dart", b"", Fails::Store(0))?;
-        let input = bytes_of(alloc, session)?;
-        let (status, written) = ran(alloc, &["serve"], input, &mut files, Fails::Nothing)?;
-        let expected = joined(alloc, replies)?;
-        assert_eq!(rt; status, Status::Done, "row {number}");
-        assert!(rt; written.as_slice() == expected.as_slice(), "row {number}");
+    for session in SESSIONS.split("\n\n") {
+        assert!(rt; is_right(rt.alloc(), session)?, "{session}");
     }
     Ok(())
 }
