@@ -25,18 +25,18 @@ named_weights_of table (more_named n r t ts) = weight_of table t + named_weights
 
 module _ (table : Table) where
   -- the weight of a list is that of its types
-  weights-same : (ts : Types) → weights (of_var weight table) ts ≡ weights_of table ts
+  pub weights-same : (ts : Types) → weights (of_var weight table) ts ≡ weights_of table ts
   unfolding weight_of
   weights-same no_more = refl
   weights-same (more t ts) = omega (arith, weights-same ts)
 
-  named_weights-same : (ns : Named) → weights_named (of_var weight table) ns ≡ named_weights_of table ns
+  pub named_weights-same : (ns : Named) → weights_named (of_var weight table) ns ≡ named_weights_of table ns
   unfolding weight_of
   named_weights-same no_named = refl
   named_weights-same (more_named n r t ns) = omega (arith, named_weights-same ns)
 
   -- a class weighs more than its arguments
-  arguments_weigh : (c : ClassId) (ts : Types) → weights_of table ts < weight_of table (interface c ts)
+  pub arguments_weigh : (c : ClassId) (ts : Types) → weights_of table ts < weight_of table (interface c ts)
   unfolding weight_of
   arguments_weigh c ts = omega (arith, weights-same ts)
 

@@ -18,6 +18,7 @@ use Rattle.dart_types.specs.declared.class_rows.ClassRow.{ClassRow}
 use Rattle.dart_types.proofs.Above.{nullable_null}
 use Rattle.type_bounds.specs.NonNull.{non_null_of}
 use Rattle.type_bounds.specs.Factor.{factor_of}
+use Rattle.type_bounds.specs.BoundsOf.{upper_of, lower_of}
 use Rattle.type_bounds.specs.Common.{IsAbove, IsCommon, IsAlone}
 use Rattle.type_bounds.specs.Bounds.{AreApart, Upper, right_above, left_above, upper_apart, null_left, upper_functions, upper_of_others, one_class, two_classes, unbound_left, no_upper, one_upper, no_upper_name, upper_name, Lower, right_below, lower_apart, lower_functions, nothing_below, left_ends, one_lower, no_lower_name, lower_name}
 use Rattle.type_bounds.proofs.ClassSets.{IsIn, IsOut, each_in, put_in, not_below, above_in, interface_below}
@@ -478,3 +479,66 @@ upper_of_layers =
       alone = λ v both e. m_at_two v (shared both.0) e;
       deepest = λ v both lt alone. none_deeper v (shared both.0) lt alone;
     }))
+
+-- the same bounds, as they are computed
+computed_null : upper_of core null int ≡ nullable int
+unfolding upper_of lower_of sub measure weight_of deepness_of heaviest_of step_of ranks_of
+computed_null = refl
+
+computed_int : upper_of core (nullable int) int ≡ nullable int
+unfolding upper_of lower_of sub measure weight_of deepness_of heaviest_of step_of ranks_of
+computed_int = refl
+
+computed_classes : upper_of core int bool ≡ object
+unfolding upper_of lower_of sub measure weight_of deepness_of heaviest_of step_of ranks_of
+computed_classes = refl
+
+computed_lists : upper_of core (list int) (list bool) ≡ list object
+unfolding upper_of lower_of sub measure weight_of deepness_of heaviest_of step_of ranks_of
+computed_lists = refl
+
+computed_functions : upper_of core takes_null takes_int ≡ function (more int no_more) no_more (more_named (97 ∷ []) true int no_named) (nullable int)
+unfolding upper_of lower_of sub measure weight_of deepness_of heaviest_of step_of ranks_of
+computed_functions = refl
+
+computed_arities : upper_of core takes_one takes_none ≡ interface FUNCTION no_more
+unfolding upper_of lower_of sub measure weight_of deepness_of heaviest_of step_of ranks_of
+computed_arities = refl
+
+computed_unbound : upper_of core (variable (var_at 9)) int ≡ invalid
+unfolding upper_of lower_of sub measure weight_of deepness_of heaviest_of step_of ranks_of
+computed_unbound = refl
+
+computed_layers : upper_of layers c_type d_type ≡ m_type
+unfolding upper_of lower_of sub measure weight_of deepness_of heaviest_of step_of ranks_of
+computed_layers = refl
+
+computed_lower_int : lower_of core (nullable int) int ≡ int
+unfolding upper_of lower_of sub measure weight_of deepness_of heaviest_of step_of ranks_of
+computed_lower_int = refl
+
+computed_lower_null : lower_of core null int ≡ never
+unfolding upper_of lower_of sub measure weight_of deepness_of heaviest_of step_of ranks_of
+computed_lower_null = refl
+
+computed_lower_functions : lower_of core takes_null takes_int ≡ function (more (nullable int) no_more) no_more (more_named (97 ∷ []) false (nullable int) no_named) never
+unfolding upper_of lower_of sub measure weight_of deepness_of heaviest_of step_of ranks_of
+computed_lower_functions = refl
+
+-- X gives way to its bound, `X & U` to U, and `X & U` with `X & V` is X
+computed_variable : upper_of core x bool ≡ nullable object
+unfolding upper_of lower_of sub measure weight_of deepness_of heaviest_of step_of ranks_of
+computed_variable = refl
+
+computed_promoted : upper_of core bool (promoted (var_at 1) int) ≡ object
+unfolding upper_of lower_of sub measure weight_of deepness_of heaviest_of step_of ranks_of
+computed_promoted = refl
+
+computed_promoted_twice : upper_of core (promoted (var_at 1) int) (promoted (var_at 1) bool) ≡ x
+unfolding upper_of lower_of sub measure weight_of deepness_of heaviest_of step_of ranks_of
+computed_promoted_twice = refl
+
+-- Object is no function type, and a class has the bound Object with one
+computed_function_and_class : upper_of core takes_int int ≡ object
+unfolding upper_of lower_of sub measure weight_of deepness_of heaviest_of step_of ranks_of
+computed_function_and_class = refl

@@ -27,3 +27,7 @@ pub mod Examples
 pub mod Rooted
 pub mod Deepest
 pub mod OnePass
+pub mod CommonLists
+pub mod DeepestOf
+pub mod BoundsHold
+pub mod NonNullLaws

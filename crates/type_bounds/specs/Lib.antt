@@ -8,7 +8,8 @@ pub mod NamedView
 pub mod Signatures
 pub mod Common
 pub mod Bounds
-pub mod FormsSome
+pub mod CommonOf
+pub mod BoundsOf
 pub mod Valid
 pub mod Above
 pub mod Chains

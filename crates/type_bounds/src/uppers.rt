@@ -9,9 +9,10 @@ ghost use Rattle.dart_types.specs.Named.{named_of, names_of, AreInOrder};
 ghost use Rattle.dart_types.specs.Marks.{is_marked};
 ghost use Rattle.dart_types.specs.Node.{function_type};
 ghost use Rattle.dart_types.specs.Sub.{Sub};
+ghost use Rattle.dart_types.specs.Formed.{Forms};
 ghost use Rattle.type_bounds.specs.Bounds.{Upper, UpperApart, Uppers, UpperNamed, Lower, LowerApart, LowerParams, LowerNamed, AreApart, is_settled};
 ghost use Rattle.type_bounds.specs.Signatures.{have_upper_function, have_lower_function, same_names};
-ghost use Rattle.type_bounds.specs.FormsSome.{FormsSome};
+ghost use Rattle.type_bounds.specs.BoundsOf.{upper_of, lower_of};
 ghost use Rattle.type_bounds.specs.PartsView.{IsSomePart, AreSomeParts};
 ghost use Rattle.type_bounds.specs.NamedView.{AreSomeNamed};
 ghost use Rattle.type_bounds.specs.Valid.{IsValid};
@@ -30,15 +31,15 @@ use dart_types::{
 use std::alloc::{AllocError, Global};
 
 /// The upper bound of two types, by the rows of its table: `Invalid` where the table has no row for
-/// them, as for a variable without a bound. Where it holds no `Invalid` it is a supertype of both. It is
-/// refused exactly where more than `NODE_LIMIT` types would stand in it.
+/// them, as for a variable without a bound. Where it holds no `Invalid` it is a supertype of both.
+/// `TooLarge` comes exactly where more than `NODE_LIMIT` types would stand in it.
 pub fn upper(
     alloc: Global,
     rows: &Rows,
     s: &DartType,
     t: &DartType,
 ) -> Result<DartType, TypeRefusal>
-    ensures forms { FormsSome (Upper rows.now.table s.now t.now) result }
+    ensures forms { Forms result (upper_of rows.now.table s.now t.now) }
     ensures above { IfOk result (λ bound. IsValid bound → Sub rows.now.table s.now bound × Sub rows.now.table t.now bound) }
 {
     let part = upper_part(alloc, rows, s, t)?;
@@ -46,14 +47,14 @@ pub fn upper(
 }
 
 /// The lower bound of two types, by the rows of its table. Where it holds no `Invalid` it is a subtype
-/// of both. It is refused exactly where more than `NODE_LIMIT` types would stand in it.
+/// of both. `TooLarge` comes exactly where more than `NODE_LIMIT` types would stand in it.
 pub fn lower(
     alloc: Global,
     rows: &Rows,
     s: &DartType,
     t: &DartType,
 ) -> Result<DartType, TypeRefusal>
-    ensures forms { FormsSome (Lower rows.now.table s.now t.now) result }
+    ensures forms { Forms result (lower_of rows.now.table s.now t.now) }
     ensures below { IfOk result (λ bound. IsValid bound → Sub rows.now.table bound s.now × Sub rows.now.table bound t.now) }
 {
     let part = lower_part(alloc, rows, s, t)?;

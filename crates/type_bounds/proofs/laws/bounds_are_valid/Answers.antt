@@ -1,8 +1,15 @@
+use Rattle.type_bounds.proofs.BoundsHold.{upper_holds, lower_holds}
 use Rattle.type_bounds.proofs.ValidBounds.{upper_valid, lower_valid}
 use Rattle.type_bounds.proofs.laws.bounds_are_valid.Goals as goal
 
 pub returns-clause-upper : goal.returns-clause-upper
-returns-clause-upper c = λ a. upper_valid c.args._rows.now.table c.args._rows.now.formed c.requires.rows a c.requires.left c.requires.right
+returns-clause-upper c =
+    let table = c.args._rows.now.table in
+    let wf = c.args._rows.now.formed in
+    upper_valid table wf c.requires.rows (upper_holds table wf c.args._s.now c.args._t.now) c.requires.left c.requires.right
 
 pub returns-clause-lower : goal.returns-clause-lower
-returns-clause-lower c = λ a. lower_valid c.args._rows.now.table c.args._rows.now.formed c.requires.rows a c.requires.left c.requires.right
+returns-clause-lower c =
+    let table = c.args._rows.now.table in
+    let wf = c.args._rows.now.formed in
+    lower_valid table wf c.requires.rows (lower_holds table wf c.args._s.now c.args._t.now) c.requires.left c.requires.right
