@@ -1,5 +1,5 @@
 -- What stands for the parameters in a context, one after another.
-use Rattle.std.proofs.Common.{◌≡◌, ℕ, List, [], ◌∷◌, ◌++◌, Ok, Err, sym, subst, append_assoc, inl, inr}
+use Rattle.std.proofs.Common.{◌≡◌, ℕ, List, [], ◌∷◌, ◌++◌, Result, Ok, Err, sym, subst, append_assoc, inl, inr}
 use Rattle.std.proofs.lemmas.List.{append-nil}
 use Rattle.dart_types.specs.Ty.{Ty}
 use Rattle.dart_types.specs.Formed.{Forms}
@@ -12,10 +12,19 @@ use Rattle.type_infer.specs.Pairs.{Pair}
 use Rattle.type_infer.specs.Refusals.{same_refusal}
 use Rattle.type_infer.specs.Inference.{Gathered}
 use Rattle.type_infer.specs.Gathers.{EndsGathering}
-use Rattle.type_infer.specs.Contexts.{Known, none_left, one_solved, one_open, large_here, large_behind_solved, large_behind_open, ContextOf, formed, large_context, large_solution, large_match, FormsContext}
+use Rattle.type_infer.specs.Contexts.{Known, none_left, one_solved, one_open, large_here, large_behind_solved, large_behind_open, ContextOf, formed, large_context, large_solution, large_match}
 use Rattle.type_infer.specs.Knows.{EndsKnown, KnowsOne}
 use Rattle.type_infer.specs.declared.constraints.Constraint.{Constraint}
 use Rattle.type_infer.specs.declared.refusal.InferRefusal.{InferRefusal}
+use Rattle.type_infer.specs.declared.refusal.InferRefusal.TheVariants.{NoSolution, Unconstrained, TooLarge, Memory}
+
+-- what a call that forms a context answers: never that a parameter has no argument; only want of memory is free
+abbrev pub FormsContext : Table → List VarId → List Pair → Ty → Result Ty InferRefusal → Type 0
+FormsContext table params pairs formal (Ok context) = ContextOf table params pairs formal (Ok context)
+FormsContext table params pairs formal (Err (NoSolution x)) = ⊥
+FormsContext table params pairs formal (Err (Unconstrained x)) = ⊥
+FormsContext table params pairs formal (Err (TooLarge nodes)) = ContextOf table params pairs formal (Err nodes)
+FormsContext table params pairs formal (Err Memory) = Unit {0}
 
 module _ (table : Table) (cs : List Constraint) where
   -- so far on the way through all parameters: those that are left, and what is known

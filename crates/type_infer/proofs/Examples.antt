@@ -12,14 +12,19 @@ use Rattle.dart_types.specs.declared.ids.VarId.{VarId}
 use Rattle.dart_types.specs.declared.ids.TheConstants.{CORE, OBJECT}
 use Rattle.dart_types.specs.declared.class_rows.ClassRow.{ClassRow}
 use Rattle.dart_types.proofs.Above.{nullable_null}
+use Rattle.dart_types.specs.Measure.{measure, weight_of, deepness_of, heaviest_of, step_of, ranks_of}
 use Rattle.type_bounds.specs.Bounds.{upper_apart, null_right}
+use Rattle.type_bounds.specs.BoundsOf.{upper_of, lower_of}
 use Rattle.type_bounds.specs.Common.{IsAbove}
 use Rattle.type_infer.specs.Above.{IsOnlyAbove}
 use Rattle.type_infer.specs.Pairs.{Pair, paired}
 use Rattle.type_infer.specs.Matching.{ended, Match, faced, constrained, other_elsewhere}
 use Rattle.type_infer.specs.Solutions.{Solution, by_upper, no_other, one_other}
 use Rattle.type_infer.specs.Inference.{context_pair, Gathered, none_left, one_pair, Inferred, by_constraints, one_given, all_given, refused_here, solved, outside, no_bound}
+use Rattle.type_infer.specs.InferenceOf.{inferred_of, context_of_argument}
+use Rattle.type_infer.specs.MatchOf.{Found, match_of}
 use Rattle.type_infer.specs.declared.constraints.Side.TheVariants.{AtLeast}
+use Rattle.type_infer.specs.declared.contexts.TheConstants.{OPEN_PARAMETER}
 use Rattle.type_infer.specs.declared.constraints.Constraint.{Constraint}
 use Rattle.type_infer.specs.declared.refusal.InferRefusal.TheVariants.{NoSolution, Unconstrained}
 
@@ -134,3 +139,30 @@ none_alone us a =
 -- T isn't constrained where `Box<T>` faces the class, and the two fit if they are subtypes as they stand
 several_boxes : Match while_edited (t ∷ []) AtLeast (box_of (variable t)) (interface both_row.id no_more) [] (ended (sub while_edited (interface both_row.id no_more) (box_of (variable t))))
 several_boxes = faced refl (other_elsewhere refl none_alone)
+
+-- the same answers, as they are computed
+computed_nullable : inferred_of (rows_with (nullable object)) (t ∷ []) (variable t) None (variable t ∷ variable t ∷ []) (int ∷ null ∷ []) ≡ Ok (nullable int ∷ [])
+unfolding inferred_of match_of upper_of lower_of sub measure weight_of deepness_of heaviest_of step_of ranks_of
+computed_nullable = refl
+
+computed_no_solution : inferred_of (rows_with object) (t ∷ []) (variable t) None (variable t ∷ variable t ∷ []) (int ∷ null ∷ []) ≡ Err (NoSolution t)
+unfolding inferred_of match_of upper_of lower_of sub measure weight_of deepness_of heaviest_of step_of ranks_of
+computed_no_solution = refl
+
+computed_unconstrained : inferred_of (rows_with (nullable object)) (t ∷ []) (variable t) None [] [] ≡ Err (Unconstrained t)
+unfolding inferred_of match_of upper_of lower_of sub measure weight_of deepness_of heaviest_of step_of ranks_of
+computed_unconstrained = refl
+
+-- the second argument has the context int by the first, and the first one has an open one
+computed_context : context_of_argument (rows_with object) (t ∷ []) (variable t) None (variable t ∷ variable t ∷ []) (int ∷ []) ≡ Ok int
+unfolding context_of_argument match_of upper_of lower_of sub measure weight_of deepness_of heaviest_of step_of ranks_of
+computed_context = refl
+
+computed_open : context_of_argument (rows_with object) (t ∷ []) (variable t) None (variable t ∷ []) [] ≡ Ok (variable OPEN_PARAMETER)
+unfolding context_of_argument match_of upper_of lower_of sub measure weight_of deepness_of heaviest_of step_of ranks_of
+computed_open = refl
+
+-- and of two superinterfaces of one class none is the only one
+computed_boxes : (match_of while_edited (t ∷ []) AtLeast (box_of (variable t)) (interface both_row.id no_more)).constraints ≡ []
+unfolding match_of upper_of lower_of sub measure weight_of deepness_of heaviest_of step_of ranks_of
+computed_boxes = refl

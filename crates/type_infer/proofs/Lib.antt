@@ -2,6 +2,7 @@
 pub mod HandOn
 pub mod ReadTypes
 pub mod FoldSteps
+pub mod FormedSome
 pub mod GatherSteps
 pub mod ArgumentSteps
 pub mod ContextSteps
@@ -15,8 +16,10 @@ pub mod NameTests
 pub mod WaySteps
 pub mod AboveSteps
 pub mod Refusing
-pub mod SideMeasure
 pub mod SideFalls
 pub mod FindSteps
 pub mod MatchSteps
 pub mod NotOpen
+pub mod MatchHolds
+pub mod InferHolds
+pub mod Answered

@@ -29,7 +29,7 @@ use Rattle.type_infer.specs.Ways.{WayAtMark, kept, to_none, to_last, past_mark, 
 use Rattle.type_infer.specs.declared.constraints.Side.{Side}
 use Rattle.type_infer.specs.declared.constraints.Side.TheVariants.{AtLeast, AtMost}
 use Rattle.type_infer.proofs.NameTests.{join-types_of}
-use Rattle.type_infer.proofs.SideMeasure.{side_measure, pairs_measure}
+use Rattle.type_infer.specs.SideMeasure.{side_measure, pairs_measure}
 
 -- a normal form measures no more than its type
 weight_nullable : (f : VarMeasure) (u : Ty) → weight f (nullable_of u) ≤ weight f u + 2
@@ -137,12 +137,12 @@ module _ (table : Table) where
   Ms ps = pairs_measure table ps
 
   -- pairs that all measure less than a number
-  paired_below : (side : Side) (ts ss : Types) (n : ℕ) → ((t s : Ty) → HasType ts t → HasType ss s → M side t s < n) → Ms (paired side ts ss) ≤ n
+  pub paired_below : (side : Side) (ts ss : Types) (n : ℕ) → ((t s : Ty) → HasType ts t → HasType ss s → M side t s < n) → Ms (paired side ts ss) ≤ n
   paired_below side no_more ss n h = omega arith
   paired_below side (more t ts) no_more n h = omega arith
   paired_below side (more t ts) (more s ss) n h = omega (arith, h t s at_first at_first, paired_below side ts ss n (λ u v a b. h u v (at_later a) (at_later b)))
 
-  named_below : (side : Side) (ns ms : Named) (n : ℕ) → ((l m : List ℕ) (t s : Ty) → HasNamed ns l t → HasNamed ms m s → M side t s < n) → Ms (paired_by_name side ns ms) ≤ n
+  pub named_below : (side : Side) (ns ms : Named) (n : ℕ) → ((l m : List ℕ) (t s : Ty) → HasNamed ns l t → HasNamed ms m s → M side t s < n) → Ms (paired_by_name side ns ms) ≤ n
   named_below side no_named ms n h = omega arith
   named_below side (more_named l r t ns) ms n h = at (type_named ms l) refl (named_below side ns ms n (λ k m u v a b. h k m u v (later a) b))
     where
@@ -157,7 +157,7 @@ module _ (table : Table) where
   place_below side (x ∷ xs) (y ∷ ys) zero d e h k = omega arith
   place_below side (x ∷ xs) (y ∷ ys) (suc i) d e h k = omega (arith, place_below side xs ys i d e (omega arith) (omega arith))
 
-  pairs_append : (ps qs : List Pair) → Ms (ps ++ qs) ≡ max (Ms ps) (Ms qs)
+  pub pairs_append : (ps qs : List Pair) → Ms (ps ++ qs) ≡ max (Ms ps) (Ms qs)
   pairs_append [] qs = omega arith
   pairs_append (p ∷ ps) qs = omega (arith, pairs_append ps qs)
 

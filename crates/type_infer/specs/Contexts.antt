@@ -12,8 +12,6 @@ use Rattle.type_infer.specs.Solutions.{Solution, IsFree}
 use Rattle.type_infer.specs.Inference.{Gathered}
 use Rattle.type_infer.specs.declared.constraints.Constraint.{Constraint}
 use Rattle.type_infer.specs.declared.contexts.TheConstants.{OPEN_PARAMETER}
-use Rattle.type_infer.specs.declared.refusal.InferRefusal.{InferRefusal}
-use Rattle.type_infer.specs.declared.refusal.InferRefusal.TheVariants.{NoSolution, Unconstrained, TooLarge, Memory}
 
 -- what stands for each parameter in a context: its solution, in which `X & U` is read as X, where it is constrained, else the mark of an open parameter; or the number of nodes of the first type on the way that has more than a type may have
 pub data Known (table : Table) (cs : List Constraint) : List VarId → Result (List (VarId × Ty)) ℕ → Type 0 where
@@ -30,11 +28,3 @@ pub data ContextOf (table : Table) (params : List VarId) (pairs : List Pair) (fo
   large_context : {cs : List Constraint} {known : List (VarId × Ty)} → Gathered table params pairs (Ok cs) → Known table cs params (Ok known) → NODE_LIMIT < size_of (substituted known formal) → ContextOf table params pairs formal (Err (held (size_of (substituted known formal))))
   large_solution : {cs : List Constraint} {nodes : ℕ} → Gathered table params pairs (Ok cs) → Known table cs params (Err nodes) → ContextOf table params pairs formal (Err nodes)
   large_match : {nodes : ℕ} → Gathered table params pairs (Err nodes) → ContextOf table params pairs formal (Err nodes)
-
--- what a call that forms a context answers: never that a parameter has no argument; only want of memory is free
-abbrev pub FormsContext : Table → List VarId → List Pair → Ty → Result Ty InferRefusal → Type 0
-FormsContext table params pairs formal (Ok context) = ContextOf table params pairs formal (Ok context)
-FormsContext table params pairs formal (Err (NoSolution x)) = ⊥
-FormsContext table params pairs formal (Err (Unconstrained x)) = ⊥
-FormsContext table params pairs formal (Err (TooLarge nodes)) = ContextOf table params pairs formal (Err nodes)
-FormsContext table params pairs formal (Err Memory) = Unit {0}

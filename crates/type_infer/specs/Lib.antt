@@ -6,11 +6,16 @@ pub mod Constraints
 pub mod Pairs
 pub mod Above
 pub mod Matching
+pub mod SideMeasure
+pub mod AboveOf
+pub mod MatchOf
 pub mod Ways
 pub mod Finds
 pub mod Solutions
+pub mod FormsSome
 pub mod Solves
 pub mod Inference
+pub mod InferenceOf
 pub mod Gathers
 pub mod Gives
 pub mod Bounded

@@ -7,7 +7,7 @@ use Rattle.dart_types.specs.declared.ids.VarId.{VarId}
 use Rattle.dart_types.specs.declared.refusal.TypeRefusal.{TypeRefusal}
 use Rattle.dart_types.specs.declared.refusal.TypeRefusal.TheVariants.{TooLarge, Memory}
 use Rattle.type_bounds.specs.Bounds.{Upper, Lower}
-use Rattle.type_bounds.specs.FormsSome.{FormsSome}
+use Rattle.type_infer.specs.FormsSome.{FormsSome}
 use Rattle.type_infer.specs.Solutions.{Folded, Solution, IsFree}
 use Rattle.type_infer.specs.declared.constraints.Side.{Side}
 use Rattle.type_infer.specs.declared.constraints.Side.TheVariants.{AtLeast, AtMost}

@@ -1,12 +1,12 @@
 //! The context in which an argument is typed.
 
-ghost use Rattle.std.specs.Prelude.{◌≡◌, ◌<◌, false, length, Ok, IfOk, IfErr, slice_index_or};
+ghost use Rattle.std.specs.Prelude.{◌≡◌, ◌<◌, false, length, Ok, IfOk, IfErr};
 ghost use Rattle.std.specs.Option.{option_copied};
-ghost use Rattle.dart_types.specs.Ty.{invalid};
 ghost use Rattle.dart_types.specs.FormedTable.{FormedTable};
 ghost use Rattle.dart_types.specs.WellFormed.{IsOver};
-ghost use Rattle.type_infer.specs.Inference.{pairs_of};
-ghost use Rattle.type_infer.specs.Contexts.{FormsContext, Known};
+ghost use Rattle.type_infer.specs.Gives.{AnswersContext};
+ghost use Rattle.type_infer.specs.InferenceOf.{context_of_argument};
+ghost use Rattle.type_infer.specs.Contexts.{Known};
 ghost use Rattle.type_infer.specs.Knows.{EndsKnown, KnowsOne};
 ghost use Rattle.type_infer.specs.Open.{is_open};
 
@@ -80,8 +80,7 @@ pub fn context_of(
     done: &[DartType],
 ) -> Result<Context, InferRefusal>
     requires { length done.now < length formals.now }
-    ensures { let pairs = pairs_of returned.now (option_copied context.entry) formals.now done.now in
-        FormsContext rows.now.table params.now pairs (slice_index_or formals.now (length done.now) invalid) result }
+    ensures { AnswersContext result (context_of_argument rows.now.table params.now returned.now (option_copied context.entry) formals.now done.now) }
 {
     let found = gather(alloc, rows, params, returned, context, formals, done)?;
     let known = known_types(alloc, rows, &found, params)?;

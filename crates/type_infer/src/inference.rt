@@ -2,8 +2,9 @@
 
 ghost use Rattle.std.specs.Prelude.{◌≡◌, [], length};
 ghost use Rattle.std.specs.Option.{option_copied};
-ghost use Rattle.type_infer.specs.Gives.{Gives};
-ghost use Rattle.type_infer.specs.Inference.{pairs_of, Argument, Arguments, Inferred};
+ghost use Rattle.type_infer.specs.Gives.{Answers, Gives};
+ghost use Rattle.type_infer.specs.Inference.{Argument, Arguments};
+ghost use Rattle.type_infer.specs.InferenceOf.{inferred_of};
 
 use crate::bounds::{bound_as_argument, within_bound};
 use crate::constraints::Constraint;
@@ -38,8 +39,7 @@ pub fn infer_arguments(
     actuals: &[DartType],
 ) -> Result<TypeList, InferRefusal>
     requires { length formals.now ≡ length actuals.now }
-    ensures { let pairs = pairs_of returned.now (option_copied context.entry) formals.now actuals.now in
-        Gives (Inferred rows.now.table params.now pairs) result }
+    ensures { Answers result (inferred_of rows.now.table params.now returned.now (option_copied context.entry) formals.now actuals.now) }
 {
     let found = gather(alloc, rows, params, returned, context, formals, actuals)?;
     arguments_for(alloc, rows, &found, params)

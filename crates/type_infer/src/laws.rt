@@ -1,17 +1,34 @@
 //! Laws of inference, for all well-formed rows and all pairs of types.
 
-ghost use Rattle.std.specs.Prelude.{◌≡◌, ◌↔◌, ℕ, List, [], Ok, Err, Result};
-ghost use Rattle.dart_types.specs.Ty.{Ty};
+ghost use Rattle.std.specs.Prelude.{◌≡◌, ◌↔◌, ℕ, List, [], length, slice_index_or, Option, Ok, Err, Result};
+ghost use Rattle.dart_types.specs.Ty.{Ty, invalid};
 ghost use Rattle.type_infer.specs.Pairs.{Pair};
 ghost use Rattle.type_infer.specs.Contexts.{ContextOf};
-ghost use Rattle.type_infer.specs.Inference.{Inferred};
+ghost use Rattle.type_infer.specs.Inference.{pairs_of, Inferred};
+ghost use Rattle.type_infer.specs.InferenceOf.{inferred_of, context_of_argument};
+ghost use Rattle.type_infer.specs.Matching.{End, Match};
+ghost use Rattle.type_infer.specs.MatchOf.{match_of};
 ghost use Rattle.type_infer.specs.Reached.{HasNoSolution, IsUnconstrained};
 ghost use Rattle.type_infer.specs.Within.{AreWithinBounds};
+ghost use Rattle.type_infer.specs.declared.constraints.Constraint.{Constraint};
+ghost use Rattle.type_infer.specs.declared.constraints.Side.{Side};
 ghost use Rattle.type_infer.specs.declared.refusal.InferRefusal.{InferRefusal};
 ghost use Rattle.type_infer.specs.declared.refusal.InferRefusal.TheVariants.{NoSolution, Unconstrained};
 ghost use Rattle.dart_types.specs.declared.ids.VarId.{VarId};
 
 use dart_types::{Rows, VarId};
+
+/// The constraints, the arguments and the contexts that are computed are those that the rules derive,
+/// each of them one and no other; so it is with each refusal.
+pub fn answers_are_those_of_the_rules(_rows: &Rows, _params: &[VarId])
+    ensures matched { (side : Side) (t s : Ty) (cs : List Constraint) (end : End) → let found = match_of _rows.now.table _params.now side t s in
+        Match _rows.now.table _params.now side t s cs end ↔ ((cs ≡ found.constraints) × (end ≡ found.end)) }
+    ensures inferred { (returned : Ty) (context : Option Ty) (formals actuals : List Ty) (a : Result (List Ty) InferRefusal) → let table = _rows.now.table in
+        Inferred table _params.now (pairs_of returned context formals actuals) a ↔ (a ≡ inferred_of table _params.now returned context formals actuals) }
+    ensures context { (returned : Ty) (context : Option Ty) (formals done : List Ty) (a : Result Ty ℕ) → let table = _rows.now.table in
+        let So = ContextOf table _params.now (pairs_of returned context formals done) (slice_index_or formals (length done) invalid) in
+        So a ↔ (a ≡ context_of_argument table _params.now returned context formals done) }
+{}
 
 /// There is one argument for each parameter, and each is within the bound of its parameter, in which
 /// the arguments of those before it are put in.
@@ -20,8 +37,7 @@ pub fn inferred_arguments_are_within_bounds(_rows: &Rows, _params: &[VarId])
 {}
 
 /// The rules derive one answer at most: no others than these arguments, and no arguments where they
-/// refuse a call. So a call that isn't out of memory answers exactly what they derive, and refuses
-/// exactly where they do.
+/// refuse a call.
 pub fn inferred_arguments_are_unique(_rows: &Rows, _params: &[VarId])
     ensures { (pairs : List Pair) (a b : Result (List Ty) InferRefusal) → let So = Inferred _rows.now.table _params.now pairs in So a → So b → a ≡ b }
 {}

@@ -1,7 +1,7 @@
 //! What constraints make of a type parameter.
 
 ghost use Rattle.dart_types.specs.Formed.{Forms};
-ghost use Rattle.type_bounds.specs.FormsSome.{FormsSome};
+ghost use Rattle.type_infer.specs.FormsSome.{FormsSome};
 ghost use Rattle.type_infer.specs.Constraints.{types_on};
 ghost use Rattle.type_infer.specs.Solves.{bound_on, Folds, FormsWith, Solves};
 

@@ -6,10 +6,11 @@ use Rattle.dart_types.specs.Formed.{Forms}
 use Rattle.dart_types.specs.Normal.{substituted}
 use Rattle.dart_types.specs.declared.ids.VarId.{VarId}
 use Rattle.type_infer.specs.Inference.{pairs_of}
-use Rattle.type_infer.specs.Contexts.{Known, FormsContext}
+use Rattle.type_infer.specs.Contexts.{Known}
 use Rattle.type_infer.specs.Knows.{EndsKnown}
 use Rattle.type_infer.specs.declared.constraints.Constraint.{Constraint}
-use Rattle.type_infer.proofs.ContextSteps.{context_formed, context_refused, not_known, not_gathered}
+use Rattle.type_infer.proofs.Answered.{context_answer}
+use Rattle.type_infer.proofs.ContextSteps.{FormsContext, context_formed, context_refused, not_known, not_gathered}
 use Rattle.type_infer.proofs.HandOn.{handed_over}
 use Rattle.type_infer.proofs.contexts.context_of.Goals as goal
 
@@ -20,8 +21,9 @@ returns-in_err-found c =
     let params = c.args.params.now in
     let pairs = pairs_of c.args.returned.now (option_copied c.args.context) c.args.formals.now c.args.done.now in
     let formal = get_or c.args.formals.now (length c.args.done.now) invalid in
-    handed_over (λ r. FormsContext table params pairs formal r) c.from_residual.result c.in_err-found.field-0.0 c.from_residual.ensures.1
-    (λ said e. not_gathered table params pairs formal c.in_err-found.field-0.0 said c.in_err-found.ensures.err e)
+    context_answer table c.args.rows.now.formed params c.args.returned.now (option_copied c.args.context) c.args.formals.now c.args.done.now c.from_residual.result
+    (handed_over (λ r. FormsContext table params pairs formal r) c.from_residual.result c.in_err-found.field-0.0 c.from_residual.ensures.1
+    (λ said e. not_gathered table params pairs formal c.in_err-found.field-0.0 said c.in_err-found.ensures.err e))
 
 -- a solution
 pub returns-in_err-known : goal.returns-in_err-known
@@ -31,8 +33,9 @@ returns-in_err-known c =
     let pairs = pairs_of c.args.returned.now (option_copied c.args.context) c.args.formals.now c.args.done.now in
     let formal = get_or c.args.formals.now (length c.args.done.now) invalid in
     let ended = subst (λ (cs : List Constraint). EndsKnown table cs params c.in_err-known.field-0.0) c.deref.ensures.value c.in_err-known.ensures.err in
-    handed_over (λ r. FormsContext table params pairs formal r) c.from_residual-in_err-known.result c.in_err-known.field-0.0 c.from_residual-in_err-known.ensures.1
-    (λ said e. not_known table params pairs formal c.in_ok-found.ensures.ok c.in_err-known.field-0.0 said ended e)
+    context_answer table c.args.rows.now.formed params c.args.returned.now (option_copied c.args.context) c.args.formals.now c.args.done.now c.from_residual-in_err-known.result
+    (handed_over (λ r. FormsContext table params pairs formal r) c.from_residual-in_err-known.result c.in_err-known.field-0.0 c.from_residual-in_err-known.ensures.1
+    (λ said e. not_known table params pairs formal c.in_ok-found.ensures.ok c.in_err-known.field-0.0 said ended e))
 
 -- or the context
 pub returns-in_err-ty : goal.returns-in_err-ty
@@ -49,8 +52,9 @@ returns-in_err-ty c =
     subst (λ (t : Ty). Forms (Err c.in_err-ty.field-0.0) (substituted c.in_ok-known.known.items t)) same
     (subst (λ (ps : List (VarId × Ty)). Forms (Err c.in_err-ty.field-0.0) (substituted ps c.index-formals-done.result)) c.deref-2.ensures.value c.in_err-ty.ensures)
     in
-    handed_over (λ r. FormsContext table params pairs formal r) c.from_residual-in_err-ty.result c.in_err-ty.field-0.0 c.from_residual-in_err-ty.ensures.1
-    (λ said e. context_refused table params pairs formal c.in_ok-found.ensures.ok known c.in_err-ty.field-0.0 said ended e)
+    context_answer table c.args.rows.now.formed params c.args.returned.now (option_copied c.args.context) c.args.formals.now c.args.done.now c.from_residual-in_err-ty.result
+    (handed_over (λ r. FormsContext table params pairs formal r) c.from_residual-in_err-ty.result c.in_err-ty.field-0.0 c.from_residual-in_err-ty.ensures.1
+    (λ said e. context_refused table params pairs formal c.in_ok-found.ensures.ok known c.in_err-ty.field-0.0 said ended e))
 
 pub returns : goal.returns
 returns c =
@@ -66,4 +70,5 @@ returns c =
     subst (λ (t : Ty). Forms (Ok c.in_ok-ty.ty) (substituted c.in_ok-known.known.items t)) same
     (subst (λ (ps : List (VarId × Ty)). Forms (Ok c.in_ok-ty.ty) (substituted ps c.index-formals-done.result)) c.deref-2.ensures.value c.in_ok-ty.ensures)
     in
-    context_formed table params pairs formal c.in_ok-found.ensures.ok known c.in_ok-ty.ty done
+    context_answer table c.args.rows.now.formed params c.args.returned.now (option_copied c.args.context) c.args.formals.now c.args.done.now (Ok c.in_ok-ty.ty)
+    (context_formed table params pairs formal c.in_ok-found.ensures.ok known c.in_ok-ty.ty done)

@@ -16,7 +16,7 @@ use Rattle.type_infer.proofs.FindSteps.{finds_part, all_passed, passed_one, ende
 use Rattle.type_infer.proofs.FindSteps as find
 use Rattle.type_infer.proofs.MatchSteps.{finds_fixed, finds_faced, finds_way_at_mark, finds_no_way_at_mark, taken_at_mark, marked_at_mark, finds_at, bare_node, no_class, no_function, class_leaf, function_leaf, finds_leaf, finds_null, finds_both_marked, finds_bare, way_stands, finds_way, finds_no_way, finds_one_class, finds_above_other, finds_other_elsewhere, finds_other_refused, finds_above_formal, finds_formal_elsewhere, finds_formal_refused, at_positional, at_names, finds_other_signature, finds_no_params, finds_params_refused, finds_no_names, finds_names_refused, finds_result}
 use Rattle.type_infer.proofs.Refusing.{at_refusal}
-use Rattle.type_infer.proofs.SideMeasure.{side_measure, pairs_measure}
+use Rattle.type_infer.specs.SideMeasure.{side_measure, pairs_measure}
 use Rattle.type_infer.proofs.SideFalls.{way_least_at_mark, both_bare_fall, bare_falls, way_least, arguments_below, other_above_below, formal_above_below, params_below, names_below, result_below, place_below, name_below}
 use Rattle.type_infer.proofs.matching.Matcher.+matching.Goals as goal
 

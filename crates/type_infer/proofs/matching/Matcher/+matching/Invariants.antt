@@ -4,7 +4,7 @@ use Rattle.dart_types.specs.Named.{named_of}
 use Rattle.dart_types.specs.Node.{function_type}
 use Rattle.dart_types.specs.Forms.{params_of}
 use Rattle.type_infer.specs.Pairs.{paired, paired_by_name}
-use Rattle.type_infer.proofs.SideMeasure.{side_measure, pairs_measure}
+use Rattle.type_infer.specs.SideMeasure.{side_measure, pairs_measure}
 use Rattle.type_infer.proofs.FindSteps.{Passes}
 use Rattle.type_infer.proofs.matching.Matcher.+matching.Given as goal
 

@@ -1,5 +1,5 @@
 -- How far matching goes down: as far as the test whether one type is a subtype of the other.
-use Rattle.std.proofs.Common.{ℕ, ◌+◌, max, List, [], ◌∷◌}
+use Rattle.std.specs.Prelude.{ℕ, ◌+◌, max, List, [], ◌∷◌}
 use Rattle.dart_types.specs.Ty.{Ty}
 use Rattle.dart_types.specs.Tables.{Table}
 use Rattle.dart_types.specs.Measure.{measure}
