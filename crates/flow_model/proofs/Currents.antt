@@ -1,0 +1,115 @@
+-- What tests promote a local to, and models that agree on what is known of one.
+use Rattle.std.proofs.Common.{◌≡◌, Bool, true, false, List, [], ◌∷◌, ◌++◌, if◌then◌else◌, Some, refl, sym, ap, ◌∙◌}
+use Rattle.std.specs.Option.{option_map}
+use Rattle.dart_types.specs.Ty.{Ty}
+use Rattle.dart_types.specs.Same.{same_type}
+use Rattle.dart_types.specs.Tables.{Table}
+use Rattle.dart_types.specs.WellFormed.{IsWellFormed}
+use Rattle.dart_types.specs.Sub.{Sub, reflexivity}
+use Rattle.dart_types.proofs.SameType.{same_type-refl, equal_from_same_type}
+use Rattle.dart_types.proofs.Transitive.{trans}
+use Rattle.type_bounds.specs.NonNull.{non_null_of}
+use Rattle.flow_model.specs.TypeTests.{proper_sub, is_formed, is_in}
+use Rattle.flow_model.specs.Flow.{FlowModel, facts_of, last_or, current_of, current_in}
+use Rattle.flow_model.specs.Promote.{promoted_facts, tested_as, promote_facts, without_null_of, non_null_facts, below_current, append_facts}
+use Rattle.flow_model.specs.Assign.{kept_chain}
+use Rattle.flow_model.specs.Chains.{Descends}
+use Rattle.flow_model.specs.Order.{kept_in, tested_in}
+use Rattle.flow_model.specs.declared.locals.LocalId.{LocalId}
+use Rattle.flow_model.specs.declared.locals.Facts.{Facts}
+use Rattle.flow_model.proofs.JoinLaws.{is_in-union}
+use Rattle.flow_model.proofs.SaysMore.{right_true}
+use Rattle.flow_model.proofs.Descents.{tested_below, without_null_below, known_below}
+
+-- what two models say alike of a local is the same of its facts in both
+alike : {X : Type 0} (read : Facts → X) (a b : FlowModel) (var : LocalId) → option_map read (facts_of a var) ≡ option_map read (facts_of b var) → (l m : Facts) → facts_of a var ≡ Some l → facts_of b var ≡ Some m → read l ≡ read m
+alike read a b var same l m is_l is_m =
+    let both : Some (read l) ≡ Some (read m) = sym (ap (option_map read) is_l) ∙ (same ∙ ap (option_map read) is_m) in
+    cc
+
+-- its current type
+pub current_alike : (a b : FlowModel) (var : LocalId) → current_in a var ≡ current_in b var → (l m : Facts) → facts_of a var ≡ Some l → facts_of b var ≡ Some m → current_of l ≡ current_of m
+current_alike a b var same l m is_l is_m = alike current_of a b var same l m is_l is_m
+
+-- the types that it was tested for
+pub tested_alike : (a b : FlowModel) (var : LocalId) → tested_in a var ≡ tested_in b var → (l m : Facts) → facts_of a var ≡ Some l → facts_of b var ≡ Some m → l.tested ≡ m.tested
+tested_alike a b var same l m is_l is_m = alike (λ f. f.tested) a b var same l m is_l is_m
+
+-- the type that a written value leaves it
+pub kept_alike : (table : Table) (written : Ty) (a b : FlowModel) (var : LocalId) → kept_in table written a var ≡ kept_in table written b var → (l m : Facts) → facts_of a var ≡ Some l → facts_of b var ≡ Some m → last_or l.ty (kept_chain table written l) ≡ last_or m.ty (kept_chain table written m)
+kept_alike table written a b var same l m is_l is_m =
+    alike (λ f. last_or f.ty (kept_chain table written f)) a b var same l m is_l is_m
+
+-- the last of two lists, one behind the other
+last_or-append : (t : Ty) (us vs : List Ty) → last_or t (us ++ vs) ≡ last_or (last_or t us) vs
+last_or-append t [] vs = refl
+last_or-append t (u ∷ us) vs = last_or-append u us vs
+
+-- a promotion to one type, of a local that isn't captured
+promotes_to : (types : List Ty) (t : Ty) (l : Facts) → l.captured ≡ false → types ≡ t ∷ [] → current_of (promoted_facts types l) ≡ t
+promotes_to types t l free one =
+    last_or-append l.ty l.chain (if l.captured then [] else types) ∙ (rw (free, one) refl)
+
+module _ (table : Table) where
+  -- a tested type is of interest
+  pub test_is_of_interest : (to : Ty) (l : Facts) → is_in (promote_facts table to l).tested to ≡ true
+  test_is_of_interest to l =
+      let one : is_in (to ∷ []) to ≡ true = rw (same_type-refl to) refl in
+      is_in-union l.tested (to ∷ []) to ∙ right_true (is_in l.tested to) (is_in (to ∷ []) to) one
+
+  -- a test promotes to its type
+  pub test_promotes : (to : Ty) (l : Facts) → l.captured ≡ false → proper_sub table to (current_of l) ≡ true → current_of (promote_facts table to l) ≡ to
+  test_promotes to l free below =
+      let one : tested_as table to (current_of l) ≡ to ∷ [] = rw below refl in
+      promotes_to (tested_as table to (current_of l)) to l free one
+
+  -- so does a type that is known without a test
+  pub append_promotes : (to : Ty) (l : Facts) → l.captured ≡ false → proper_sub table to (current_of l) ≡ true → current_of (append_facts table to l) ≡ to
+  append_promotes to l free below =
+      let one : below_current table to (current_of l) ≡ to ∷ [] = rw below refl in
+      promotes_to (below_current table to (current_of l)) to l free one
+
+  -- the step of the next lemma
+  without_null_at : (l : Facts) (same : Bool) → same_type (non_null_of table (current_of l)) (current_of l) ≡ same → l.captured ≡ false → is_formed (non_null_of table (current_of l)) ≡ true → current_of (non_null_facts table l) ≡ non_null_of table (current_of l)
+  without_null_at l true e free formed =
+      let none : without_null_of table (current_of l) ≡ [] = rw e refl in
+      last_or-append l.ty l.chain (if l.captured then [] else without_null_of table (current_of l))
+      ∙ ((rw (free, none) refl) ∙ sym (equal_from_same_type (non_null_of table (current_of l)) (current_of l) e))
+  without_null_at l false e free formed =
+      let one : without_null_of table (current_of l) ≡ non_null_of table (current_of l) ∷ [] = rw (e, formed) refl in
+      promotes_to (without_null_of table (current_of l)) (non_null_of table (current_of l)) l free one
+
+  -- a local that isn't null has its type without null
+  pub non_null_promotes : (l : Facts) → l.captured ≡ false → is_formed (non_null_of table (current_of l)) ≡ true → current_of (non_null_facts table l) ≡ non_null_of table (current_of l)
+  non_null_promotes l = without_null_at l (same_type (non_null_of table (current_of l)) (current_of l)) refl
+
+  module _ (wf : IsWellFormed table) where
+    -- the last of types that descend is below
+    last_below : (t : Ty) (us : List Ty) → Descends table t us → Sub table (last_or t us) t
+    last_below t [] down = reflexivity
+    last_below t (u ∷ us) down = trans table wf u (last_or u us) t (last_below u us down.1) down.0
+
+    -- the last of types that stand only where a local isn't captured
+    last_below_if : (t : Ty) (us : List Ty) (captured : Bool) → Descends table t us → Sub table (last_or t (if captured then [] else us)) t
+    last_below_if t us true down = reflexivity
+    last_below_if t us false down = last_below t us down
+
+    -- a promotion to types that descend from the current one
+    promoted_narrows : (types : List Ty) (l : Facts) → Descends table (current_of l) types → Sub table (current_of (promoted_facts types l)) (current_of l)
+    promoted_narrows types l down =
+        rw (last_or-append l.ty l.chain (if l.captured then [] else types)) (last_below_if (current_of l) types l.captured down)
+
+    -- a test
+    pub test_narrows : (to : Ty) (l : Facts) → Sub table (current_of (promote_facts table to l)) (current_of l)
+    test_narrows to l =
+        promoted_narrows (tested_as table to (current_of l)) l (tested_below table to (current_of l))
+
+    -- that it isn't null
+    pub non_null_narrows : (l : Facts) → Sub table (current_of (non_null_facts table l)) (current_of l)
+    non_null_narrows l =
+        promoted_narrows (without_null_of table (current_of l)) l (without_null_below table (current_of l))
+
+    -- that it has a type
+    pub append_narrows : (to : Ty) (l : Facts) → Sub table (current_of (append_facts table to l)) (current_of l)
+    append_narrows to l =
+        promoted_narrows (below_current table to (current_of l)) l (known_below table to (current_of l))

@@ -1,0 +1,423 @@
+//! Flow models and the calls that change them.
+
+ghost use Rattle.std.specs.Prelude.{◌≡◌, ◌∷◌, [], false, IfOk, IfErr, OnOk, OnErr, IsNone, IsTrue, ◌↔◌, is_some};
+ghost use Rattle.std.specs.Option.{option_copied, option_map, option_map_or};
+ghost use Rattle.flow_model.specs.Flow.{at_local, current_of, facts_of, declare_of, start_of, end_of, AreDistinct, IsInOrder};
+ghost use Rattle.flow_model.specs.Assign.{assign_facts};
+ghost use Rattle.flow_model.specs.Join.{join_of};
+ghost use Rattle.flow_model.specs.Promote.{append_facts, non_null_facts, promote_facts};
+ghost use Rattle.flow_model.specs.Steps.{conservative_of, exit_of};
+ghost use Rattle.flow_model.specs.Restrict.{restrict_of};
+ghost use Rattle.flow_model.specs.Place.{StandsAt, WouldStandAt};
+
+use crate::join::join_locals;
+use crate::local::Local;
+use crate::locals::{Facts, LocalDecl, LocalId};
+use crate::restrict::{Changes, restrict_locals};
+use dart_types::{DartType, Rows};
+use std::alloc::{AllocError, Global};
+use std::marker::Model;
+
+/// What is known of the locals at a point of a body.
+///
+/// The locals in scope stand in the order of their numbers, so one is found by a binary search. A
+/// copy of a model shares what is known of each local, until one of the two changes it.
+#[derive(Drop)]
+pub struct Flow {
+    reachable: bool,
+    locals: Vec<Local>,
+}
+
+impl Model for Flow {
+    ghost use Rattle.flow_model.specs.Flow.{FlowModel, flow_code};
+
+    ghost Value = { FlowModel };
+
+    ghost coded = { flow_code };
+
+    ghost use Rattle.flow_model.specs.Flow.{IsInOrder};
+
+    ghost view = { λ a. record { reachable = a.reachable; locals = a.locals.items } };
+
+    ghost invariant = { λ a. IsInOrder a.locals.items };
+}
+
+impl Flow {
+    /// The model at the start of a body: it is reached, and these locals are in scope. They may
+    /// come in any order.
+    pub fn start(alloc: Global, vars: &[LocalDecl]) -> Result<Flow, AllocError>
+        requires { AreDistinct vars.now }
+        ensures { IfOk result (λ flow. flow ≡ start_of vars.now) }
+    {
+        let mut flow = Flow {
+            reachable: true,
+            locals: Vec::new(alloc),
+        };
+        for var in vars {
+            flow.declare(alloc, var)?;
+        }
+        Ok(flow)
+    }
+
+    /// Puts a local in scope. This costs a search and a move of the locals of greater numbers, of
+    /// which a declaration in the order of the text has none. After an `Err` the model is as before.
+    pub fn declare(&mut self, alloc: Global, var: &LocalDecl) -> Result<(), AllocError>
+        requires { IsNone (facts_of self.old var.now.var) }
+        ensures ok { OnOk result (self.new ≡ declare_of self.old var.now) }
+        ensures err { OnErr result (self.new ≡ self.old) }
+    {
+        let local = Local::fresh(alloc, var)?;
+        match self.search(var.var) {
+            Ok(_) => unreachable!(),
+            Err(place) => {
+                self.locals.insert(place, local)?;
+                Ok(())
+            }
+        }
+    }
+
+    /// Takes these locals out of scope; one that isn't in scope is passed over. It takes no memory.
+    /// Each costs a search and a move of the locals of greater numbers, the last of the list first,
+    /// so that nothing is moved where those declared last are ended in the order of the text.
+    pub fn end(&mut self, vars: &[LocalId])
+        ensures { self.new ≡ end_of self.old vars.now }
+    {
+        for i in (0..vars.len()).rev() {
+            self.remove(vars[i]);
+        }
+    }
+
+    /// A law of every model: its locals stand in the order of their numbers.
+    pub fn locals_are_in_order(&self)
+        ensures { IsInOrder self.now.locals }
+    {
+        // Opens the invariant for the contract.
+        let _ = &self.locals;
+    }
+
+    // Takes one local out of scope.
+    fn remove(&mut self, var: LocalId)
+        ensures { self.new ≡ end_of self.old (var ∷ []) }
+    {
+        if let Ok(place) = self.search(var) {
+            self.locals.remove(place);
+        }
+    }
+
+    /// The current type of a local: None exactly where it isn't in scope.
+    pub fn current(&self, var: LocalId) -> Option<&DartType>
+        ensures { option_copied result ≡ option_map current_of (facts_of self.now var) }
+    {
+        match self.facts(var) {
+            Some(facts) => Some(facts.current()),
+            None => None,
+        }
+    }
+
+    /// The declared type of a local: None exactly where it isn't in scope.
+    pub fn declared(&self, var: LocalId) -> Option<&DartType>
+        ensures { option_copied result ≡ option_map (λ l. l.ty) (facts_of self.now var) }
+    {
+        match self.facts(var) {
+            Some(facts) => Some(&facts.ty),
+            None => None,
+        }
+    }
+
+    /// Whether a local is in scope.
+    pub fn is_in_scope(&self, var: LocalId) -> bool
+        ensures { result ≡ is_some (facts_of self.now var) }
+    {
+        self.facts(var).is_some()
+    }
+
+    /// Whether the point can be reached.
+    pub fn reachable(&self) -> bool
+        ensures { result ≡ self.now.reachable }
+    {
+        self.reachable
+    }
+
+    /// Whether a local has a value for certain; false for one that isn't in scope.
+    pub fn is_assigned(&self, var: LocalId) -> bool
+        ensures { result ≡ option_map_or (λ l. l.assigned) (facts_of self.now var) false }
+    {
+        match self.facts(var) {
+            Some(facts) => facts.assigned,
+            None => false,
+        }
+    }
+
+    /// Whether a local has no value for certain; false for one that isn't in scope.
+    pub fn is_unassigned(&self, var: LocalId) -> bool
+        ensures { result ≡ option_map_or (λ l. l.unassigned) (facts_of self.now var) false }
+    {
+        match self.facts(var) {
+            Some(facts) => facts.unassigned,
+            None => false,
+        }
+    }
+
+    /// Whether a function that writes a local may have been made; false for one that isn't in scope.
+    pub fn is_captured(&self, var: LocalId) -> bool
+        ensures { result ≡ option_map_or (λ l. l.captured) (facts_of self.now var) false }
+    {
+        match self.facts(var) {
+            Some(facts) => facts.captured,
+            None => false,
+        }
+    }
+
+    /// A test has told that a local has the type `to`, which is of interest from now on. Unless the
+    /// local is captured, it is promoted to `to` where that is a proper subtype of its current type;
+    /// else, where the current type is a type variable X, or an `X & U`, and `to` is a proper subtype
+    /// of the bound of X, or of U, to `X & to`, unless more than `NODE_LIMIT` types would stand in it.
+    /// One that isn't in scope is passed over. After an `Err` the model is as before.
+    pub fn promote(
+        &mut self,
+        alloc: Global,
+        rows: &Rows,
+        var: LocalId,
+        to: &DartType,
+    ) -> Result<(), AllocError>
+        ensures ok { OnOk result (self.new ≡ at_local self.old var (promote_facts rows.now.table to.now)) }
+        ensures err { OnErr result (self.new ≡ self.old) }
+    {
+        match self.search(var) {
+            Ok(place) => {
+                let changed = self.locals[place].promote(alloc, rows, to)?;
+                self.locals[place] = changed;
+                Ok(())
+            }
+            Err(_) => Ok(()),
+        }
+    }
+
+    /// A local isn't null: unless it is captured, it is promoted to its current type without null,
+    /// where that is another type and no more than `NODE_LIMIT` types stand in it. One that isn't in
+    /// scope is passed over. After an `Err` the model is as before.
+    pub fn non_null(&mut self, alloc: Global, rows: &Rows, var: LocalId) -> Result<(), AllocError>
+        ensures ok { OnOk result (self.new ≡ at_local self.old var (non_null_facts rows.now.table)) }
+        ensures err { OnErr result (self.new ≡ self.old) }
+    {
+        match self.search(var) {
+            Ok(place) => {
+                let changed = self.locals[place].non_null(alloc, rows)?;
+                self.locals[place] = changed;
+                Ok(())
+            }
+            Err(_) => Ok(()),
+        }
+    }
+
+    /// A local is known to have the type `to`, as after a test that failed: unless it is captured, it
+    /// is promoted to `to` where that is a proper subtype of its current type. The type isn't of
+    /// interest thereby. One that isn't in scope is passed over. After an `Err` the model is as before.
+    pub fn append(
+        &mut self,
+        alloc: Global,
+        rows: &Rows,
+        var: LocalId,
+        to: &DartType,
+    ) -> Result<(), AllocError>
+        ensures ok { OnOk result (self.new ≡ at_local self.old var (append_facts rows.now.table to.now)) }
+        ensures err { OnErr result (self.new ≡ self.old) }
+    {
+        match self.search(var) {
+            Ok(place) => {
+                let changed = self.locals[place].append(alloc, rows, to)?;
+                self.locals[place] = changed;
+                Ok(())
+            }
+            Err(_) => Ok(()),
+        }
+    }
+
+    /// A local is written with a value of the type `written`. It has a value from now on. It stays
+    /// promoted to the types that `written` is a subtype of, and unless it is captured it is promoted
+    /// to `written`, where that is of interest and a proper subtype of the current type, else to the
+    /// least type of interest between the two, if there is one. One that isn't in scope is passed over.
+    /// After an `Err` the model is as before.
+    pub fn assign(
+        &mut self,
+        alloc: Global,
+        rows: &Rows,
+        var: LocalId,
+        written: &DartType,
+    ) -> Result<(), AllocError>
+        ensures ok { OnOk result (self.new ≡ at_local self.old var (assign_facts rows.now.table written.now)) }
+        ensures err { OnErr result (self.new ≡ self.old) }
+    {
+        match self.search(var) {
+            Ok(place) => {
+                let changed = self.locals[place].assign(alloc, rows, written)?;
+                self.locals[place] = changed;
+                Ok(())
+            }
+            Err(_) => Ok(()),
+        }
+    }
+
+    /// Makes the point one that isn't reached, as one behind a `return` or `throw`. It takes no
+    /// memory.
+    pub fn exit(&mut self)
+        ensures { self.new ≡ exit_of self.old }
+    {
+        self.reachable = false;
+    }
+
+    /// The model where two paths of one scope meet. A local has or hasn't a value where that is
+    /// certain on both, is promoted to the types that it was promoted to on both, in the order of
+    /// the first, and is captured where it is on either. A path that isn't reached adds nothing to
+    /// the other. Of different scopes it pairs the locals by their places, as far as both go.
+    pub fn join(alloc: Global, a: &Flow, b: &Flow) -> Result<Flow, AllocError>
+        ensures { IfOk result (λ joined. joined ≡ join_of a.now b.now) }
+    {
+        if !b.reachable {
+            return a.copy(alloc);
+        }
+        if !a.reachable {
+            return b.copy(alloc);
+        }
+        let locals = join_locals(alloc, &a.locals, &b.locals)?;
+        Ok(Flow {
+            reachable: true,
+            locals,
+        })
+    }
+
+    /// Forgets what code that may run any number of times, or at a later time, could change: of
+    /// the locals that it writes or captures, what they are promoted to and that they have no
+    /// value. Those that it captures are captured from now on. It costs a copy of the model, and a
+    /// binary search for each entry of both lists. After an `Err` the model is as before.
+    pub fn conservative_join(
+        &mut self,
+        alloc: Global,
+        written: &[LocalId],
+        captured: &[LocalId],
+    ) -> Result<(), AllocError>
+        ensures ok { OnOk result (self.new ≡ conservative_of self.old written.now captured.now) }
+        ensures err { OnErr result (self.new ≡ self.old) }
+    {
+        let mut forgotten = self.copy(alloc)?;
+        for var in written {
+            forgotten.forget_written(alloc, *var)?;
+        }
+        for var in captured {
+            forgotten.forget_captured(alloc, *var)?;
+        }
+        *self = forgotten;
+        Ok(())
+    }
+
+    /// A function that writes these locals has been made, so that they may be written at any time:
+    /// each is captured from now on, is promoted to nothing and may have a value. One that isn't in
+    /// scope is passed over. After an `Err` the model is as before.
+    pub fn capture(&mut self, alloc: Global, vars: &[LocalId]) -> Result<(), AllocError>
+        ensures ok { OnOk result (self.new ≡ conservative_of self.old [] vars.now) }
+        ensures err { OnErr result (self.new ≡ self.old) }
+    {
+        self.conservative_join(alloc, &[], vars)
+    }
+
+    /// The model behind a `try` with a `finally` block, from the model behind its body and handlers
+    /// and the one behind the block, which began with a conservative join. Of the locals that the
+    /// block writes or captures is known what the block leaves; of each other what the body leaves,
+    /// and what the block adds to it. The point is reached where both are. Of different scopes it
+    /// pairs the locals by their places, as far as both go.
+    pub fn restrict(
+        alloc: Global,
+        rows: &Rows,
+        body: &Flow,
+        block: &Flow,
+        written: &[LocalId],
+        captured: &[LocalId],
+    ) -> Result<Flow, AllocError>
+        ensures { IfOk result (λ flow. flow ≡ restrict_of rows.now.table body.now block.now written.now captured.now) }
+    {
+        let changes = Changes { written, captured };
+        let locals = restrict_locals(alloc, rows, &body.locals, &block.locals, &changes)?;
+        Ok(Flow {
+            reachable: body.reachable && block.reachable,
+            locals,
+        })
+    }
+
+    /// A second value of the same model. It shares what is known of each local, and has room for
+    /// one more.
+    pub fn copy(&self, alloc: Global) -> Result<Flow, AllocError>
+        ensures { IfOk result (λ copied. copied ≡ self.now) }
+    {
+        let mut locals = Vec::with_capacity(alloc, self.locals.len().saturating_add(1))?;
+        for local in &self.locals {
+            locals.push(local.share()?)?;
+        }
+        Ok(Flow {
+            reachable: self.reachable,
+            locals,
+        })
+    }
+
+    /// Whether both are the same model. It compares what is known of each local.
+    pub fn is_same(&self, other: &Flow) -> bool
+        ensures { IsTrue result ↔ (self.now ≡ other.now) }
+    {
+        self.reachable == other.reachable && have_same_facts(&self.locals, &other.locals)
+    }
+
+    // Forgets what code that writes the local could change.
+    fn forget_written(&mut self, alloc: Global, var: LocalId) -> Result<(), AllocError>
+        ensures { OnOk result (self.new ≡ conservative_of self.old (var ∷ []) []) }
+    {
+        if let Ok(place) = self.search(var) {
+            let changed = self.locals[place].forget(alloc)?;
+            self.locals[place] = changed;
+        }
+        Ok(())
+    }
+
+    // Forgets what code that captures the local could change; it is captured from now on.
+    fn forget_captured(&mut self, alloc: Global, var: LocalId) -> Result<(), AllocError>
+        ensures { OnOk result (self.new ≡ conservative_of self.old [] (var ∷ [])) }
+    {
+        if let Ok(place) = self.search(var) {
+            let changed = self.locals[place].capture(alloc)?;
+            self.locals[place] = changed;
+        }
+        Ok(())
+    }
+
+    // What is known of a local.
+    fn facts(&self, var: LocalId) -> Option<&Facts>
+        ensures { option_copied result ≡ facts_of self.now var }
+    {
+        match self.search(var) {
+            Ok(place) => Some(self.locals[place].facts()),
+            Err(_) => None,
+        }
+    }
+
+    // Where the local stands, or else where it would.
+    fn search(&self, var: LocalId) -> Result<usize, usize>
+        ensures found { IfOk result (StandsAt self.now.locals var) }
+        ensures absent { IfErr result (WouldStandAt self.now.locals var) }
+    {
+        self.locals
+            .binary_search_by_key(&var.0, |local| local.facts().var.0)
+    }
+}
+
+// Whether both lists have the same facts, in the same order.
+fn have_same_facts(locals: &[Local], others: &[Local]) -> bool
+    ensures { IsTrue result ↔ (locals.now ≡ others.now) }
+{
+    if locals.len() != others.len() {
+        return false;
+    }
+    for i in 0..locals.len() {
+        if !locals[i].is_same(&others[i]) {
+            return false;
+        }
+    }
+    true
+}
