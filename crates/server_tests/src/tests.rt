@@ -74,9 +74,9 @@ fn bytes_in(alloc: Global, text: &str) -> Result<Vec<u8>, Fail> {
 
 /// A run of the program, over a store of one file.
 #[derive(Clone, Copy)]
-struct Run<'t> {
+struct Run<'w, 't> {
     /// The words of the command line, each behind a blank.
-    words: &'t str,
+    words: &'w str,
     /// What fails, none if it is empty: `read`, `write` or `store`, a call of the store, and the number
     /// of the call, from 0.
     fails: &'t str,
@@ -103,7 +103,7 @@ fn failing(alloc: Global, fails: &str, kind: &str) -> Result<Vec<u64>, Fail> {
 }
 
 /// A store of the file.
-fn store(alloc: Global, run: Run<'_>) -> Result<MemoryFiles, Fail> {
+fn store(alloc: Global, run: Run<'_, '_>) -> Result<MemoryFiles, Fail> {
     let (path, text) = run.file;
     let path = PlainText::new(alloc, path)?;
     let bytes = PlainBytes::from_vec(bytes_in(alloc, text)?);
@@ -132,7 +132,7 @@ fn sink(alloc: Global, fails: &str) -> Result<MemorySink, Fail> {
 /// Whether a run over this input ends with this status and writes these bytes.
 fn ends(
     alloc: Global,
-    run: Run<'_>,
+    run: Run<'_, '_>,
     input: Vec<u8>,
     status: &str,
     output: &[u8],
