@@ -1,5 +1,3 @@
-//! Subtypes, and models of what is known of locals.
-
 use small_flow::{DartType, Flow, LocalDecl, LocalId, Rows, TypeList, TypeNode, is_subtype};
 use std::alloc::{AllocError, Global};
 use std::test::Fail;
@@ -12,237 +10,136 @@ fn maybe_int(alloc: Global) -> Result<DartType, AllocError> {
     DartType::nullable(alloc, plain(TypeNode::Int))
 }
 
-// The type of a letter, as the table writes it.
-fn type_of(alloc: Global, letter: u8) -> Result<DartType, Fail> {
-    let node = match letter {
-        b'E' => TypeNode::Never,
-        b'N' => TypeNode::Null,
-        b'i' => TypeNode::Int,
-        b'n' => return Ok(maybe_int(alloc)?),
-        b'b' => TypeNode::Bool,
-        b'!' => TypeNode::Invalid,
-        _ => return Err("no letter of types".into()),
-    };
-    Ok(plain(node))
-}
-
-// Types that are subtypes of others, `S < TT`, and such that aren't, `S /< TT`, by the language
-// specification's rules. The letters are E for `Never`, N for `Null`, i for `int`, n for `int?`, b for
-// `bool`, and ! for the type of what a diagnostic leaves open.
-const SUBTYPES: &str = "\
-E < ENinb!
-N < Nn
-N /< Eib!
-i < in
-i /< ENb!
-n < n
-n /< ENib!
-b < b
-b /< ENin!
-! < !
-! /< ENinb";
-
-// The types of some letters.
-fn types_of(alloc: Global, letters: &str) -> Result<TypeList, Fail> {
-    let mut types = TypeList::new(alloc);
-    for letter in letters.as_bytes() {
-        types.push(type_of(alloc, *letter)?)?;
-    }
-    Ok(types)
-}
-
-// Whether a type is a subtype of all of these, or of none.
-fn are_subtypes(rows: &Rows, s: &DartType, types: &[DartType], holds: bool) -> bool {
-    types.iter().all(|t| is_subtype(rows, s, t) == holds)
-}
-
-// The texts before the sign of a line and behind it, and whether the sign is `<`.
-fn claim_of(line: &str) -> Result<(&str, &str, bool), Fail> {
-    if let Some((s, types)) = line.split_once(" /< ") {
-        return Ok((s, types, false));
-    }
-    match line.split_once(" < ") {
-        Some((s, types)) => Ok((s, types, true)),
-        None => Err("a sign is missing in a line".into()),
-    }
-}
-
-// Whether the types of a line are subtypes just where it says so.
-fn is_right(alloc: Global, rows: &Rows, line: &str) -> Result<bool, Fail> {
-    let (s, types, holds) = claim_of(line)?;
-    let s = types_of(alloc, s)?.copy(alloc)?;
-    let types = types_of(alloc, types)?;
-    match s.as_slice() {
-        [s] => Ok(are_subtypes(rows, s, types.as_slice(), holds)),
-        _ => Err("one type stands before the sign".into()),
-    }
-}
-
+// Subtypes of one another, by the language specification's rules. The last row and column are of
+// the type of what a diagnostic leaves open.
 #[test]
 fn subtypes_are_those_of_the_rules(rt: HostRuntime) -> Result<(), Fail> {
     let alloc = rt.alloc();
     let rows = Rows::new().copy(alloc)?;
-    for line in SUBTYPES.lines() {
-        assert!(rt; is_right(alloc, &rows, line)?, "{line}");
+    let mut types = TypeList::new(alloc);
+    types.push(plain(TypeNode::Never))?;
+    types.push(plain(TypeNode::Null))?;
+    types.push(plain(TypeNode::Int))?;
+    types.push(maybe_int(alloc)?)?;
+    types.push(plain(TypeNode::Bool))?;
+    types.push(plain(TypeNode::Invalid))?;
+    let types = types.copy(alloc)?;
+    let expected = [
+        [true, true, true, true, true, true],
+        [false, true, false, true, false, false],
+        [false, false, true, true, false, false],
+        [false, false, false, true, false, false],
+        [false, false, false, false, true, false],
+        [false, false, false, false, false, true],
+    ];
+    for (s, row) in types.as_slice().iter().zip(expected.iter()) {
+        for (t, holds) in types.as_slice().iter().zip(row.iter()) {
+            assert_eq!(rt; is_subtype(&rows, s, t), *holds);
+        }
     }
-    let int = maybe_int(alloc)?.non_null(alloc)?;
-    assert!(rt; int.is_same(&plain(TypeNode::Int)));
-    let mut types = types_of(alloc, "Ni")?;
-    types.clear();
-    assert!(rt; types.as_slice().is_empty());
     Ok(())
 }
 
-// The locals of the models: x of the type `int?`, and y of the type `bool`.
-const X: LocalId = LocalId(3);
-
-const Y: LocalId = LocalId(5);
-
-fn local_x(alloc: Global, assigned: bool) -> Result<LocalDecl, AllocError> {
-    Ok(LocalDecl {
-        var: X,
+// A local of the type `int?` is an int after a write of an int, and `int?` again after one of null.
+#[test]
+fn writes_promote_and_demote(rt: HostRuntime) -> Result<(), Fail> {
+    let alloc = rt.alloc();
+    let rows = Rows::new();
+    let x = LocalId(3);
+    let y = LocalId(1);
+    let flag = LocalDecl {
+        var: x,
         ty: maybe_int(alloc)?,
-        assigned,
-        unassigned: !assigned,
-    })
-}
-
-fn local_y(assigned: bool) -> LocalDecl {
-    LocalDecl {
-        var: Y,
-        ty: plain(TypeNode::Bool),
-        assigned,
-        unassigned: !assigned,
-    }
-}
-
-fn name(t: &DartType) -> &'static str {
-    match &t.node {
-        TypeNode::Invalid => "invalid",
-        TypeNode::Never => "Never",
-        TypeNode::Null => "Null",
-        TypeNode::Int => "int",
-        TypeNode::Bool => "bool",
-        TypeNode::Nullable(_) => flag(t.admits_null(), "int?"),
-    }
-}
-
-// A word where a flag is set.
-fn flag(set: bool, word: &'static str) -> &'static str {
-    if set { word } else { "" }
-}
-
-// What is known of a local: its current type, behind `assigned`, `unassigned` and `captured`.
-fn local_told(alloc: Global, flow: &Flow, var: LocalId) -> Result<String, AllocError> {
-    let Some(ty) = flow.current(var) else {
-        return format!(in alloc; "out of scope");
+        assigned: false,
+        unassigned: true,
     };
-    let assigned = flag(flow.is_assigned(var), "assigned ");
-    let unassigned = flag(flow.is_unassigned(var), "unassigned ");
-    let captured = flag(flow.is_captured(var), "captured ");
-    format!(in alloc; "{assigned}{unassigned}{captured}{}", name(ty))
-}
+    let mut flow = Flow::start(alloc, &[flag.copy(alloc)?])?;
+    assert!(rt; flow.reachable());
+    assert!(rt; flow.is_in_scope(x));
+    assert!(rt; !flow.is_assigned(x));
+    flow.assign(alloc, &rows, x, &plain(TypeNode::Int))?;
+    assert!(rt; flow.is_assigned(x));
+    let promoted = flow.current(x).ok_or("not in scope")?;
+    assert!(rt; promoted.is_same(&plain(TypeNode::Int)));
 
-// Tells what a model knows of both locals, in a line.
-fn tell(alloc: Global, told: &mut String, flow: &Flow) -> Result<(), AllocError> {
-    let x = local_told(alloc, flow, X)?;
-    let y = local_told(alloc, flow, Y)?;
-    let reached = flag(flow.reachable(), "reached, ");
-    let line = format!(in alloc; "{reached}x {x}, y {y}\n")?;
-    told.push_str(&line)
-}
-
-// Writes a value of this type into x, and tells what is known then.
-fn write_x(
-    alloc: Global,
-    told: &mut String,
-    flow: &mut Flow,
-    written: TypeNode,
-) -> Result<(), AllocError> {
-    if flow.is_in_scope(X) {
-        flow.assign(alloc, &Rows::new(), X, &plain(written))?;
-    }
-    tell(alloc, told, flow)
-}
-
-// A local of the type `int?` is an int after a write of an int, and `int?` again after one of null; a
-// copy doesn't change with what it was made of.
-const WRITES: &str = "\
-reached, x unassigned int?, y out of scope
-reached, x assigned int, y out of scope
-reached, x assigned int, y assigned bool
-reached, x assigned int?, y assigned bool
-reached, x assigned int, y assigned bool
-reached, x out of scope, y out of scope
-";
-
-fn writes(alloc: Global) -> Result<String, AllocError> {
-    let mut told = String::new(alloc);
-    let mut flow = Flow::start(alloc, &[local_x(alloc, false)?])?;
-    tell(alloc, &mut told, &flow)?;
-    write_x(alloc, &mut told, &mut flow, TypeNode::Int)?;
-    if !flow.is_in_scope(Y) {
-        flow.declare(alloc, &local_y(true))?;
-    }
+    assert!(rt; !flow.is_in_scope(y));
+    let other = LocalDecl {
+        var: y,
+        ty: plain(TypeNode::Bool),
+        assigned: true,
+        unassigned: false,
+    };
+    flow.declare(alloc, &other)?;
     let mut after = flow.copy(alloc)?;
-    tell(alloc, &mut told, &after)?;
-    if !after.is_same(&flow) {
-        told.push_str("a copy differs\n")?;
-    }
-    write_x(alloc, &mut told, &mut after, TypeNode::Null)?;
-    if after.is_same(&flow) {
-        told.push_str("a write changes nothing\n")?;
-    }
-    tell(alloc, &mut told, &flow)?;
-    after.end(&[Y, LocalId(9), X]);
-    tell(alloc, &mut told, &after)?;
-    Ok(told)
+    assert!(rt; after.is_in_scope(x));
+    assert!(rt; after.is_same(&flow));
+    after.assign(alloc, &rows, x, &plain(TypeNode::Null))?;
+    assert!(rt; !after.is_same(&flow));
+    let demoted = after.current(x).ok_or("not in scope")?;
+    assert!(rt; demoted.is_same(&maybe_int(alloc)?));
+    let kept = flow.current(x).ok_or("not in scope")?;
+    assert!(rt; kept.is_same(&maybe_int(alloc)?.non_null(alloc)?));
+
+    after.end(&[y, LocalId(9), x]);
+    assert!(rt; after.current(x).is_none());
+    assert!(rt; after.current(y).is_none());
+    Ok(())
 }
 
-// Where two paths meet, a local of the type `int?` is an int just where it is one on both of those that
-// are reached; a loop that writes it makes it `int?` again, and one that is captured is told so.
-const PATHS: &str = "\
-reached, x assigned int?, y unassigned bool
-reached, x assigned int, y unassigned bool
-x assigned int?, y unassigned bool
-reached, x assigned int, y unassigned bool
-reached, x assigned int, y unassigned bool
-reached, x assigned int, y unassigned bool
-reached, x assigned int?, y unassigned bool
-reached, x assigned int?, y captured bool
-reached, x assigned int, y unassigned bool
-";
-
-// Tells what is known where two paths meet.
-fn tell_met(alloc: Global, told: &mut String, a: &Flow, b: &Flow) -> Result<(), AllocError> {
-    let met = Flow::join(alloc, a, b)?;
-    tell(alloc, told, &met)
-}
-
-fn paths(alloc: Global) -> Result<String, AllocError> {
-    let mut told = String::new(alloc);
-    let before = Flow::start(alloc, &[local_y(false), local_x(alloc, true)?])?;
+// Where two paths meet, a local of the type `int?` is an int just where it is one on both of those
+// that are reached; a loop that writes it makes it `int?` again.
+#[test]
+fn paths_meet(rt: HostRuntime) -> Result<(), Fail> {
+    let alloc = rt.alloc();
+    let x = LocalId(3);
+    let y = LocalId(5);
+    let declared = LocalDecl {
+        var: x,
+        ty: maybe_int(alloc)?,
+        assigned: true,
+        unassigned: false,
+    };
+    let other = LocalDecl {
+        var: y,
+        ty: plain(TypeNode::Bool),
+        assigned: false,
+        unassigned: true,
+    };
+    let before = Flow::start(alloc, &[other, declared])?;
     let mut narrowed = before.copy(alloc)?;
-    narrowed.non_null(alloc, X)?;
+    narrowed.non_null(alloc, x)?;
     let mut left = before.copy(alloc)?;
     left.exit();
-    for flow in [&before, &narrowed, &left] {
-        tell(alloc, &mut told, flow)?;
-    }
-    tell_met(alloc, &mut told, &narrowed, &narrowed)?;
-    tell_met(alloc, &mut told, &left, &narrowed)?;
-    tell_met(alloc, &mut told, &narrowed, &left)?;
-    tell_met(alloc, &mut told, &before, &narrowed)?;
-    let kept = narrowed.copy(alloc)?;
-    narrowed.conservative_join(alloc, &[X], &[Y])?;
-    tell(alloc, &mut told, &narrowed)?;
-    tell(alloc, &mut told, &kept)?;
-    Ok(told)
-}
 
-#[test]
-fn models_know_what_their_lines_say(rt: HostRuntime) -> Result<(), Fail> {
-    assert_eq!(rt; writes(rt.alloc())?.as_str(), WRITES);
-    assert_eq!(rt; paths(rt.alloc())?.as_str(), PATHS);
+    let mut types = TypeList::new(alloc);
+    for (a, b) in [
+        (&narrowed, &narrowed),
+        (&left, &narrowed),
+        (&narrowed, &left),
+        (&before, &narrowed),
+    ] {
+        let met = Flow::join(alloc, a, b)?;
+        assert!(rt; met.reachable());
+        types.push(met.current(x).ok_or("not in scope")?.copy(alloc)?)?;
+    }
+    let int = plain(TypeNode::Int);
+    for (t, is_int) in types
+        .as_slice()
+        .iter()
+        .zip([true, true, true, false].iter())
+    {
+        assert_eq!(rt; t.is_same(&int), *is_int);
+    }
+    types.clear();
+    assert!(rt; types.as_slice().is_empty());
+
+    let kept = narrowed.copy(alloc)?;
+    narrowed.conservative_join(alloc, &[x], &[y])?;
+    assert!(rt; kept.current(x).ok_or("not in scope")?.is_same(&int));
+    assert!(rt; !kept.is_captured(y));
+    assert!(rt; narrowed.current(x).ok_or("not in scope")?.admits_null());
+    assert!(rt; narrowed.is_captured(y));
+    assert!(rt; !narrowed.is_unassigned(y));
+    assert!(rt; !narrowed.is_captured(x));
     Ok(())
 }
