@@ -1,5 +1,6 @@
 -- What one direct supertype gives a class, from the superinterfaces that are known.
-use Rattle.std.proofs.Common.{◌≡◌, ◌<◌, ◌≤◌, List, [], Some, None, refl, sym, ◌∙◌, ap, subst, arith, inl, inr}
+use Rattle.std.specs.declared.rc.Rc.{Rc}
+use Rattle.std.proofs.Common.{Global, ◌≡◌, ◌<◌, ◌≤◌, List, [], Some, None, refl, sym, ◌∙◌, ap, subst, arith, inl, inr}
 use Rattle.std.specs.Prelude.{◌⊎◌, Contains, find}
 use Rattle.std.specs.Option.{option_map}
 use Rattle.std.proofs.lemmas.List.Elements.{All-contains, All-nil}
@@ -36,7 +37,7 @@ use Rattle.dart_types.proofs.Replacing.{replaced_nothing}
 use Rattle.dart_types.proofs.Descents.{given, giving}
 
 -- a direct supertype has the form of an interface
-pub must_be_interface : (params : List VarId) (node : TypeNode) → IsSupertype params (type_of node) → ((class : ClassId) (args : TypeList) → node ≡ Interface class args → ⊥) → ⊥
+pub must_be_interface : (params : List VarId) (node : TypeNode) → IsSupertype params (type_of node) → ((class : ClassId) (args : Rc TypeList Global) → node ≡ Interface class args → ⊥) → ⊥
 must_be_interface params Invalid i other = i
 must_be_interface params Never i other = i
 must_be_interface params Void i other = i

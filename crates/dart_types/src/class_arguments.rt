@@ -10,7 +10,7 @@ use crate::refusal::{NODE_LIMIT, TypeRefusal};
 use crate::scopes::{Scope, SeenList};
 use crate::seen_equality::are_lists_same;
 use crate::superinterfaces::Superinterface;
-use crate::types::{DartType, TypeList, TypeNode};
+use crate::types::{DartType, TypeList};
 use std::alloc::Global;
 
 /// The type parameters of a class, and the arguments that it has for them. A parameter without an
@@ -40,12 +40,8 @@ impl Superinterface {
             return Err(TypeRefusal::TooLarge { nodes });
         }
         let args = self.args.form_with(alloc, &replacements)?;
-        Ok(DartType {
-            node: TypeNode::Interface {
-                class: self.class,
-                args,
-            },
-        })
+        let formed = DartType::interface(alloc, self.class, args)?;
+        Ok(formed)
     }
 
     /// Whether this superinterface and another are the same type where the classes that they are of

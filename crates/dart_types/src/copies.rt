@@ -1,4 +1,4 @@
-//! Second values of types.
+//! Second values of types. The parts of a type are shared, so a copy clones pointers to them.
 
 ghost use Rattle.std.specs.Prelude.{◌≡◌, IfOk};
 
@@ -6,9 +6,8 @@ use crate::types::{DartType, FunctionType, NamedType, NamedTypes, TypeList, Type
 use std::alloc::{AllocError, Global};
 
 impl DartType {
-    /// A second value of the same type.
-    #[cycle(copy)]
-    pub fn copy(&self, alloc: Global) -> Result<DartType, AllocError>
+    /// A second value of the same type, which shares its parts. No part is gone into.
+    pub fn copy(&self, _alloc: Global) -> Result<DartType, AllocError>
         ensures { IfOk result (λ copied. copied ≡ self.now) }
     {
         let node = match &self.node {
@@ -16,37 +15,24 @@ impl DartType {
             TypeNode::Never => TypeNode::Never,
             TypeNode::Void => TypeNode::Void,
             TypeNode::Null => TypeNode::Null,
-            TypeNode::Interface { class, args } => {
-                let copied = args.copy(alloc)?;
-                TypeNode::Interface {
-                    class: *class,
-                    args: copied,
-                }
-            }
-            TypeNode::Function(function) => {
-                let copied = function.copy(alloc)?;
-                TypeNode::Function(Box::new(alloc, copied)?)
-            }
+            TypeNode::Interface { class, args } => TypeNode::Interface {
+                class: *class,
+                args: args.clone()?,
+            },
+            TypeNode::Function(function) => TypeNode::Function(function.clone()?),
             TypeNode::Var(var) => TypeNode::Var(*var),
-            TypeNode::Promoted { var, to } => {
-                let copied = to.copy(alloc)?;
-                TypeNode::Promoted {
-                    var: *var,
-                    to: Box::new(alloc, copied)?,
-                }
-            }
-            TypeNode::Nullable(bare) => {
-                let copied = bare.copy(alloc)?;
-                TypeNode::Nullable(Box::new(alloc, copied)?)
-            }
+            TypeNode::Promoted { var, to } => TypeNode::Promoted {
+                var: *var,
+                to: to.clone()?,
+            },
+            TypeNode::Nullable(bare) => TypeNode::Nullable(bare.clone()?),
         };
         Ok(DartType { node })
     }
 }
 
 impl FunctionType {
-    /// A second value of the same parameters and result.
-    #[cycle(copy)]
+    /// A second value of the same parameters and result, whose parts are shared.
     pub fn copy(&self, alloc: Global) -> Result<FunctionType, AllocError>
         ensures { IfOk result (λ copied. copied ≡ self.now) }
     {
@@ -64,8 +50,7 @@ impl FunctionType {
 }
 
 impl TypeList {
-    /// A second list of the same types.
-    #[cycle(copy)]
+    /// A second list of the same types, whose parts are shared.
     pub fn copy(&self, alloc: Global) -> Result<TypeList, AllocError>
         ensures { IfOk result (λ copied. copied ≡ self.now) }
     {
@@ -78,8 +63,7 @@ impl TypeList {
 }
 
 impl NamedType {
-    /// A second value of the same parameter.
-    #[cycle(copy)]
+    /// A second value of the same parameter, whose type shares its parts.
     pub fn copy(&self, alloc: Global) -> Result<NamedType, AllocError>
         ensures { IfOk result (λ copied. copied ≡ self.now) }
     {
@@ -94,8 +78,7 @@ impl NamedType {
 }
 
 impl NamedTypes {
-    /// A second list of the same parameters.
-    #[cycle(copy)]
+    /// A second list of the same parameters, whose types share their parts.
     pub fn copy(&self, alloc: Global) -> Result<NamedTypes, AllocError>
         ensures { IfOk result (λ copied. copied ≡ self.now) }
     {

@@ -49,6 +49,6 @@ pub use refusal::{NODE_LIMIT, RowsRefusal, TypeRefusal};
 pub use rows::Rows;
 pub use sizes::size;
 pub use substitution::substitute;
-pub use subtyping::is_subtype;
+pub use subtyping::{is_subtype, is_subtype_of_object};
 pub use superinterfaces::{Superinterface, superinterfaces_of_class};
 pub use types::{DartType, FunctionType, NamedType, NamedTypes, TypeList, TypeNode};

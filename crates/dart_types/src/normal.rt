@@ -1,7 +1,7 @@
 //! Normal forms.
 
 ghost use Rattle.std.specs.Prelude.{◌≡◌, IfOk};
-ghost use Rattle.dart_types.specs.Ty.{variable, interface, no_more, types_of};
+ghost use Rattle.dart_types.specs.Ty.{variable, interface, promoted, no_more, types_of};
 ghost use Rattle.dart_types.specs.Named.{named_of};
 ghost use Rattle.dart_types.specs.Node.{function_type};
 ghost use Rattle.dart_types.specs.Normal.{nullable_of};
@@ -12,18 +12,47 @@ use crate::pairs::find_replacement;
 use crate::replacements::Replacement;
 use crate::types::{DartType, FunctionType, NamedType, NamedTypes, TypeList, TypeNode};
 use std::alloc::{AllocError, Global};
+use std::rc::Rc;
 
 impl DartType {
-    /// A class without arguments, as `Object`. It takes no memory.
-    pub fn class(alloc: Global, class: ClassId) -> DartType
-        ensures { result ≡ interface class no_more }
+    /// A class without arguments, as `Object`.
+    pub fn class(alloc: Global, class: ClassId) -> Result<DartType, AllocError>
+        ensures { IfOk result (λ t. t ≡ interface class no_more) }
     {
-        DartType {
+        DartType::interface(alloc, class, TypeList::new(alloc))
+    }
+
+    /// A class with these arguments.
+    pub fn interface(alloc: Global, class: ClassId, args: TypeList) -> Result<DartType, AllocError>
+        ensures { IfOk result (λ t. t ≡ interface class (types_of args)) }
+    {
+        Ok(DartType {
             node: TypeNode::Interface {
                 class,
-                args: TypeList::new(alloc),
+                args: Rc::new(alloc, args)?,
             },
-        }
+        })
+    }
+
+    /// A function type.
+    pub fn function(alloc: Global, function: FunctionType) -> Result<DartType, AllocError>
+        ensures { IfOk result (λ t. t ≡ function_type function) }
+    {
+        Ok(DartType {
+            node: TypeNode::Function(Rc::new(alloc, function)?),
+        })
+    }
+
+    /// `X & U`.
+    pub fn promoted(alloc: Global, var: VarId, to: DartType) -> Result<DartType, AllocError>
+        ensures { IfOk result (λ t. t ≡ promoted var to) }
+    {
+        Ok(DartType {
+            node: TypeNode::Promoted {
+                var,
+                to: Rc::new(alloc, to)?,
+            },
+        })
     }
 
     /// The normal form of `bare?`, of a type in normal form: a second `?` adds nothing, neither does
@@ -41,7 +70,7 @@ impl DartType {
             | TypeNode::Function(_)
             | TypeNode::Var(_)
             | TypeNode::Promoted { .. } => Ok(DartType {
-                node: TypeNode::Nullable(Box::new(alloc, bare)?),
+                node: TypeNode::Nullable(Rc::new(alloc, bare)?),
             }),
         }
     }
@@ -63,22 +92,25 @@ impl DartType {
             TypeNode::Void => TypeNode::Void,
             TypeNode::Null => TypeNode::Null,
             TypeNode::Interface { class, args } => {
+                if args.items.is_empty() {
+                    return self.copy(alloc);
+                }
                 let formed = args.form_with(alloc, replacements)?;
                 TypeNode::Interface {
                     class: *class,
-                    args: formed,
+                    args: Rc::new(alloc, formed)?,
                 }
             }
             TypeNode::Function(function) => {
                 let formed = function.form_with(alloc, replacements)?;
-                TypeNode::Function(Box::new(alloc, formed)?)
+                TypeNode::Function(Rc::new(alloc, formed)?)
             }
             TypeNode::Var(var) => return form_var(alloc, *var, replacements),
             TypeNode::Promoted { var, to } => {
                 let formed = to.form_with(alloc, replacements)?;
                 TypeNode::Promoted {
                     var: *var,
-                    to: Box::new(alloc, formed)?,
+                    to: Rc::new(alloc, formed)?,
                 }
             }
             TypeNode::Nullable(bare) => {

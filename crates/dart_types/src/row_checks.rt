@@ -161,16 +161,18 @@ fn is_object_alone(types: &[DartType]) -> bool
     if types.len() != 1 {
         return false;
     }
-    is_object(&types[0])
+    types[0].is_object()
 }
 
-// Whether the type is `Object`.
-fn is_object(t: &DartType) -> bool
-    ensures { IsTrue result ↔ (t.now ≡ object) }
-{
-    match &t.node {
-        TypeNode::Interface { class, args } => *class == OBJECT && args.as_slice().is_empty(),
-        _ => false,
+impl DartType {
+    /// Whether the type is `Object`. It takes no memory.
+    pub fn is_object(&self) -> bool
+        ensures { IsTrue result ↔ (self.now ≡ object) }
+    {
+        match &self.node {
+            TypeNode::Interface { class, args } => *class == OBJECT && args.as_slice().is_empty(),
+            _ => false,
+        }
     }
 }
 

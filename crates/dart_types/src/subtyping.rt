@@ -2,7 +2,7 @@
 
 ghost use Rattle.std.specs.Prelude.{◌≡◌, ◌≢◌, ◌≤◌, true, false, length, IsTrue, ◌↔◌, ◌⊎◌};
 ghost use Rattle.dart_types.specs.Ty.{variable, nullable, promoted, interface, null, invalid};
-ghost use Rattle.dart_types.specs.Heads.{is_object};
+ghost use Rattle.dart_types.specs.Heads.{object, is_object};
 ghost use Rattle.dart_types.specs.Forms.{form_of, seen_types, seen_function, seen_params, seen_named};
 ghost use Rattle.dart_types.specs.Targets.{is_bare_target, or_nullable};
 ghost use Rattle.dart_types.specs.Sub.{Sub, Subs, SubParams, SubNamed};
@@ -32,6 +32,27 @@ pub fn is_subtype(rows: &Rows, s: &DartType, t: &DartType) -> bool
         scope: &root,
     };
     is_below(rows, &left.form(), &right.form())
+}
+
+/// Whether s is a subtype of `Object`: null is no value of it. It takes no memory.
+pub fn is_subtype_of_object(rows: &Rows, s: &DartType) -> bool
+    ensures test { result ≡ sub rows.now.table s.now object }
+    ensures rules { IsTrue result ↔ Sub rows.now.table s.now object }
+{
+    let root = Scope::root();
+    let left = Seen {
+        ty: s,
+        scope: &root,
+    };
+    let none = SeenList {
+        types: &[],
+        scope: &root,
+    };
+    let right = Form::Interface {
+        class: OBJECT,
+        args: none,
+    };
+    is_below(rows, &left.form(), &right)
 }
 
 // Whether s is a subtype of t.

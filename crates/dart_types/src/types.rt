@@ -1,4 +1,5 @@
-//! Types as values: a type, a function type, and lists of them.
+//! Types as values: a type, a function type, and lists of them. A type shares its parts with its
+//! copies.
 
 ghost use Rattle.std.specs.Prelude.{◌≡◌, ◌++◌, ◌∷◌, [], OnOk, OnErr, All, IsTrue, ◌↔◌};
 ghost use Rattle.dart_types.specs.Named.{IsNameBefore, AreInOrder, names_of};
@@ -8,6 +9,7 @@ use plain_text::PlainText;
 use std::alloc::{AllocError, Global};
 use std::cmp::Ordering;
 use std::marker::Model;
+use std::rc::Rc;
 
 /// The form of a type.
 #[cycle(dart_type)]
@@ -22,15 +24,15 @@ pub enum TypeNode {
     /// `Null`, which has the value null alone.
     Null,
     /// A class with its type arguments, as `Map<int, String>`.
-    Interface { class: ClassId, args: TypeList },
+    Interface { class: ClassId, args: Rc<TypeList> },
     /// A function type, as `int Function(String, {bool b})`.
-    Function(Box<FunctionType>),
+    Function(Rc<FunctionType>),
     /// A type variable.
     Var(VarId),
     /// `X & U`, of the values of the type variable X that have the type U too.
-    Promoted { var: VarId, to: Box<DartType> },
+    Promoted { var: VarId, to: Rc<DartType> },
     /// `U?`, of the values of U and null.
-    Nullable(Box<DartType>),
+    Nullable(Rc<DartType>),
 }
 
 /// A type. Contracts see it as its value `Ty`, so that types with equal parts are equal.
@@ -86,7 +88,7 @@ pub struct NamedType {
     pub ty: DartType,
 }
 
-/// A list of types. Contracts see it as the list of their values.
+/// A list of types. A type holds it shared. Contracts see it as the list of their values.
 #[cycle(dart_type)]
 #[derive(Drop)]
 pub struct TypeList {

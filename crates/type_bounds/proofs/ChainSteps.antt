@@ -1,5 +1,6 @@
 -- What chains of variables say of upper bounds.
-use Rattle.std.proofs.Common.{Box, Global, ◌≡◌, ◌<◌, ◌≤◌, Bool, true, false, refl, sym, ◌∙◌, ap, subst, arith, inl, inr}
+use Rattle.std.specs.declared.rc.Rc.{Rc}
+use Rattle.std.proofs.Common.{Global, ◌≡◌, ◌<◌, ◌≤◌, Bool, true, false, refl, sym, ◌∙◌, ap, subst, arith, inl, inr}
 use Rattle.std.specs.Prelude.{◌||◌, Some, ◌⊎◌}
 use Rattle.dart_types.specs.Ty.{Ty, invalid, never, void, null, interface, function, variable, promoted, nullable}
 use Rattle.dart_types.specs.Node.{type_of}
@@ -20,10 +21,10 @@ use Rattle.type_bounds.specs.Chains.{LeadsTo, ends, goes_on, goes_on_marked, IsN
 use Rattle.type_bounds.proofs.NonNulls.{bound_weighs, bare_weighs}
 
 -- a bare type that is no variable is settled
-pub settled_node : (n : TypeNode) {s : Ty} → type_of n ≡ s → ((x : VarId) → n ≡ Var x → ⊥) → ((x : VarId) (to : Box DartType Global) → n ≡ Promoted x to → ⊥) → is_bare s ≡ true → is_settled s ≡ true
+pub settled_node : (n : TypeNode) {s : Ty} → type_of n ≡ s → ((x : VarId) → n ≡ Var x → ⊥) → ((x : VarId) (to : Rc DartType Global) → n ≡ Promoted x to → ⊥) → is_bare s ≡ true → is_settled s ≡ true
 settled_node n e v p h = subst (λ (s : Ty). is_bare s ≡ true → is_settled s ≡ true) e (at n v p) h
   where
-    at : (n : TypeNode) → ((x : VarId) → n ≡ Var x → ⊥) → ((x : VarId) (to : Box DartType Global) → n ≡ Promoted x to → ⊥) → is_bare (type_of n) ≡ true → is_settled (type_of n) ≡ true
+    at : (n : TypeNode) → ((x : VarId) → n ≡ Var x → ⊥) → ((x : VarId) (to : Rc DartType Global) → n ≡ Promoted x to → ⊥) → is_bare (type_of n) ≡ true → is_settled (type_of n) ≡ true
     at Invalid v p h = refl
     at Never v p h = refl
     at Void v p h = refl

@@ -1,5 +1,6 @@
 -- The rows of the table of lower bounds, by the forms of types as the code sees them.
-use Rattle.std.proofs.Common.{Box, Global, ◌≡◌, Bool, true, false, refl, sym, subst}
+use Rattle.std.specs.declared.rc.Rc.{Rc}
+use Rattle.std.proofs.Common.{Global, ◌≡◌, Bool, true, false, refl, sym, subst}
 use Rattle.std.specs.Prelude.{◌&&◌, ◌||◌}
 use Rattle.dart_types.specs.Ty.{Ty, invalid, never, void, null, interface, function, variable, promoted, nullable, types_of}
 use Rattle.dart_types.specs.Named.{named_of}
@@ -36,10 +37,10 @@ module _ (table : Table) where
       (marked_form (λ (v : Ty). LowerApart table (nullable (bare_of s)) v (nullable_of u)) t k (marked_both a))
 
   -- what is no function type on the left
-  pub at_no_function_left : (n : TypeNode) {s : Ty} (t : Ty) → type_of n ≡ s → ((f : Box FunctionType Global) → n ≡ Function f → ⊥) → (is_marked s || is_marked t) ≡ false → LowerApart table s t never
+  pub at_no_function_left : (n : TypeNode) {s : Ty} (t : Ty) → type_of n ≡ s → ((f : Rc FunctionType Global) → n ≡ Function f → ⊥) → (is_marked s || is_marked t) ≡ false → LowerApart table s t never
   at_no_function_left n {s} t e f h = nothing_below h (subst (λ (v : Ty). are_functions v t ≡ false) e (at n f))
     where
-      at : (n : TypeNode) → ((f : Box FunctionType Global) → n ≡ Function f → ⊥) → are_functions (type_of n) t ≡ false
+      at : (n : TypeNode) → ((f : Rc FunctionType Global) → n ≡ Function f → ⊥) → are_functions (type_of n) t ≡ false
       at Invalid f = refl
       at Never f = refl
       at Void f = refl
@@ -51,10 +52,10 @@ module _ (table : Table) where
       at (Nullable bare) f = refl
 
   -- and on the right
-  pub at_no_function_right : (g : FunctionType) (n : TypeNode) {t : Ty} → type_of n ≡ t → ((f : Box FunctionType Global) → n ≡ Function f → ⊥) → is_marked t ≡ false → LowerApart table (function_type g) t never
+  pub at_no_function_right : (g : FunctionType) (n : TypeNode) {t : Ty} → type_of n ≡ t → ((f : Rc FunctionType Global) → n ≡ Function f → ⊥) → is_marked t ≡ false → LowerApart table (function_type g) t never
   at_no_function_right g n e f h = nothing_below h (subst (λ (v : Ty). are_functions (function_type g) v ≡ false) e (at n f))
     where
-      at : (n : TypeNode) → ((f : Box FunctionType Global) → n ≡ Function f → ⊥) → are_functions (function_type g) (type_of n) ≡ false
+      at : (n : TypeNode) → ((f : Rc FunctionType Global) → n ≡ Function f → ⊥) → are_functions (function_type g) (type_of n) ≡ false
       at Invalid f = refl
       at Never f = refl
       at Void f = refl

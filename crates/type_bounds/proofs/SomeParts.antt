@@ -1,8 +1,9 @@
 -- From what is some type, as far as it is formed, by one rule to what is so by another.
-use Rattle.std.proofs.Common.{◌≡◌, Bool, List, Result, subst}
+use Rattle.std.proofs.Common.{◌≡◌, Bool, List, Result, sym, subst}
 use Rattle.std.specs.Result.{IfOk}
 use Rattle.std.proofs.lemmas.Result.{IfOk-weaker}
-use Rattle.dart_types.specs.Ty.{Ty, Types, Named, function, types_of}
+use Rattle.dart_types.specs.Ty.{Ty, Types, Named, interface, function, types_of}
+use Rattle.dart_types.specs.declared.ids.ClassId.{ClassId}
 use Rattle.dart_types.specs.Named.{named_of}
 use Rattle.dart_types.specs.Normal.{nullable_of}
 use Rattle.dart_types.specs.declared.types.NamedType.{NamedType}
@@ -17,6 +18,11 @@ module _ {E : Type 0} (other : Ty → Type 0) (r : Result Part E) where
   -- the type itself
   pub some_type : (t : Ty) → other t → IfOk r (λ part. IsPart part t) → IfOk r (IsSomePart other)
   some_type t a h = IfOk-weaker r (λ part. IsPart part t) (IsSomePart other) (λ part p. (t, a, p)) h
+
+  -- a class of some arguments
+  pub some_interface : (class : ClassId) (args : Parts) (t : Ty) → other t → (ts : Types) → t ≡ interface class ts → AreParts args ts → IfOk r (λ part. (us : Types) → AreParts args us → IsPart part (interface class us)) → IfOk r (IsSomePart other)
+  some_interface class args t a ts is parts h =
+      IfOk-weaker r (λ part. (us : Types) → AreParts args us → IsPart part (interface class us)) (IsSomePart other) (λ part p. (t, a, subst (IsPart part) (sym is) (p ts parts))) h
 
   -- what some type is by the first rule
   pub some_by : (so : Ty → Type 0) → ((t : Ty) → so t → other t) → IfOk r (IsSomePart so) → IfOk r (IsSomePart other)

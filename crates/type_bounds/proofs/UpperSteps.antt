@@ -1,5 +1,6 @@
 -- The rows of the table of upper bounds, by the forms of types as the code sees them.
-use Rattle.std.proofs.Common.{Box, Global, ◌≡◌, true, false, List, length, Some, None, refl, sym, ◌∙◌, subst}
+use Rattle.std.specs.declared.rc.Rc.{Rc}
+use Rattle.std.proofs.Common.{Global, ◌≡◌, true, false, List, length, Some, None, refl, sym, ◌∙◌, subst}
 use Rattle.std.specs.Prelude.{Bool, not}
 use Rattle.dart_types.specs.Ty.{Ty, Types, invalid, never, void, null, interface, function, variable, promoted, nullable, no_more, types_of}
 use Rattle.dart_types.specs.Named.{named_of}
@@ -14,6 +15,7 @@ use Rattle.dart_types.specs.declared.ids.ClassId.{ClassId}
 use Rattle.dart_types.specs.declared.ids.TheConstants.{FUNCTION}
 use Rattle.dart_types.specs.declared.ids.VarId.{VarId}
 use Rattle.dart_types.specs.declared.types.FunctionType.{FunctionType}
+use Rattle.dart_types.specs.declared.types.TypeList.{TypeList}
 use Rattle.dart_types.specs.declared.types.TypeNode.{TypeNode}
 use Rattle.dart_types.specs.declared.types.TypeNode.TheVariants.{Invalid, Never, Void, Null, Interface, Function, Var, Promoted, Nullable}
 use Rattle.dart_types.proofs.RowTests.{count-types_of}
@@ -82,10 +84,10 @@ module _ (table : Table) where
   at_promoted_right {s = s} {u = u} y v e h a = subst (λ (w : Ty). UpperApart table s w u) (sym e) (promoted_right h a)
 
   -- two types that are bare and no variables, of which one is neither a class nor a function type
-  pub at_settled : (n : TypeNode) {s : Ty} (t : Ty) → type_of n ≡ s → AreApart table s t → is_settled s ≡ true → is_settled t ≡ true → ((c : ClassId) (ts : List Ty) → n ≡ Interface c ts → ⊥) → ((f : Box FunctionType Global) → n ≡ Function f → ⊥) → UpperApart table s t invalid
+  pub at_settled : (n : TypeNode) {s : Ty} (t : Ty) → type_of n ≡ s → AreApart table s t → is_settled s ≡ true → is_settled t ≡ true → ((c : ClassId) (ts : Rc TypeList Global) → n ≡ Interface c ts → ⊥) → ((f : Rc FunctionType Global) → n ≡ Function f → ⊥) → UpperApart table s t invalid
   at_settled n t e a h k i f = subst (λ (v : Ty). AreApart table v t → is_settled v ≡ true → UpperApart table v t invalid) e (at n i f) a h
     where
-      at : (n : TypeNode) → ((c : ClassId) (ts : List Ty) → n ≡ Interface c ts → ⊥) → ((f : Box FunctionType Global) → n ≡ Function f → ⊥) → AreApart table (type_of n) t → is_settled (type_of n) ≡ true → UpperApart table (type_of n) t invalid
+      at : (n : TypeNode) → ((c : ClassId) (ts : Rc TypeList Global) → n ≡ Interface c ts → ⊥) → ((f : Rc FunctionType Global) → n ≡ Function f → ⊥) → AreApart table (type_of n) t → is_settled (type_of n) ≡ true → UpperApart table (type_of n) t invalid
       at Invalid i f a h = invalid_left k
       at Never i f a h = absurd (a.0 left_bottom)
       at Void i f a h = absurd (a.1 (right_top refl))
@@ -96,10 +98,10 @@ module _ (table : Table) where
       at (Promoted x to) i f a h = cc
       at (Nullable bare) i f a h = cc
 
-  pub at_settled_right : (s : Ty) (n : TypeNode) {t : Ty} → type_of n ≡ t → AreApart table s t → is_settled s ≡ true → is_settled t ≡ true → ((c : ClassId) (ts : List Ty) → n ≡ Interface c ts → ⊥) → ((f : Box FunctionType Global) → n ≡ Function f → ⊥) → UpperApart table s t invalid
+  pub at_settled_right : (s : Ty) (n : TypeNode) {t : Ty} → type_of n ≡ t → AreApart table s t → is_settled s ≡ true → is_settled t ≡ true → ((c : ClassId) (ts : Rc TypeList Global) → n ≡ Interface c ts → ⊥) → ((f : Rc FunctionType Global) → n ≡ Function f → ⊥) → UpperApart table s t invalid
   at_settled_right s n e a h k i f = subst (λ (v : Ty). AreApart table s v → is_settled v ≡ true → UpperApart table s v invalid) e (at n i f) a k
     where
-      at : (n : TypeNode) → ((c : ClassId) (ts : List Ty) → n ≡ Interface c ts → ⊥) → ((f : Box FunctionType Global) → n ≡ Function f → ⊥) → AreApart table s (type_of n) → is_settled (type_of n) ≡ true → UpperApart table s (type_of n) invalid
+      at : (n : TypeNode) → ((c : ClassId) (ts : Rc TypeList Global) → n ≡ Interface c ts → ⊥) → ((f : Rc FunctionType Global) → n ≡ Function f → ⊥) → AreApart table s (type_of n) → is_settled (type_of n) ≡ true → UpperApart table s (type_of n) invalid
       at Invalid i f a k = invalid_right h
       at Never i f a k = absurd (a.1 left_bottom)
       at Void i f a k = absurd (a.0 (right_top refl))

@@ -6,7 +6,7 @@ ghost use Rattle.type_bounds.specs.NamedView.{IsFunctionPart};
 use crate::counts::Count;
 use crate::named_parts::NamedParts;
 use crate::parts::{Part, Parts};
-use dart_types::{DartType, FunctionType, NODE_LIMIT, TypeNode};
+use dart_types::{DartType, FunctionType, NODE_LIMIT};
 use std::alloc::{AllocError, Global};
 
 /// The function type of these parameters and this result.
@@ -40,9 +40,7 @@ pub(crate) fn function_part(
                 named,
                 result,
             };
-            Some(DartType {
-                node: TypeNode::Function(Box::new(alloc, function)?),
-            })
+            Some(DartType::function(alloc, function)?)
         }
         _ => None,
     };

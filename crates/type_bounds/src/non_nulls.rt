@@ -1,9 +1,7 @@
 //! Types without null.
 
 ghost use Rattle.std.specs.Prelude.{◌≡◌, IfOk};
-ghost use Rattle.dart_types.specs.Ty.{variable, promoted};
-ghost use Rattle.dart_types.specs.Heads.{object};
-ghost use Rattle.dart_types.specs.SubTest.{sub};
+ghost use Rattle.dart_types.specs.Ty.{variable};
 ghost use Rattle.dart_types.specs.Sizes.{size_of, held};
 ghost use Rattle.dart_types.specs.Formed.{Forms};
 ghost use Rattle.dart_types.specs.Sub.{Sub};
@@ -11,7 +9,7 @@ ghost use Rattle.type_bounds.specs.NonNull.{non_null_of};
 ghost use Rattle.type_bounds.specs.NonNullSteps.{IsWithoutNull};
 
 use dart_types::{
-    DartType, NODE_LIMIT, OBJECT, Rows, TypeNode, TypeRefusal, VarId, is_subtype, size,
+    DartType, NODE_LIMIT, Rows, TypeNode, TypeRefusal, VarId, is_subtype_of_object, size,
 };
 use std::alloc::{AllocError, Global};
 
@@ -23,7 +21,7 @@ pub fn non_null(alloc: Global, rows: &Rows, t: &DartType) -> Result<DartType, Ty
     ensures forms { Forms result (non_null_of rows.now.table t.now) }
     ensures below { IfOk result (λ formed. Sub rows.now.table formed t.now) }
 {
-    let nodes = non_null_nodes(alloc, rows, t);
+    let nodes = non_null_nodes(rows, t);
     if nodes > NODE_LIMIT {
         return Err(TypeRefusal::TooLarge { nodes });
     }
@@ -44,14 +42,14 @@ enum WithoutNull<'a> {
 }
 
 // What the type is without null.
-fn without_null<'a>(alloc: Global, rows: &'a Rows, t: &'a DartType) -> WithoutNull<'a>
+fn without_null<'a>(rows: &'a Rows, t: &'a DartType) -> WithoutNull<'a>
     ensures { IsWithoutNull rows.now.table t.now result }
 {
     match &t.node {
         TypeNode::Null => WithoutNull::Nothing,
         TypeNode::Nullable(bare) => WithoutNull::Bare(bare),
         TypeNode::Promoted { var, to } => WithoutNull::Promoted(*var, to),
-        TypeNode::Var(var) => var_without_null(alloc, rows, *var),
+        TypeNode::Var(var) => var_without_null(rows, *var),
         TypeNode::Invalid => WithoutNull::Itself,
         TypeNode::Never => WithoutNull::Itself,
         TypeNode::Void => WithoutNull::Itself,
@@ -61,13 +59,13 @@ fn without_null<'a>(alloc: Global, rows: &'a Rows, t: &'a DartType) -> WithoutNu
 }
 
 // What a variable is without null.
-fn var_without_null<'a>(alloc: Global, rows: &'a Rows, var: VarId) -> WithoutNull<'a>
+fn var_without_null<'a>(rows: &'a Rows, var: VarId) -> WithoutNull<'a>
     ensures { IsWithoutNull rows.now.table (variable var) result }
 {
     match rows.bound(var) {
         None => WithoutNull::Itself,
         Some(bound) => {
-            if is_without_null(alloc, rows, bound) {
+            if is_subtype_of_object(rows, bound) {
                 return WithoutNull::Itself;
             }
             WithoutNull::Promoted(var, bound)
@@ -75,22 +73,15 @@ fn var_without_null<'a>(alloc: Global, rows: &'a Rows, var: VarId) -> WithoutNul
     }
 }
 
-// Whether the type is a subtype of `Object`.
-fn is_without_null(alloc: Global, rows: &Rows, t: &DartType) -> bool
-    ensures { result ≡ sub rows.now.table t.now object }
-{
-    is_subtype(rows, t, &DartType::class(alloc, OBJECT))
-}
-
 // How many types stand in the type without null, or 2^64 - 1 where there are more. A long chain of
 // variables as bounds is gone through step by step.
-fn non_null_nodes(alloc: Global, rows: &Rows, t: &DartType) -> u64
+fn non_null_nodes(rows: &Rows, t: &DartType) -> u64
     ensures { result ≡ held (size_of (non_null_of rows.now.table t.now)) }
 {
     let mut variables: u64 = 0;
     let mut left = t;
     loop {
-        match without_null(alloc, rows, left) {
+        match without_null(rows, left) {
             WithoutNull::Itself => return variables.saturating_add(size(left)),
             WithoutNull::Nothing => return variables.saturating_add(1),
             WithoutNull::Bare(bare) => left = bare,
@@ -106,7 +97,7 @@ fn non_null_nodes(alloc: Global, rows: &Rows, t: &DartType) -> u64
 fn form_non_null(alloc: Global, rows: &Rows, t: &DartType) -> Result<DartType, AllocError>
     ensures { IfOk result (λ formed. formed ≡ non_null_of rows.now.table t.now) }
 {
-    match without_null(alloc, rows, t) {
+    match without_null(rows, t) {
         WithoutNull::Itself => t.copy(alloc),
         WithoutNull::Nothing => Ok(DartType {
             node: TypeNode::Never,
@@ -114,19 +105,7 @@ fn form_non_null(alloc: Global, rows: &Rows, t: &DartType) -> Result<DartType, A
         WithoutNull::Bare(bare) => form_non_null(alloc, rows, bare),
         WithoutNull::Promoted(var, to) => {
             let formed = form_non_null(alloc, rows, to)?;
-            promote(alloc, var, formed)
+            DartType::promoted(alloc, var, formed)
         }
     }
-}
-
-// `X & U`.
-fn promote(alloc: Global, var: VarId, to: DartType) -> Result<DartType, AllocError>
-    ensures { IfOk result (λ formed. formed ≡ promoted var to) }
-{
-    Ok(DartType {
-        node: TypeNode::Promoted {
-            var,
-            to: Box::new(alloc, to)?,
-        },
-    })
 }

@@ -87,10 +87,11 @@ impl Part {
     }
 
     /// A class without arguments.
-    pub(crate) fn class(alloc: Global, class: ClassId) -> Part
-        ensures { IsPart result (interface class no_more) }
+    pub(crate) fn class(alloc: Global, class: ClassId) -> Result<Part, AllocError>
+        ensures { IfOk result (λ part. IsPart part (interface class no_more)) }
     {
-        Part::small(DartType::class(alloc, class))
+        let formed = DartType::class(alloc, class)?;
+        Ok(Part::small(formed))
     }
 
     /// The normal form of `T?`, from T.
@@ -145,8 +146,8 @@ impl Part {
     }
 
     /// The class with these arguments.
-    pub(crate) fn interface(class: ClassId, args: Parts) -> Part
-        ensures { (ts : Types) → AreParts args ts → IsPart result (interface class ts) }
+    pub(crate) fn interface(alloc: Global, class: ClassId, args: Parts) -> Result<Part, AllocError>
+        ensures { IfOk result (λ part. (ts : Types) → AreParts args ts → IsPart part (interface class ts)) }
     {
         let nodes = args.nodes.saturating_add(1);
         let count = Count {
@@ -155,22 +156,26 @@ impl Part {
         };
         let formed = match args.formed {
             None => None,
-            Some(args) => interface_within(nodes, class, args),
+            Some(args) => interface_within(alloc, nodes, class, args)?,
         };
-        Part { count, formed }
+        Ok(Part { count, formed })
     }
 }
 
 // The class with these arguments, unless it has too many nodes.
-fn interface_within(nodes: u64, class: ClassId, args: TypeList) -> Option<DartType>
-    ensures { IsInterfaceWithin nodes class args result }
+fn interface_within(
+    alloc: Global,
+    nodes: u64,
+    class: ClassId,
+    args: TypeList,
+) -> Result<Option<DartType>, AllocError>
+    ensures { IfOk result (IsInterfaceWithin nodes class args) }
 {
     if nodes > NODE_LIMIT {
-        return None;
+        return Ok(None);
     }
-    Some(DartType {
-        node: TypeNode::Interface { class, args },
-    })
+    let formed = DartType::interface(alloc, class, args)?;
+    Ok(Some(formed))
 }
 
 impl Parts {

@@ -105,7 +105,7 @@ fn upper_of_class(
     ensures { IfOk result (IsSomePart (UpperApart rows.now.table (interface class (types_of args.now)) t.now)) }
 {
     match &t.node {
-        TypeNode::Function(_) => Ok(Part::class(alloc, OBJECT)),
+        TypeNode::Function(_) => Part::class(alloc, OBJECT),
         TypeNode::Interface {
             class: other,
             args: others,
@@ -117,7 +117,7 @@ fn upper_of_class(
                 return Ok(Part::invalid());
             }
             let uppers = upper_all(alloc, rows, args.as_slice(), others.as_slice())?;
-            Ok(Part::interface(class, uppers))
+            Part::interface(alloc, class, uppers)
         }
         _ => Ok(Part::invalid()),
     }
@@ -139,11 +139,11 @@ fn upper_of_function(
     match &t.node {
         TypeNode::Function(other) => {
             if !have_upper(function, other) {
-                return Ok(Part::class(alloc, FUNCTION));
+                return Part::class(alloc, FUNCTION);
             }
             upper_of_functions(alloc, rows, function, other)
         }
-        TypeNode::Interface { .. } => Ok(Part::class(alloc, OBJECT)),
+        TypeNode::Interface { .. } => Part::class(alloc, OBJECT),
         _ => Ok(Part::invalid()),
     }
 }

@@ -1,5 +1,6 @@
 -- The rules of matching, as the code takes them.
-use Rattle.std.proofs.Common.{◌≡◌, ℕ, ◌++◌, Box, Global, Bool, true, false, List, [], ◌∷◌, Option, Some, None, Result, Ok, Err, refl, sym, ◌∙◌, subst}
+use Rattle.std.specs.declared.rc.Rc.{Rc}
+use Rattle.std.proofs.Common.{◌≡◌, ℕ, ◌++◌, Global, Bool, true, false, List, [], ◌∷◌, Option, Some, None, Result, Ok, Err, refl, sym, ◌∙◌, subst}
 use Rattle.std.specs.Prelude.{◌≢◌, ◌||◌, not}
 use Rattle.dart_types.specs.Ty.{Ty, Types, invalid, never, void, null, interface, function, variable, promoted, nullable, types_of, join}
 use Rattle.dart_types.specs.Named.{named_of}
@@ -35,7 +36,7 @@ use Rattle.type_infer.proofs.FindSteps.{finds_by, finds_nothing, finds_no_fit, f
 use Rattle.type_infer.proofs.NameTests.{join-types_of}
 
 -- forms of types, by what they are not
-pub bare_node : (n : TypeNode) → n ≢ Null → ((u : Box DartType Global) → n ≢ Nullable u) → is_bare (type_of n) ≡ true
+pub bare_node : (n : TypeNode) → n ≢ Null → ((u : Rc DartType Global) → n ≢ Nullable u) → is_bare (type_of n) ≡ true
 bare_node Invalid h k = refl
 bare_node Never h k = refl
 bare_node Void h k = refl
@@ -46,7 +47,7 @@ bare_node (Var x) h k = refl
 bare_node (Promoted x u) h k = refl
 bare_node (Nullable u) h k = absurd (k u refl)
 
-pub no_class : (n : TypeNode) → ((c : ClassId) (ts : TypeList) → n ≢ Interface c ts) → is_class (type_of n) ≡ false
+pub no_class : (n : TypeNode) → ((c : ClassId) (ts : Rc TypeList Global) → n ≢ Interface c ts) → is_class (type_of n) ≡ false
 no_class Invalid h = refl
 no_class Never h = refl
 no_class Void h = refl
@@ -57,7 +58,7 @@ no_class (Var x) h = refl
 no_class (Promoted x u) h = refl
 no_class (Nullable u) h = refl
 
-pub no_function : (n : TypeNode) → ((f : Box FunctionType Global) → n ≢ Function f) → is_function (type_of n) ≡ false
+pub no_function : (n : TypeNode) → ((f : Rc FunctionType Global) → n ≢ Function f) → is_function (type_of n) ≡ false
 no_function Invalid h = refl
 no_function Never h = refl
 no_function Void h = refl

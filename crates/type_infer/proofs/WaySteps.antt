@@ -1,5 +1,6 @@
 -- What a type gives way to.
-use Rattle.std.proofs.Common.{Box, Global, ◌≡◌, ◌<◌, ◌≤◌, Option, Some, None, false, refl, ap, subst, arith}
+use Rattle.std.specs.declared.rc.Rc.{Rc}
+use Rattle.std.proofs.Common.{Global, ◌≡◌, ◌<◌, ◌≤◌, Option, Some, None, false, refl, ap, subst, arith}
 use Rattle.dart_types.specs.Ty.{Ty, variable, promoted, nullable}
 use Rattle.dart_types.specs.Heads.{is_plain}
 use Rattle.dart_types.specs.Marks.{is_marked}
@@ -25,7 +26,7 @@ pub way_to_nothing : (table : Table) (x : VarId) (s : Ty) (side : Side) → side
 way_to_nothing table x s side is e k = rw (is, e) (to_nothing k)
 
 -- a type without `?`, by what it is not
-pub unmarked_node : (n : TypeNode) → ((u : Box DartType Global) → n ≡ Nullable u → ⊥) → is_marked (type_of n) ≡ false
+pub unmarked_node : (n : TypeNode) → ((u : Rc DartType Global) → n ≡ Nullable u → ⊥) → is_marked (type_of n) ≡ false
 unmarked_node Invalid h = refl
 unmarked_node Never h = refl
 unmarked_node Void h = refl

@@ -23,7 +23,7 @@ pub(crate) fn within_bound(
     ensures { IsHeld rows.now.table before.now param solved.now result }
 {
     let read = read_type(alloc, solved)?;
-    if is_unbounded(alloc, rows, param) {
+    if is_unbounded(rows, param) {
         return Ok(read);
     }
     let bound = bound_given(alloc, rows, before, param)?;
@@ -42,7 +42,7 @@ pub(crate) fn bound_as_argument(
 ) -> Result<DartType, InferRefusal>
     ensures { IsByBound rows.now.table before.now param result }
 {
-    if is_unbounded(alloc, rows, param) {
+    if is_unbounded(rows, param) {
         return Err(InferRefusal::Unconstrained { param });
     }
     let bound = bound_given(alloc, rows, before, param)?;
@@ -68,21 +68,21 @@ fn bound_given(
 }
 
 // Whether the bound of a parameter is `Object?`.
-fn is_unbounded(alloc: Global, rows: &Rows, param: VarId) -> bool
+fn is_unbounded(rows: &Rows, param: VarId) -> bool
     ensures { IsTrue result ↔ (declared_bound rows.now.table param ≡ nullable object) }
 {
     match rows.bound(param) {
-        Some(bound) => is_nullable_object(alloc, bound),
+        Some(bound) => is_nullable_object(bound),
         None => true,
     }
 }
 
 // Whether the type is `Object?`.
-fn is_nullable_object(alloc: Global, t: &DartType) -> bool
+fn is_nullable_object(t: &DartType) -> bool
     ensures { IsTrue result ↔ (t.now ≡ nullable object) }
 {
     match &t.node {
-        TypeNode::Nullable(bare) => bare.is_same(&DartType::class(alloc, OBJECT)),
+        TypeNode::Nullable(bare) => bare.is_object(),
         _ => false,
     }
 }
@@ -91,8 +91,6 @@ fn is_nullable_object(alloc: Global, t: &DartType) -> bool
 fn nullable_object(alloc: Global) -> Result<DartType, AllocError>
     ensures { IfOk result (λ t. t ≡ nullable object) }
 {
-    let bare = Box::new(alloc, DartType::class(alloc, OBJECT))?;
-    Ok(DartType {
-        node: TypeNode::Nullable(bare),
-    })
+    let bare = DartType::class(alloc, OBJECT)?;
+    DartType::nullable(alloc, bare)
 }

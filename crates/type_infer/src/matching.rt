@@ -209,12 +209,13 @@ impl<'a> Matcher<'a> {
         else {
             return Ok(fits(self.rows, side, formal, other));
         };
+        let others: &TypeList = other_args;
         if class == *other_class {
-            return self.match_lists(side, args.as_slice(), other_args.as_slice(), found);
+            return self.match_lists(side, args.as_slice(), others.as_slice(), found);
         }
         match side {
             Side::AtLeast => {
-                match form_above(self.alloc, self.rows, *other_class, other_args, class)? {
+                match form_above(self.alloc, self.rows, *other_class, others, class)? {
                     None => Ok(fits(self.rows, side, formal, other)),
                     Some(above) => {
                         self.match_lists(side, args.as_slice(), arguments_of(&above), found)
@@ -224,7 +225,7 @@ impl<'a> Matcher<'a> {
             Side::AtMost => match form_above(self.alloc, self.rows, class, args, *other_class)? {
                 None => Ok(fits(self.rows, side, formal, other)),
                 Some(above) => {
-                    self.match_lists(side, arguments_of(&above), other_args.as_slice(), found)
+                    self.match_lists(side, arguments_of(&above), others.as_slice(), found)
                 }
             },
         }

@@ -8,6 +8,7 @@ ghost use Rattle.type_infer.specs.Promotions.{unpromoted, unpromoted_all, unprom
 
 use dart_types::{DartType, FunctionType, NamedType, NamedTypes, TypeList, TypeNode};
 use std::alloc::{AllocError, Global};
+use std::rc::Rc;
 
 /// A copy of the type with X in the place of each `X & U`.
 #[cycle(reading)]
@@ -23,18 +24,18 @@ pub(crate) fn read_type(alloc: Global, t: &DartType) -> Result<DartType, AllocEr
             let read = read_list(alloc, args)?;
             TypeNode::Interface {
                 class: *class,
-                args: read,
+                args: Rc::new(alloc, read)?,
             }
         }
         TypeNode::Function(function) => {
             let read = read_function(alloc, function)?;
-            TypeNode::Function(Box::new(alloc, read)?)
+            TypeNode::Function(Rc::new(alloc, read)?)
         }
         TypeNode::Var(var) => TypeNode::Var(*var),
         TypeNode::Promoted { var, .. } => TypeNode::Var(*var),
         TypeNode::Nullable(bare) => {
             let read = read_type(alloc, bare)?;
-            TypeNode::Nullable(Box::new(alloc, read)?)
+            TypeNode::Nullable(Rc::new(alloc, read)?)
         }
     };
     Ok(DartType { node })

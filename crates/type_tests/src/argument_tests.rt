@@ -101,7 +101,11 @@ fn given_in(alloc: Global, text: &'static str) -> Result<Given, Fail> {
     let args = list_in(alloc, args)?;
     match type_in(alloc, of)?.node {
         TypeNode::Interface { class, args: own } => {
-            let of = Superinterface { class, args: own };
+            let args_of_class = own.copy(alloc)?;
+            let of = Superinterface {
+                class,
+                args: args_of_class,
+            };
             Ok(Given { of, args })
         }
         _ => Err("no interface".into()),

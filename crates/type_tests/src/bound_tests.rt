@@ -5,6 +5,7 @@ use crate::sample_rows::{answers, of_nodes, sample_rows};
 use crate::tables::{About, first_wrong, parts};
 use dart_types::{DartType, Rows, TypeList, TypeNode};
 use std::alloc::Global;
+use std::rc::Rc;
 use std::test::Fail;
 use type_bounds::{factor, lower, non_null, upper};
 
@@ -199,7 +200,7 @@ pub(crate) fn is_bound(alloc: Global, rows: &Rows, line: &'static str) -> Result
 fn are_limited(alloc: Global, rows: &Rows, nodes: u64) -> Result<bool, Fail> {
     let null = type_in(alloc, "N")?;
     let t = of_nodes(alloc, nodes)?;
-    let bare = Box::new(alloc, of_nodes(alloc, nodes)?)?;
+    let bare = Rc::new(alloc, of_nodes(alloc, nodes)?)?;
     let node = TypeNode::Nullable(bare);
     let marked = DartType { node };
     let fits = nodes <= 4096;
@@ -220,9 +221,7 @@ pub(crate) fn around(alloc: Global, class: &str, nodes: u64) -> Result<DartType,
     let mut args = TypeList::new(alloc);
     args.push(of_nodes(alloc, nodes)?)?;
     match type_in(alloc, class)?.node {
-        TypeNode::Interface { class, .. } => Ok(DartType {
-            node: TypeNode::Interface { class, args },
-        }),
+        TypeNode::Interface { class, .. } => Ok(DartType::interface(alloc, class, args)?),
         _ => Err("no class".into()),
     }
 }

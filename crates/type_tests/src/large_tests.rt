@@ -8,6 +8,7 @@ use dart_types::{
     is_subtype,
 };
 use std::alloc::Global;
+use std::rc::Rc;
 use std::test::Fail;
 use type_bounds::upper;
 
@@ -15,21 +16,19 @@ use type_bounds::upper;
 const TOWER: LibId = LibId(3);
 
 // A class of the tower, of these types.
-fn applied(class: u32, args: TypeList) -> DartType {
+fn applied(alloc: Global, class: u32, args: TypeList) -> Result<DartType, Fail> {
     let class = ClassId {
         lib: TOWER,
         index: class,
     };
-    DartType {
-        node: TypeNode::Interface { class, args },
-    }
+    Ok(DartType::interface(alloc, class, args)?)
 }
 
 // A class of the tower, of one type.
 fn applied_to(alloc: Global, class: u32, arg: DartType) -> Result<DartType, Fail> {
     let mut args = TypeList::new(alloc);
     args.push(arg)?;
-    Ok(applied(class, args))
+    applied(alloc, class, args)
 }
 
 // The parameter of a class of the tower.
@@ -142,7 +141,7 @@ fn chain(alloc: Global, count: u32, with_marks: bool) -> Result<Rows, Fail> {
         let index: u32 = before;
         let bare = link(index);
         let bound = if with_marks {
-            let bare = Box::new(alloc, bare)?;
+            let bare = Rc::new(alloc, bare)?;
             DartType {
                 node: TypeNode::Nullable(bare),
             }
@@ -195,15 +194,11 @@ fn doubled(alloc: Global, class: u32, above: u32, depth: u64) -> Result<ClassRow
     let mut pair = TypeList::new(alloc);
     pair.push(param(class))?;
     pair.push(param(class))?;
-    let map = DartType {
-        node: TypeNode::Interface {
-            class: ClassId {
-                lib: CORE,
-                index: 9,
-            },
-            args: pair,
-        },
+    let class_map = ClassId {
+        lib: CORE,
+        index: 9,
     };
+    let map = DartType::interface(alloc, class_map, pair)?;
     let mut supers = TypeList::new(alloc);
     supers.push(applied_to(alloc, above, map)?)?;
     generic(alloc, class, supers, depth)

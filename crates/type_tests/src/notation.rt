@@ -22,6 +22,7 @@ use dart_types::{
 };
 use plain_text::PlainText;
 use std::alloc::Global;
+use std::rc::Rc;
 use std::test::Fail;
 use type_infer::OPEN_PARAMETER;
 
@@ -151,12 +152,13 @@ impl Reader {
             args.push(first)?;
             args.push(second)?;
         }
-        self.put(TypeNode::Interface { class, args })
+        self.types.push(DartType::interface(alloc, class, args)?)?;
+        Ok(())
     }
 
     fn promote(&mut self, alloc: Global) -> Result<(), Fail> {
         let to = last(&mut self.types)?;
-        let to = Box::new(alloc, to)?;
+        let to = Rc::new(alloc, to)?;
         match last(&mut self.types)?.node {
             TypeNode::Var(var) => self.put(TypeNode::Promoted { var, to }),
             _ => Err("no variable stands before".into()),
@@ -165,7 +167,7 @@ impl Reader {
 
     fn mark(&mut self, alloc: Global) -> Result<(), Fail> {
         let bare = last(&mut self.types)?;
-        let bare = Box::new(alloc, bare)?;
+        let bare = Rc::new(alloc, bare)?;
         self.put(TypeNode::Nullable(bare))
     }
 
@@ -187,7 +189,7 @@ impl Reader {
             named: signature.named,
             result,
         };
-        let function = Box::new(alloc, function)?;
+        let function = Rc::new(alloc, function)?;
         self.put(TypeNode::Function(function))
     }
 

@@ -229,9 +229,7 @@ pub(crate) fn of_nodes(alloc: Global, nodes: u64) -> Result<DartType, Fail> {
         lib: CORE,
         index: 8,
     };
-    Ok(DartType {
-        node: TypeNode::Interface { class, args },
-    })
+    Ok(DartType::interface(alloc, class, args)?)
 }
 
 /// Whether so many types stand in the answer, and it is formed or refused as said.

@@ -11,8 +11,8 @@ use Rattle.dart_types.proofs.types.+earlier.Goals as goal
 -- the arguments decide
 pub DartType::is_earlier-returns-in-Interface : goal.DartType::is_earlier-returns-in-Interface
 DartType::is_earlier-returns-in-Interface t c =
-    let args = c.in-Interface.args in
-    let is : interface c.in-Interface.class (types_of args) ≡ c.args.self.now = ap type_of (sym c.in-Interface.is) ∙ c.self.view_is in
+    let args = c.deref.result.now in
+    let is : interface c.in-Interface.class (types_of args) ≡ c.args.self.now = ap (λ (us : List Ty). interface c.in-Interface.class (types_of us)) c.deref.ensures ∙ ap type_of (sym c.in-Interface.is) ∙ c.self.view_is in
     subst (λ (t' : Ty). IsTrue c.are_earlier.result ↔ IsEarlier c.args.x t') is (through (earlier_from c.args.x args) (earlier_to c.args.x args) c.are_earlier.ensures)
 
 -- a function type is refused by one of its parts

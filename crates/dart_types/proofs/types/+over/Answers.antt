@@ -13,9 +13,10 @@ use Rattle.dart_types.proofs.types.+over.Goals as goal
 pub DartType::is_over-returns-else-not-has_arguments : goal.DartType::is_over-returns-else-not-has_arguments
 DartType::is_over-returns-else-not-has_arguments t c =
     let table : Table = record { classes = c.args.classes.now; vars = c.args.vars.now } in
-    let args = c.in-Interface.args in
-    let fits : HasArguments (class_of table c.in-Interface.class) (types_of args) = granted c.has_arguments.ensures c.if-not-has_arguments.false in
-    let is : interface c.in-Interface.class (types_of args) ≡ c.args.self.now = ap type_of (sym c.in-Interface.is) ∙ c.self.view_is in
+    let args = c.deref-in-Interface.result.now in
+    let same : c.deref.result.now ≡ args = c.deref.ensures ∙ sym c.deref-in-Interface.ensures in
+    let fits : HasArguments (class_of table c.in-Interface.class) (types_of args) = subst (λ (us : List Ty). HasArguments (class_of table c.in-Interface.class) (types_of us)) same (granted c.has_arguments.ensures c.if-not-has_arguments.false) in
+    let is : interface c.in-Interface.class (types_of args) ≡ c.args.self.now = ap (λ (us : List Ty). interface c.in-Interface.class (types_of us)) c.deref-in-Interface.ensures ∙ ap type_of (sym c.in-Interface.is) ∙ c.self.view_is in
     subst (λ (t' : Ty). IsTrue c.are_over.result ↔ IsOver table t') is (through (λ h. (fits, over_from table args h)) (λ p. over_to table args p.1) c.are_over.ensures)
 
 -- a function type is refused by one of its parts

@@ -10,8 +10,8 @@ use Rattle.dart_types.proofs.types.+simple.Goals as goal
 -- the arguments decide
 pub DartType::is_simple-returns-in-Interface : goal.DartType::is_simple-returns-in-Interface
 DartType::is_simple-returns-in-Interface t c =
-    let args = c.in-Interface.args in
-    let is : interface c.in-Interface.class (types_of args) ≡ c.args.self.now = ap type_of (sym c.in-Interface.is) ∙ c.self.view_is in
+    let args = c.deref.result.now in
+    let is : interface c.in-Interface.class (types_of args) ≡ c.args.self.now = ap (λ (us : List Ty). interface c.in-Interface.class (types_of us)) c.deref.ensures ∙ ap type_of (sym c.in-Interface.is) ∙ c.self.view_is in
     subst (λ (t' : Ty). IsTrue c.are_simple.result ↔ IsSimple c.args.params.now t') is (through (simple_from c.args.params.now args) (simple_to c.args.params.now args) c.are_simple.ensures)
 
 pub TypeList::are_simple-loop-item-preserved : goal.TypeList::are_simple-loop-item-preserved

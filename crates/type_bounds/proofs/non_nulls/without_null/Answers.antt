@@ -27,7 +27,7 @@ returns-in-Void c = void_stays c.args.rows.now.table c.args.rows.now.formed c.ar
 
 pub returns-in-Interface : goal.returns-in-Interface
 returns-in-Interface c =
-    interface_stays c.args.rows.now.table c.args.rows.now.formed c.args.t.now c.in-Interface.class (types_of c.in-Interface.args) (sym c.t.view_is ∙ ap type_of c.in-Interface.is)
+    interface_stays c.args.rows.now.table c.args.rows.now.formed c.args.t.now c.in-Interface.class (types_of c.in-Interface.args.value) (sym c.t.view_is ∙ ap type_of c.in-Interface.is)
 
 pub returns-in-Function : goal.returns-in-Function
 returns-in-Function c =

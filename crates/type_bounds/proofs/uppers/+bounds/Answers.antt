@@ -19,7 +19,7 @@ use Rattle.type_bounds.specs.declared.meetings.End.{End}
 use Rattle.type_bounds.specs.declared.meetings.End.TheVariants.{At, Var, Nowhere, Apart}
 use Rattle.type_bounds.specs.NamedView.{join_named, AreSomeNamed}
 use Rattle.type_bounds.proofs.BoundFalls.{arguments_fall, required_fall, optional_fall, named_fall, results_fall, marked_fall, type_weighs, param_weighs, name_weighs}
-use Rattle.type_bounds.proofs.SomeParts.{some_type, some_by, some_marked, some_marked_by, some_function, moved, moved_types, moved_named}
+use Rattle.type_bounds.proofs.SomeParts.{some_type, some_interface, some_by, some_marked, some_marked_by, some_function, moved, moved_types, moved_named}
 use Rattle.type_bounds.proofs.Rests.{completed, completed_named, one_more, one_more_named, uppers_end, lowers_end, lowers_end_right, uppers_step, lowers_step, upper_names_end, lower_names_end, upper_names_step, lower_names_step, other_names_step}
 use Rattle.type_bounds.proofs.NamesBefore.{IsEachBefore, NamedSoFar, before_formed, before_later, before_with}
 use Rattle.type_bounds.proofs.SignatureTests.{type_none, type_some, have_lower_counts, same_named_lists, same_length, names_at}
@@ -56,33 +56,32 @@ upper_settled-returns-in_default t c =
 pub upper_of_class-returns-then-as_slice : goal.upper_of_class-returns-then-as_slice
 upper_of_class-returns-then-as_slice t c = (
   invalid,
-  at_other_arguments c.args.rows.now.table c.args.class c.in-Interface.other c.args.args.now c.in-Interface.others (sym c.t.view_is ∙ ap type_of c.in-Interface.is) (from_not c.if-ne.ensures)
-      (λ e. c.if-as_slice.true (ap length c.as_slice.ensures ∙ e ∙ sym (ap length c.as_slice-in-Interface.ensures))),
+  at_other_arguments c.args.rows.now.table c.args.class c.in-Interface.other c.args.args.now c.in-Interface.others.value (sym c.t.view_is ∙ ap type_of c.in-Interface.is) (from_not c.if-ne.ensures)
+      (λ e. c.if-as_slice.true (ap length c.as_slice.ensures ∙ e ∙ sym (ap length (c.as_slice-in-Interface.ensures ∙ c.deref-in-Interface.ensures)))),
   c.invalid.ensures,
 )
 
 pub upper_of_class-upper_all-requires : goal.upper_of_class-upper_all-requires
 upper_of_class-upper_all-requires t c =
-    let is : c.args.t.now ≡ interface c.in-Interface.other (types_of c.in-Interface.others) = sym c.t.view_is ∙ ap type_of c.in-Interface.is in
-    let fall = arguments_fall c.args.rows.now.table c.args.class c.in-Interface.other c.args.args.now c.in-Interface.others c.as_slice-in-Interface-2.result.now c.as_slice-in-Interface-3.result.now is c.as_slice-in-Interface-2.ensures c.as_slice-in-Interface-3.ensures in
+    let is : c.args.t.now ≡ interface c.in-Interface.other (types_of c.in-Interface.others.value) = sym c.t.view_is ∙ ap type_of c.in-Interface.is in
+    let fall = arguments_fall c.args.rows.now.table c.args.class c.in-Interface.other c.args.args.now c.in-Interface.others.value c.as_slice-in-Interface-2.result.now c.as_slice-in-Interface-3.result.now is c.as_slice-in-Interface-2.ensures (c.as_slice-in-Interface-3.ensures ∙ c.deref-in-Interface-2.ensures) in
     let same : length c.as_slice-in-Interface-2.result.now ≡ length c.as_slice-in-Interface-3.result.now =
-    ap length c.as_slice-in-Interface-2.ensures ∙ sym (ap length c.as_slice.ensures) ∙ c.if-as_slice.false ∙ ap length c.as_slice-in-Interface.ensures ∙ sym (ap length c.as_slice-in-Interface-3.ensures)
+    ap length c.as_slice-in-Interface-2.ensures ∙ sym (ap length c.as_slice.ensures) ∙ c.if-as_slice.false ∙ ap length (c.as_slice-in-Interface.ensures ∙ c.deref-in-Interface.ensures) ∙ sym (ap length (c.as_slice-in-Interface-3.ensures ∙ c.deref-in-Interface-2.ensures))
     in
     (omega (arith, fall, c.decreases), same)
 
 pub upper_of_class-returns-in-Function : goal.upper_of_class-returns-in-Function
 upper_of_class-returns-in-Function t c =
-    (object, at_class_and_function c.args.rows.now.table c.args.class (types_of c.args.args.now) c.in-Function.field-0.value (sym c.t.view_is ∙ ap type_of c.in-Function.is), c.class.ensures)
+    some_type (UpperApart c.args.rows.now.table (interface c.args.class (types_of c.args.args.now)) c.args.t.now) c.class.result object (at_class_and_function c.args.rows.now.table c.args.class (types_of c.args.args.now) c.in-Function.field-0.value (sym c.t.view_is ∙ ap type_of c.in-Function.is)) c.class.ensures
 
 pub upper_of_class-returns-in_ok-uppers-in-Interface :
     goal.upper_of_class-returns-in_ok-uppers-in-Interface
 upper_of_class-returns-in_ok-uppers-in-Interface t c =
-    let uppers = c.in_ok-uppers-in-Interface.ensures in (
-      interface c.args.class uppers.0,
-      at_one_class c.args.rows.now.table c.args.class c.in-Interface.other c.args.args.now c.in-Interface.others (sym c.t.view_is ∙ ap type_of c.in-Interface.is) (from_not c.if-ne.ensures)
-          (moved_types (Uppers c.args.rows.now.table) c.as_slice-in-Interface-2.ensures c.as_slice-in-Interface-3.ensures uppers.1),
-      c.interface.ensures uppers.0 uppers.2,
-    )
+    let uppers = c.in_ok-uppers-in-Interface.ensures in
+    some_interface (UpperApart c.args.rows.now.table (interface c.args.class (types_of c.args.args.now)) c.args.t.now) c.interface.result c.args.class c.in_ok-uppers-in-Interface.uppers (interface c.args.class uppers.0)
+    (at_one_class c.args.rows.now.table c.args.class c.in-Interface.other c.args.args.now c.in-Interface.others.value (sym c.t.view_is ∙ ap type_of c.in-Interface.is) (from_not c.if-ne.ensures)
+    (moved_types (Uppers c.args.rows.now.table) c.as_slice-in-Interface-2.ensures (c.as_slice-in-Interface-3.ensures ∙ c.deref-in-Interface-2.ensures) uppers.1))
+    uppers.0 refl uppers.2 c.interface.ensures
 
 pub upper_of_class-returns-in_default : goal.upper_of_class-returns-in_default
 upper_of_class-returns-in_default t c =
@@ -92,11 +91,11 @@ pub upper_of_function-returns-then-not-have_upper :
     goal.upper_of_function-returns-then-not-have_upper
 upper_of_function-returns-then-not-have_upper t c =
     let is : c.args.t.now ≡ function_type c.deref.result.now = sym c.t.view_is ∙ ap type_of c.in-Function.is ∙ ap function_type (sym c.deref.ensures) in
-    (interface FUNCTION no_more, at_other_functions c.args.rows.now.table c.args.function.now c.deref.result.now is (sym c.have_upper.ensures ∙ c.if-not-have_upper.true), c.class.ensures)
+    some_type (UpperApart c.args.rows.now.table (function_type c.args.function.now) c.args.t.now) c.class.result (interface FUNCTION no_more) (at_other_functions c.args.rows.now.table c.args.function.now c.deref.result.now is (sym c.have_upper.ensures ∙ c.if-not-have_upper.true)) c.class.ensures
 
 pub upper_of_function-returns-in-Interface : goal.upper_of_function-returns-in-Interface
 upper_of_function-returns-in-Interface t c =
-    (object, at_function_and_class c.args.rows.now.table c.args.function.now c.in-Interface.class (types_of c.in-Interface.args) (sym c.t.view_is ∙ ap type_of c.in-Interface.is), c.class-in-Interface.ensures)
+    some_type (UpperApart c.args.rows.now.table (function_type c.args.function.now) c.args.t.now) c.class-in-Interface.result object (at_function_and_class c.args.rows.now.table c.args.function.now c.in-Interface.class (types_of c.in-Interface.args.value) (sym c.t.view_is ∙ ap type_of c.in-Interface.is)) c.class-in-Interface.ensures
 
 pub upper_of_function-returns-in_default : goal.upper_of_function-returns-in_default
 upper_of_function-returns-in_default t c =

@@ -26,6 +26,6 @@ returns c =
     let s = c.args.self.now in
     let same = put_in c.args.arguments.now s c.in_ok-replacements.replacements.items c.as_slice.result.now c.in_ok-replacements.ensures c.as_slice.ensures in
     let sizes = ap size_of (ap (λ (rs : List Replacement). replaced rs (interface_of s)) c.deref.ensures.value ∙ same) in (
-      ap (interface s.class) c.in_ok-args.ensures ∙ ap (λ (rs : List Replacement). replaced rs (interface_of s)) c.deref-2.ensures.value ∙ same,
+      c.in_ok-formed.ensures ∙ ap (interface s.class) c.in_ok-args.ensures ∙ ap (λ (rs : List Replacement). replaced rs (interface_of s)) c.deref-2.ensures.value ∙ same,
       omega (arith, sizes, c.nodes_with.ensures, c.saturating_add-nodes.ensures, c.if-nodes-gt-NODE_LIMIT.false),
     )

@@ -121,8 +121,8 @@ pub face_classes-match_lists-requires : goal.face_classes-match_lists-requires
 face_classes-match_lists-requires t c =
     let m = c.args.self.now in
     let ts = types_of c.args.args.now in
-    let ss = types_of c.in-Interface.other_args in
-    let measured = same_measure m.rows.now.table c.args.side c.requires.class (sym c.other.view_is ∙ ap type_of c.in-Interface.is) in
+    let ss = types_of c.deref-others.result.now in
+    let measured = same_measure m.rows.now.table c.args.side c.requires.class (sym c.other.view_is ∙ ap type_of c.in-Interface.is ∙ ap (λ (us : List Ty). interface c.in-Interface.other_class (types_of us)) (sym c.deref-others.ensures)) in
     let below = arguments_below m.rows.now.table m.rows.now.formed c.args.side c.args.class c.in-Interface.other_class ts ss in
     let same : pairs_measure m.rows.now.table (paired c.args.side (types_of c.as_slice.result.now) (types_of c.as_slice-then-eq.result.now)) ≡ pairs_measure m.rows.now.table (paired c.args.side ts ss) = rw (c.as_slice.ensures, c.as_slice-then-eq.ensures) refl in
     (omega (arith, below, same, measured, c.decreases), tt)
@@ -131,8 +131,8 @@ pub face_classes-returns-then-eq : goal.face_classes-returns-then-eq
 face_classes-returns-then-eq t c =
     let m = c.args.self.now in
     let ts = types_of c.args.args.now in
-    let ss = types_of c.in-Interface.other_args in
-    let other_is = sym c.other.view_is ∙ ap type_of c.in-Interface.is in
+    let ss = types_of c.deref-others.result.now in
+    let other_is = sym c.other.view_is ∙ ap type_of c.in-Interface.is ∙ ap (λ (us : List Ty). interface c.in-Interface.other_class (types_of us)) (sym c.deref-others.ensures) in
     let same : paired c.args.side (types_of c.as_slice.result.now) (types_of c.as_slice-then-eq.result.now) ≡ paired c.args.side ts ss = rw (c.as_slice.ensures, c.as_slice-then-eq.ensures) refl in
     finds_at m.rows.now.table m.params.now c.args.side c.args.formal.now c.args.other.now (interface c.args.class ts) (interface c.in-Interface.other_class ss) c.args.found.now.items c.match_lists.new.found.items c.match_lists.result c.requires.class other_is
     (finds_one_class m.rows.now.table m.params.now c.args.side c.args.class c.in-Interface.other_class ts ss c.args.found.now.items c.match_lists.new.found.items c.match_lists.result (sym c.eq.ensures ∙ c.if-eq.true)
@@ -142,8 +142,8 @@ pub face_classes-returns-in_err-form_above-in-AtLeast : goal.face_classes-return
 face_classes-returns-in_err-form_above-in-AtLeast t c =
     let m = c.args.self.now in
     let ts = types_of c.args.args.now in
-    let ss = types_of c.in-Interface.other_args in
-    let other_is = sym c.other.view_is ∙ ap type_of c.in-Interface.is in
+    let ss = types_of c.deref-others.result.now in
+    let other_is = sym c.other.view_is ∙ ap type_of c.in-Interface.is ∙ ap (λ (us : List Ty). interface c.in-Interface.other_class (types_of us)) (sym c.deref-others.ensures) in
     let before = c.args.found.now.items in
     let refused = c.in_err-form_above-in-AtLeast.field-0.0 in
     at_refusal (Finds (Face m.rows.now.table m.params.now c.args.side c.args.formal.now c.args.other.now) before before) c.from_residual.result refused c.from_residual.ensures.1
@@ -154,8 +154,8 @@ pub face_classes-returns-in_err-form_above-in-AtMost : goal.face_classes-returns
 face_classes-returns-in_err-form_above-in-AtMost t c =
     let m = c.args.self.now in
     let ts = types_of c.args.args.now in
-    let ss = types_of c.in-Interface.other_args in
-    let other_is = sym c.other.view_is ∙ ap type_of c.in-Interface.is in
+    let ss = types_of c.deref-others.result.now in
+    let other_is = sym c.other.view_is ∙ ap type_of c.in-Interface.is ∙ ap (λ (us : List Ty). interface c.in-Interface.other_class (types_of us)) (sym c.deref-others.ensures) in
     let before = c.args.found.now.items in
     let refused = c.in_err-form_above-in-AtMost.field-0.0 in
     at_refusal (Finds (Face m.rows.now.table m.params.now c.args.side c.args.formal.now c.args.other.now) before before) c.from_residual-in_err-form_above-in-AtMost.result refused c.from_residual-in_err-form_above-in-AtMost.ensures.1
@@ -166,8 +166,8 @@ pub face_classes-returns-in-None : goal.face_classes-returns-in-None
 face_classes-returns-in-None t c =
     let m = c.args.self.now in
     let ts = types_of c.args.args.now in
-    let ss = types_of c.in-Interface.other_args in
-    let other_is = sym c.other.view_is ∙ ap type_of c.in-Interface.is in
+    let ss = types_of c.deref-others.result.now in
+    let other_is = sym c.other.view_is ∙ ap type_of c.in-Interface.is ∙ ap (λ (us : List Ty). interface c.in-Interface.other_class (types_of us)) (sym c.deref-others.ensures) in
     let before = c.args.found.now.items in
     let so = c.fits-in-None.ensures ∙ ap (λ (u : Ty). is_on_side m.rows.now.table c.args.side u c.args.other.now) c.requires.class ∙ ap (λ (u : Ty). is_on_side m.rows.now.table c.args.side (interface c.args.class ts) u) other_is in
     finds_at m.rows.now.table m.params.now c.args.side c.args.formal.now c.args.other.now (interface c.args.class ts) (interface c.in-Interface.other_class ss) before before (Ok c.fits-in-None.result) c.requires.class other_is
@@ -178,8 +178,8 @@ pub face_classes-returns-in-None-2 : goal.face_classes-returns-in-None-2
 face_classes-returns-in-None-2 t c =
     let m = c.args.self.now in
     let ts = types_of c.args.args.now in
-    let ss = types_of c.in-Interface.other_args in
-    let other_is = sym c.other.view_is ∙ ap type_of c.in-Interface.is in
+    let ss = types_of c.deref-others.result.now in
+    let other_is = sym c.other.view_is ∙ ap type_of c.in-Interface.is ∙ ap (λ (us : List Ty). interface c.in-Interface.other_class (types_of us)) (sym c.deref-others.ensures) in
     let before = c.args.found.now.items in
     let so = c.fits-in-None-2.ensures ∙ ap (λ (u : Ty). is_on_side m.rows.now.table c.args.side u c.args.other.now) c.requires.class ∙ ap (λ (u : Ty). is_on_side m.rows.now.table c.args.side (interface c.args.class ts) u) other_is in
     finds_at m.rows.now.table m.params.now c.args.side c.args.formal.now c.args.other.now (interface c.args.class ts) (interface c.in-Interface.other_class ss) before before (Ok c.fits-in-None-2.result) c.requires.class other_is
@@ -190,8 +190,8 @@ pub face_classes-match_lists-requires-in-Some : goal.face_classes-match_lists-re
 face_classes-match_lists-requires-in-Some t c =
     let m = c.args.self.now in
     let ts = types_of c.args.args.now in
-    let ss = types_of c.in-Interface.other_args in
-    let measured = same_measure m.rows.now.table c.args.side c.requires.class (sym c.other.view_is ∙ ap type_of c.in-Interface.is) in
+    let ss = types_of c.deref-others.result.now in
+    let measured = same_measure m.rows.now.table c.args.side c.requires.class (sym c.other.view_is ∙ ap type_of c.in-Interface.is ∙ ap (λ (us : List Ty). interface c.in-Interface.other_class (types_of us)) (sym c.deref-others.ensures)) in
     let above = subst (λ (o : Option Ty). FormsAbove m.rows.now.table c.in-Interface.other_class ss c.args.class (Ok o)) c.in-Some.is c.in_ok-form_above-in-AtLeast.ensures in
     let below : pairs_measure m.rows.now.table (paired c.args.side ts (arguments_of c.in-Some.above)) < side_measure m.rows.now.table c.args.side (interface c.args.class ts) (interface c.in-Interface.other_class ss) =
     rw c.in-AtLeast.is (other_above_below m.rows.now.table m.rows.now.formed c.args.class c.in-Interface.other_class ts ss (arguments_of c.in-Some.above) above.1.above) in
@@ -202,8 +202,8 @@ pub face_classes-match_lists-requires-in-Some-2 : goal.face_classes-match_lists-
 face_classes-match_lists-requires-in-Some-2 t c =
     let m = c.args.self.now in
     let ts = types_of c.args.args.now in
-    let ss = types_of c.in-Interface.other_args in
-    let measured = same_measure m.rows.now.table c.args.side c.requires.class (sym c.other.view_is ∙ ap type_of c.in-Interface.is) in
+    let ss = types_of c.deref-others.result.now in
+    let measured = same_measure m.rows.now.table c.args.side c.requires.class (sym c.other.view_is ∙ ap type_of c.in-Interface.is ∙ ap (λ (us : List Ty). interface c.in-Interface.other_class (types_of us)) (sym c.deref-others.ensures)) in
     let above = subst (λ (o : Option Ty). FormsAbove m.rows.now.table c.args.class ts c.in-Interface.other_class (Ok o)) c.in-Some-2.is c.in_ok-form_above-in-AtMost.ensures in
     let below : pairs_measure m.rows.now.table (paired c.args.side (arguments_of c.in-Some-2.above) ss) < side_measure m.rows.now.table c.args.side (interface c.args.class ts) (interface c.in-Interface.other_class ss) =
     rw c.in-AtMost.is (formal_above_below m.rows.now.table m.rows.now.formed c.args.class c.in-Interface.other_class ts ss (arguments_of c.in-Some-2.above) above.1.above) in
@@ -214,8 +214,8 @@ pub face_classes-returns-in-Some : goal.face_classes-returns-in-Some
 face_classes-returns-in-Some t c =
     let m = c.args.self.now in
     let ts = types_of c.args.args.now in
-    let ss = types_of c.in-Interface.other_args in
-    let other_is = sym c.other.view_is ∙ ap type_of c.in-Interface.is in
+    let ss = types_of c.deref-others.result.now in
+    let other_is = sym c.other.view_is ∙ ap type_of c.in-Interface.is ∙ ap (λ (us : List Ty). interface c.in-Interface.other_class (types_of us)) (sym c.deref-others.ensures) in
     let above = subst (λ (o : Option Ty). FormsAbove m.rows.now.table c.in-Interface.other_class ss c.args.class (Ok o)) c.in-Some.is c.in_ok-form_above-in-AtLeast.ensures in
     let same : paired c.args.side (types_of c.as_slice-in-Some.result.now) (types_of c.arguments_of.result.now) ≡ paired c.args.side ts (arguments_of c.in-Some.above) = rw (c.as_slice-in-Some.ensures, c.arguments_of.ensures) refl in
     let before = c.args.found.now.items in
@@ -228,8 +228,8 @@ pub face_classes-returns-in-Some-2 : goal.face_classes-returns-in-Some-2
 face_classes-returns-in-Some-2 t c =
     let m = c.args.self.now in
     let ts = types_of c.args.args.now in
-    let ss = types_of c.in-Interface.other_args in
-    let other_is = sym c.other.view_is ∙ ap type_of c.in-Interface.is in
+    let ss = types_of c.deref-others.result.now in
+    let other_is = sym c.other.view_is ∙ ap type_of c.in-Interface.is ∙ ap (λ (us : List Ty). interface c.in-Interface.other_class (types_of us)) (sym c.deref-others.ensures) in
     let above = subst (λ (o : Option Ty). FormsAbove m.rows.now.table c.args.class ts c.in-Interface.other_class (Ok o)) c.in-Some-2.is c.in_ok-form_above-in-AtMost.ensures in
     let same : paired c.args.side (types_of c.arguments_of-in-Some-2.result.now) (types_of c.as_slice-in-Some-2.result.now) ≡ paired c.args.side (arguments_of c.in-Some-2.above) ss = rw (c.as_slice-in-Some-2.ensures, c.arguments_of-in-Some-2.ensures) refl in
     let before = c.args.found.now.items in
