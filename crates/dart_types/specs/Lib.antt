@@ -33,3 +33,5 @@ pub mod BoundVars
 pub mod Marks
 pub mod Replacements
 pub mod Gathering
+pub mod Invalid
+pub mod CoreClasses

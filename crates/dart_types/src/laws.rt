@@ -1,13 +1,14 @@
 //! Laws of subtyping and of substitution, for all well-formed rows and all types.
 
-ghost use Rattle.std.specs.Prelude.{◌≡◌, ◌↔◌, IsTrue};
+ghost use Rattle.std.specs.Prelude.{◌≡◌, ◌↔◌, All, map, IsTrue};
 ghost use Rattle.dart_types.specs.Ty.{Ty};
 ghost use Rattle.dart_types.specs.Normal.{normal};
 ghost use Rattle.dart_types.specs.Scope.{IsInScope, IsWithinBounds};
 ghost use Rattle.dart_types.specs.Sub.{Sub};
 ghost use Rattle.dart_types.specs.SubTest.{sub};
 ghost use Rattle.dart_types.specs.Substitution.{put, by_pairs};
-ghost use Rattle.dart_types.specs.declared.ids.TheConstants.{OBJECT, FUNCTION};
+ghost use Rattle.dart_types.specs.CoreClasses.{named_classes, places_of_named_classes};
+ghost use Rattle.dart_types.specs.declared.ids.TheConstants.{CORE, OBJECT, FUNCTION};
 ghost use Rattle.dart_types.specs.declared.refusal.TheConstants.{NODE_LIMIT};
 
 use crate::ids::VarId;
@@ -15,11 +16,14 @@ use crate::rows::Rows;
 use crate::types::DartType;
 
 /// The numbers that rules name: 4,096 types may stand in a type, and `Object` and `Function` are the
-/// first and the fourth class of library 0, which is `dart:core`.
+/// first and the fourth class of library 0, which is `dart:core`; so it is with its other classes that
+/// rules name.
 pub fn constants_are_those_of_the_rules()
     ensures limit { NODE_LIMIT ≡ 4096 }
     ensures object { OBJECT ≡ record { lib = record { 0 = 0 }; index = 0 } }
     ensures function { FUNCTION ≡ record { lib = record { 0 = 0 }; index = 3 } }
+    ensures core { All (λ class. class.lib ≡ CORE) named_classes }
+    ensures places { map (λ class. class.index) named_classes ≡ places_of_named_classes }
 {}
 
 /// A type is a subtype of itself, and of all that a supertype of it is a subtype of.

@@ -19,6 +19,7 @@ mod filling;
 mod gathering;
 mod hierarchy;
 mod ids;
+mod invalid;
 mod laws;
 mod named_search;
 mod normal;
@@ -40,7 +41,11 @@ mod types;
 
 pub use class_arguments::Arguments;
 pub use class_rows::{ClassRow, VarList, VarRow};
-pub use ids::{CORE, ClassId, FUNCTION, LibId, NO_LIBRARY, OBJECT, VarId};
+pub use ids::{
+    ARGUMENT_ERROR, BOOL, CORE, ClassId, ERROR, EXCEPTION, FUNCTION, INT,
+    INTEGER_DIVISION_BY_ZERO_EXCEPTION, ITERABLE, ITERATOR, LIST, LibId, MAP, NO_LIBRARY, NULL,
+    OBJECT, RANGE_ERROR, STACK_OVERFLOW_ERROR, STACK_TRACE, STATE_ERROR, STRING, TYPE_ERROR, VarId,
+};
 pub use laws::{
     constants_are_those_of_the_rules, normal_form_laws, substitution_keeps_subtypes, subtype_laws,
     subtype_test_law,

@@ -24,5 +24,3 @@ mod row_tests;
 mod sample_rows;
 #[cfg(test)]
 mod subtype_tests;
-#[cfg(test)]
-mod tables;

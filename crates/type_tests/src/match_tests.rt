@@ -7,8 +7,8 @@
 //! f is `int` where both match, and nothing tells f where they don't; where both match and nothing
 //! constrains X, nothing tells X.
 
+use crate::infer_tests::first_wrong;
 use crate::sample_rows::sample_rows;
-use crate::tables::{About, first_wrong};
 use std::test::Fail;
 
 // Formals that are a parameter, or one with `?`, and formals without a part that faces another.
@@ -111,7 +111,7 @@ fn matches(rt: HostRuntime) -> Result<(), Fail> {
         FIXED_AND_MARKED,
         SUPERINTERFACES,
     ] {
-        assert_eq!(rt; first_wrong(alloc, &rows, About::Calls, table)?, "");
+        assert_eq!(rt; first_wrong(alloc, &rows, table)?, "");
     }
     Ok(())
 }

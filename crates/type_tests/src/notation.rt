@@ -158,9 +158,11 @@ impl Reader {
 
     fn promote(&mut self, alloc: Global) -> Result<(), Fail> {
         let to = last(&mut self.types)?;
-        let to = Rc::new(alloc, to)?;
         match last(&mut self.types)?.node {
-            TypeNode::Var(var) => self.put(TypeNode::Promoted { var, to }),
+            TypeNode::Var(var) => {
+                self.types.push(DartType::promoted(alloc, var, to)?)?;
+                Ok(())
+            }
             _ => Err("no variable stands before".into()),
         }
     }
@@ -189,8 +191,8 @@ impl Reader {
             named: signature.named,
             result,
         };
-        let function = Rc::new(alloc, function)?;
-        self.put(TypeNode::Function(function))
+        self.types.push(DartType::function(alloc, function)?)?;
+        Ok(())
     }
 
     fn positional(&mut self, required: bool) -> Result<(), Fail> {

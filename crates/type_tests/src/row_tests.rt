@@ -2,7 +2,6 @@
 
 use crate::notation::type_in;
 use crate::sample_rows::{Class, OTHER, class_row, sample_rows, var, var_row};
-use crate::tables::{About, first_wrong, parts};
 use dart_types::{CORE, ClassId, LibId, NO_LIBRARY, Rows, is_subtype};
 use std::alloc::Global;
 use std::test::Fail;
@@ -13,28 +12,27 @@ const COMPARABLE_ROW: Class = (b'C', CORE, 2, 1, "o", 1);
 
 const MAP_ROW: Class = (b'M', CORE, 9, 1, "o", 1);
 
-// Rows of a class of the core library, `PLACE|PARAMETERS|DEPTH|SUPERTYPES = ANSWER`: its place in the
-// library, the number of its parameters, how far it is from `Object`, and its direct supertypes; and, as
-// `yes` or `no`, whether they are well formed beside those of Object, of Comparable, and of a Map with one
-// parameter.
-const ROWS: &str = "\
-0|0|0| = yes
-0|0|2|oC = no
-3|0|1|o = yes
-3|0|2|oC = no
-3|1|1|o = no
-4|0|0| = no
-4|0|2|oC = yes
--- The depth is the longest way up.
-4|0|1|o oC = no
--- A supertype is a class that has a row, and as many arguments as that says.
-4|1|1|X = no
-4|0|1|s = no
-4|0|2|ooM = no
--- Its variables are parameters of the class, and no function type and no `X & U` is in it.
-4|0|2|XC = no
-4|0|2|(V)C = no
-4|1|2|Xo&C = no";
+// Rows of a class, and whether they are well formed beside those of Object, of Comparable, and of a
+// Map with one parameter.
+const ROWS: [(Class, bool); 14] = [
+    ((b'o', CORE, 0, 0, "", 0), true),
+    ((b'o', CORE, 0, 0, "oC", 2), false),
+    ((b'F', CORE, 3, 0, "o", 1), true),
+    ((b'F', CORE, 3, 0, "oC", 2), false),
+    ((b'F', CORE, 3, 1, "o", 1), false),
+    ((b'i', CORE, 4, 0, "", 0), false),
+    ((b'i', CORE, 4, 0, "oC", 2), true),
+    // The depth is the longest way up.
+    ((b'i', CORE, 4, 0, "o oC", 1), false),
+    // A supertype is a class that has a row, and as many arguments as that says.
+    ((b'i', CORE, 4, 1, "X", 1), false),
+    ((b'i', CORE, 4, 0, "s", 1), false),
+    ((b'i', CORE, 4, 0, "ooM", 2), false),
+    // Its variables are parameters of the class, and no function type and no `X & U` is in it.
+    ((b'i', CORE, 4, 0, "XC", 2), false),
+    ((b'i', CORE, 4, 0, "(V)C", 2), false),
+    ((b'i', CORE, 4, 1, "Xo&C", 2), false),
+];
 
 // Whether the row of a class is well formed beside the others.
 fn fits(alloc: Global, class: Class) -> Result<bool, Fail> {
@@ -71,25 +69,14 @@ fn declares(alloc: Global, lib: LibId) -> Result<bool, Fail> {
     Ok(Rows::are_well_formed(&classes, &vars))
 }
 
-// The class of a text.
-fn class_in(text: &'static str) -> Result<Class, Fail> {
-    let (index, text) = parts(text, "|")?;
-    let (params, text) = parts(text, "|")?;
-    let (depth, supers) = parts(text, "|")?;
-    let index = index.parse::<u32>()?;
-    let params = params.parse::<u32>()?;
-    let depth = depth.parse::<u64>()?;
-    Ok((b' ', CORE, index, params, supers, depth))
-}
-
-/// Whether the row of a class is well formed just where its line says so.
-pub(crate) fn is_row(alloc: Global, line: &'static str) -> Result<bool, Fail> {
-    let (class, answer) = parts(line, " = ")?;
-    let says = answer == "yes";
-    if !says && answer != "no" {
-        return Err("the answer is yes or no".into());
+// The first row whose answer is another.
+fn first_wrong(alloc: Global) -> Result<Option<usize>, Fail> {
+    for (i, (class, right)) in ROWS.iter().enumerate() {
+        if fits(alloc, *class)? != *right {
+            return Ok(Some(i));
+        }
     }
-    Ok(fits(alloc, class_in(class)?)? == says)
+    Ok(None)
 }
 
 fn class(lib: LibId, index: u32) -> ClassId {
@@ -99,30 +86,23 @@ fn class(lib: LibId, index: u32) -> ClassId {
 #[test]
 fn rows(rt: HostRuntime) -> Result<(), Fail> {
     let alloc = rt.alloc();
-    let rows = sample_rows(alloc)?;
-    assert_eq!(rt; first_wrong(alloc, &rows, About::ClassRows, ROWS)?, "");
+    assert_eq!(rt; first_wrong(alloc)?, None);
     assert!(rt; object_takes(alloc, 0)?);
     assert!(rt; !object_takes(alloc, 1)?);
     assert!(rt; declares(alloc, OTHER)?);
     assert!(rt; !declares(alloc, NO_LIBRARY)?);
-    let copied = rows.copy(alloc)?;
+    let copied = sample_rows(alloc)?.copy(alloc)?;
     let s = type_in(alloc, "Q")?;
     let t = type_in(alloc, "nG")?;
-    let answers = [
-        is_subtype(&copied, &s, &t),
-        copied.class(class(CORE, 8)).is_some(),
-        copied.class(class(CORE, 77)).is_none(),
-        copied.class_at(28).is_some(),
-        copied.class_at(29).is_none(),
-        copied.bound(var(15)).is_some(),
-        copied.bound(var(16)).is_none(),
-    ];
-    assert_eq!(rt; answers, [true; 7]);
-    let counts = [
-        copied.vars().len(),
-        copied.superinterfaces(class(CORE, 4)).len(),
-        copied.superinterfaces(class(OTHER, 4)).len(),
-    ];
-    assert_eq!(rt; counts, [92, 3, 4]);
+    assert!(rt; is_subtype(&copied, &s, &t));
+    assert!(rt; copied.class(class(CORE, 8)).is_some());
+    assert!(rt; copied.class(class(CORE, 77)).is_none());
+    assert!(rt; copied.class_at(28).is_some());
+    assert!(rt; copied.class_at(29).is_none());
+    assert_eq!(rt; copied.vars().len(), 92);
+    assert!(rt; copied.bound(var(15)).is_some());
+    assert!(rt; copied.bound(var(16)).is_none());
+    assert_eq!(rt; copied.superinterfaces(class(CORE, 4)).len(), 3);
+    assert_eq!(rt; copied.superinterfaces(class(OTHER, 4)).len(), 4);
     Ok(())
 }

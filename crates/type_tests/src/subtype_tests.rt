@@ -1,190 +1,230 @@
 //! Pairs of types with whether one is a subtype of the other, worked out from the rules.
 
-use crate::notation::type_in;
+use crate::notation::{type_in, types_in};
 use crate::sample_rows::sample_rows;
-use crate::tables::{About, claim_of, first_wrong};
-use dart_types::{Rows, is_subtype};
+use dart_types::{Rows, is_subtype, is_subtype_of_object};
 use std::alloc::Global;
 use std::test::Fail;
 
-// `S < T` where S is a subtype of T, and `S /< T` where it isn't.
-const PAIRS: &str = "\
--- Top types, bottom types, `Null` and `?`.
-o? < o?
-i < o?
-V < o?
-o? < V
-V < V?
-V? < o?
-V /< o
-V /< N
-V /< i
-o? /< o
-N /< o
-N < o?
-N < N
-N < i?
-N /< i
-N /< E
-N < E?
-i /< N
-i? /< N
-E? < N
-E < i
-E < N
-E < X
-E < Xi&
-i /< E
-i < i?
-i? /< i
-i? < n?
-n? /< i?
-i? /< o
-i?? < i?
-i? < i??
-! < !
-! < o?
-! /< o
-! /< i
-i /< !
+/// Two types, and whether the first is a subtype of the second.
+type Pair = (&'static str, &'static str, bool);
 
--- Classes and their arguments.
-i < o
-F < o
-i < n
-n /< i
-i /< d
-i < nC
-i /< iC
-iL < nL
-nL /< iL
-iL < nI
-iI /< iL
-i?L /< oL
-i?L < o?L
-NL < i?L
-EL < iL
-o?L < VL
-iLL < nIL
-siM < snM
-siM < snM?
-iL /< iiM
--- S<A, B> is a Map<B, A>.
-siS < isM
-siS /< siM
--- K<T> is a G<T> by H<T> and by J<T>.
-iK < nG
-iK < iJ
-nK /< iG
-iG /< iK
--- Q is a G<int>, and by H<num> a G<num>.
-Q < iG
-Q < nG
-Q /< sG
-Q /< iH
+/// Top types, bottom types, `Null` and `?`.
+const TOPS_AND_BOTTOMS: [Pair; 37] = [
+    ("o?", "o?", true),
+    ("i", "o?", true),
+    ("V", "o?", true),
+    ("o?", "V", true),
+    ("V", "V?", true),
+    ("V?", "o?", true),
+    ("V", "o", false),
+    ("V", "N", false),
+    ("V", "i", false),
+    ("o?", "o", false),
+    ("N", "o", false),
+    ("N", "o?", true),
+    ("N", "N", true),
+    ("N", "i?", true),
+    ("N", "i", false),
+    ("N", "E", false),
+    ("N", "E?", true),
+    ("i", "N", false),
+    ("i?", "N", false),
+    ("E?", "N", true),
+    ("E", "i", true),
+    ("E", "N", true),
+    ("E", "X", true),
+    ("E", "Xi&", true),
+    ("i", "E", false),
+    ("i", "i?", true),
+    ("i?", "i", false),
+    ("i?", "n?", true),
+    ("n?", "i?", false),
+    ("i?", "o", false),
+    ("i??", "i?", true),
+    ("i?", "i??", true),
+    ("!", "!", true),
+    ("!", "o?", true),
+    ("!", "o", false),
+    ("!", "i", false),
+    ("i", "!", false),
+];
 
--- Function types.
-(V) < o
-(V) < F
-F /< (V)
-(V) /< i
-i /< F
-(V)? < F?
-(V)? /< F
-(V)L < FL
--- Results go with the type, parameters against it.
-(i) < (n)
-(n) /< (i)
-(i) < (V)
-(V) /< (i)
-(nrV) < (irV)
-(irV) /< (nrV)
-(irV) /< (i?rV)
-((irV)rV) < ((nrV)rV)
-((nrV)rV) /< ((irV)rV)
-((n)rV) < ((i)rV)
--- Optional positional parameters.
-(irV) /< (V)
-(ipV) < (V)
-(V) /< (ipV)
-(ipV) < (irV)
-(irV) /< (ipV)
-(ir npV) < (ir irV)
-(ir ipV) /< (ir npV)
-(irV) /< (ir irV)
--- Named parameters, and those that are required.
-(iaV) < (V)
-(V) /< (iaV)
-(iAV) /< (V)
-(iAV) < (iAV)
-(iAV) /< (iaV)
-(iaV) < (iAV)
-(naV) < (iaV)
-(iaV) /< (naV)
-(ia ibV) < (ibV)
-(ia iBV) /< (iaV)
-(ibV) /< (iaV)
+/// Classes and their arguments.
+const CLASSES: [Pair; 30] = [
+    ("i", "o", true),
+    ("F", "o", true),
+    ("i", "n", true),
+    ("n", "i", false),
+    ("i", "d", false),
+    ("i", "nC", true),
+    ("i", "iC", false),
+    ("iL", "nL", true),
+    ("nL", "iL", false),
+    ("iL", "nI", true),
+    ("iI", "iL", false),
+    ("i?L", "oL", false),
+    ("i?L", "o?L", true),
+    ("NL", "i?L", true),
+    ("EL", "iL", true),
+    ("o?L", "VL", true),
+    ("iLL", "nIL", true),
+    ("siM", "snM", true),
+    ("siM", "snM?", true),
+    ("iL", "iiM", false),
+    // S<A, B> is a Map<B, A>.
+    ("siS", "isM", true),
+    ("siS", "siM", false),
+    // K<T> is a G<T> by H<T> and by J<T>.
+    ("iK", "nG", true),
+    ("iK", "iJ", true),
+    ("nK", "iG", false),
+    ("iG", "iK", false),
+    // Q is a G<int>, and by H<num> a G<num>.
+    ("Q", "iG", true),
+    ("Q", "nG", true),
+    ("Q", "sG", false),
+    ("Q", "iH", false),
+];
 
--- Type variables, promoted and not. The bound of X is `Object?`, that of Y is `num`, of Z is Y, of W
--- is `Z?`, of U is `List<Y>`, and of T is `void Function(Y)`.
-X < X
-X < X?
-X < o?
-X /< o
-X /< Y
-Y < n
-Y /< i
-i /< Y
-Z < Y
-Z < o
-Y /< Z
-W < n?
-W < Y?
-W /< n
-W /< o
-N /< W
-U < nI
-U < YL
-U /< iL
-T < F
-T < (ZrV)
-T /< (nrV)
-YL < nL
--- X & int
-Xi& < i
-Xi& < X
-Xi& < o
-Xi& < Xn&
-Xn& /< Xi&
-i /< Xi&
-X /< Xi&
-N /< Xi&
-N < Xi&?
-Xi&? < i?
-Xi&? /< i
-Xi&L < iL
--- Y & num has no other values than Y.
-Y < Yn&
-Z < Yn&
-W < Yn&?
-W /< Yn&";
+/// Function types.
+const FUNCTION_TYPES: [Pair; 37] = [
+    ("(V)", "o", true),
+    ("(V)", "F", true),
+    ("F", "(V)", false),
+    ("(V)", "i", false),
+    ("i", "F", false),
+    ("(V)?", "F?", true),
+    ("(V)?", "F", false),
+    ("(V)L", "FL", true),
+    // Results go with the type, parameters against it.
+    ("(i)", "(n)", true),
+    ("(n)", "(i)", false),
+    ("(i)", "(V)", true),
+    ("(V)", "(i)", false),
+    ("(nrV)", "(irV)", true),
+    ("(irV)", "(nrV)", false),
+    ("(irV)", "(i?rV)", false),
+    ("((irV)rV)", "((nrV)rV)", true),
+    ("((nrV)rV)", "((irV)rV)", false),
+    ("((n)rV)", "((i)rV)", true),
+    // Optional positional parameters.
+    ("(irV)", "(V)", false),
+    ("(ipV)", "(V)", true),
+    ("(V)", "(ipV)", false),
+    ("(ipV)", "(irV)", true),
+    ("(irV)", "(ipV)", false),
+    ("(ir npV)", "(ir irV)", true),
+    ("(ir ipV)", "(ir npV)", false),
+    ("(irV)", "(ir irV)", false),
+    // Named parameters, and those that are required.
+    ("(iaV)", "(V)", true),
+    ("(V)", "(iaV)", false),
+    ("(iAV)", "(V)", false),
+    ("(iAV)", "(iAV)", true),
+    ("(iAV)", "(iaV)", false),
+    ("(iaV)", "(iAV)", true),
+    ("(naV)", "(iaV)", true),
+    ("(iaV)", "(naV)", false),
+    ("(ia ibV)", "(ibV)", true),
+    ("(ia iBV)", "(iaV)", false),
+    ("(ibV)", "(iaV)", false),
+];
 
-/// Whether the first type of a line is a subtype of the second just where the line says so.
-pub(crate) fn is_pair_of_types(
-    alloc: Global,
-    rows: &Rows,
-    line: &'static str,
-) -> Result<bool, Fail> {
-    let claim = claim_of(line, " < ", " /< ")?;
-    let s = type_in(alloc, claim.left)?;
-    let t = type_in(alloc, claim.right)?;
-    Ok(is_subtype(rows, &s, &t) == claim.holds)
+/// Type variables, promoted and not. The bound of X is `Object?`, that of Y is `num`, of Z is Y, of W
+/// is `Z?`, of U is `List<Y>`, and of T is `void Function(Y)`.
+const TYPE_VARIABLES: [Pair; 39] = [
+    ("X", "X", true),
+    ("X", "X?", true),
+    ("X", "o?", true),
+    ("X", "o", false),
+    ("X", "Y", false),
+    ("Y", "n", true),
+    ("Y", "i", false),
+    ("i", "Y", false),
+    ("Z", "Y", true),
+    ("Z", "o", true),
+    ("Y", "Z", false),
+    ("W", "n?", true),
+    ("W", "Y?", true),
+    ("W", "n", false),
+    ("W", "o", false),
+    ("N", "W", false),
+    ("U", "nI", true),
+    ("U", "YL", true),
+    ("U", "iL", false),
+    ("T", "F", true),
+    ("T", "(ZrV)", true),
+    ("T", "(nrV)", false),
+    ("YL", "nL", true),
+    // X & int
+    ("Xi&", "i", true),
+    ("Xi&", "X", true),
+    ("Xi&", "o", true),
+    ("Xi&", "Xn&", true),
+    ("Xn&", "Xi&", false),
+    ("i", "Xi&", false),
+    ("X", "Xi&", false),
+    ("N", "Xi&", false),
+    ("N", "Xi&?", true),
+    ("Xi&?", "i?", true),
+    ("Xi&?", "i", false),
+    ("Xi&L", "iL", true),
+    // Y & num has no other values than Y.
+    ("Y", "Yn&", true),
+    ("Z", "Yn&", true),
+    ("W", "Yn&?", true),
+    ("W", "Yn&", false),
+];
+
+// The first pair whose answer is another.
+fn first_wrong(alloc: Global, rows: &Rows, pairs: &[Pair]) -> Result<Option<usize>, Fail> {
+    for i in 0..pairs.len() {
+        let (s, t, answer) = pairs[i];
+        let left = type_in(alloc, s)?;
+        let right = type_in(alloc, t)?;
+        if is_subtype(rows, &left, &right) != answer {
+            return Ok(Some(i));
+        }
+        if right.is_object() && is_subtype_of_object(rows, &left) != answer {
+            return Ok(Some(i));
+        }
+    }
+    Ok(None)
 }
 
 #[test]
 fn subtypes(rt: HostRuntime) -> Result<(), Fail> {
     let alloc = rt.alloc();
     let rows = sample_rows(alloc)?;
-    assert_eq!(rt; first_wrong(alloc, &rows, About::Subtypes, PAIRS)?, "");
+    assert_eq!(rt; first_wrong(alloc, &rows, &TOPS_AND_BOTTOMS)?, None);
+    assert_eq!(rt; first_wrong(alloc, &rows, &CLASSES)?, None);
+    assert_eq!(rt; first_wrong(alloc, &rows, &FUNCTION_TYPES)?, None);
+    assert_eq!(rt; first_wrong(alloc, &rows, &TYPE_VARIABLES)?, None);
+    Ok(())
+}
+
+// Whether the invalid type stands in each type of the first text, and in none of the second.
+fn holds_invalid(alloc: Global, with: &str, without: &str) -> Result<bool, Fail> {
+    let holding = types_in(alloc, with)?;
+    for t in &holding {
+        if !t.holds_invalid() {
+            return Ok(false);
+        }
+    }
+    let others = types_in(alloc, without)?;
+    for t in &others {
+        if t.holds_invalid() {
+            return Ok(false);
+        }
+    }
+    Ok(true)
+}
+
+#[test]
+fn invalid_stands_in_types(rt: HostRuntime) -> Result<(), Fail> {
+    let alloc = rt.alloc();
+    let with = "! !? !L i!M X!& (!) (!rV) (!aV) (!pV)L";
+    assert!(rt; holds_invalid(alloc, with, "i V N E X iL isM? Xi& (irsaV)")?);
     Ok(())
 }
