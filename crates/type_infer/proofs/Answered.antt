@@ -1,5 +1,5 @@
 -- What calls answer is what is computed.
-use Rattle.std.proofs.Common.{◌≡◌, ℕ, List, length, get_or, Option, Result, Ok, Err, ap}
+use Rattle.std.proofs.Common.{◌≡◌, ℕ, List, length, get_or, Option, Result, Ok, Err}
 use Rattle.dart_types.specs.Ty.{Ty, invalid}
 use Rattle.dart_types.specs.Tables.{Table}
 use Rattle.dart_types.specs.WellFormed.{IsWellFormed}

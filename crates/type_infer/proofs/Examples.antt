@@ -22,7 +22,7 @@ use Rattle.type_infer.specs.Matching.{ended, Match, faced, constrained, other_el
 use Rattle.type_infer.specs.Solutions.{Solution, by_upper, no_other, one_other}
 use Rattle.type_infer.specs.Inference.{context_pair, Gathered, none_left, one_pair, Inferred, by_constraints, one_given, all_given, refused_here, solved, outside, no_bound}
 use Rattle.type_infer.specs.InferenceOf.{inferred_of, context_of_argument}
-use Rattle.type_infer.specs.MatchOf.{Found, match_of}
+use Rattle.type_infer.specs.MatchOf.{match_of}
 use Rattle.type_infer.specs.declared.constraints.Side.TheVariants.{AtLeast}
 use Rattle.type_infer.specs.declared.contexts.TheConstants.{OPEN_PARAMETER}
 use Rattle.type_infer.specs.declared.constraints.Constraint.{Constraint}

@@ -1,5 +1,5 @@
 -- A type that is so and is formed, or too large, is a type that is so.
-use Rattle.std.proofs.Common.{◌≡◌, ◌≤◌, Result, Ok, Err, sym, subst}
+use Rattle.std.proofs.Common.{◌≤◌, Result, Ok, Err, sym, subst}
 use Rattle.dart_types.specs.Ty.{Ty}
 use Rattle.dart_types.specs.Formed.{Forms}
 use Rattle.dart_types.specs.Sizes.{size_of}

@@ -1,13 +1,12 @@
 -- The arguments and contexts that are computed are those that the rules derive.
-use Rattle.std.proofs.Common.{◌≡◌, ◌≢◌, ℕ, ◌<◌, ◌≤◌, Bool, true, false, List, [], ◌∷◌, ◌++◌, Option, Some, None, Result, Ok, Err, refl, sym, ap, subst, cond, arith}
+use Rattle.std.proofs.Common.{◌≡◌, ◌≢◌, ℕ, ◌≤◌, Bool, true, false, List, [], ◌∷◌, ◌++◌, Option, Some, None, Result, Ok, Err, refl, subst, cond}
 use Rattle.std.specs.Prelude.{nat_le}
 use Rattle.std.proofs.lemmas.Bool.{leb-true, leb-false}
-use Rattle.dart_types.specs.Ty.{Ty, variable, nullable}
+use Rattle.dart_types.specs.Ty.{Ty, nullable}
 use Rattle.dart_types.specs.Heads.{object}
 use Rattle.dart_types.specs.Normal.{substituted}
 use Rattle.dart_types.specs.Same.{same_type}
 use Rattle.dart_types.specs.Sizes.{size_of, held}
-use Rattle.dart_types.specs.Sub.{Sub}
 use Rattle.dart_types.specs.SubTest.{sub}
 use Rattle.dart_types.specs.Tables.{Table}
 use Rattle.dart_types.specs.WellFormed.{IsWellFormed}
@@ -32,9 +31,8 @@ use Rattle.type_infer.specs.Promotions.{unpromoted}
 use Rattle.type_infer.specs.Solutions.{Folded, no_other, one_other, over_limit, Solution, by_upper, by_lower, IsFree}
 use Rattle.type_infer.specs.declared.constraints.Constraint.{Constraint}
 use Rattle.type_infer.specs.declared.constraints.Side.TheVariants.{AtLeast, AtMost}
-use Rattle.type_infer.specs.declared.contexts.TheConstants.{OPEN_PARAMETER}
 use Rattle.type_infer.specs.declared.refusal.InferRefusal.{InferRefusal}
-use Rattle.type_infer.specs.declared.refusal.InferRefusal.TheVariants.{NoSolution, Unconstrained, TooLarge}
+use Rattle.type_infer.specs.declared.refusal.InferRefusal.TheVariants.{NoSolution, Unconstrained}
 use Rattle.type_infer.proofs.MatchHolds.{match_is}
 use Rattle.type_infer.proofs.OneAnswer.{one_inference, one_context}
 

@@ -1,6 +1,6 @@
 -- What matching sets as it is computed is what its rules derive.
-use Rattle.std.proofs.Common.{◌≡◌, ℕ, zero, suc, ◌+◌, ◌<◌, ◌≤◌, max, Bool, true, false, not, List, [], ◌∷◌, ◌++◌, Option, Some, None, refl, sym, ◌∙◌, ap, subst, cond, arith, inl, inr}
-use Rattle.std.specs.Prelude.{◌⊎◌, ◌&&◌, ◌||◌, nat_le, filter, Contains}
+use Rattle.std.proofs.Common.{◌≡◌, ℕ, zero, suc, ◌<◌, ◌≤◌, Bool, true, false, not, List, [], ◌∷◌, ◌++◌, Option, Some, None, refl, sym, ◌∙◌, ap, subst, cond, arith, inl, inr}
+use Rattle.std.specs.Prelude.{◌&&◌, ◌||◌, nat_le, filter, Contains}
 use Rattle.std.specs.List.{list_all}
 use Rattle.std.specs.Option.{option_map_or}
 use Rattle.std.proofs.lemmas.Bool.{leb-true, leb-false}
@@ -24,9 +24,8 @@ use Rattle.type_bounds.proofs.CommonLists.{first_or_later, is_first, is_later, a
 use Rattle.type_bounds.proofs.OneBound.{clash}
 use Rattle.type_infer.specs.Above.{IsOnlyAbove, arguments_of}
 use Rattle.type_infer.specs.AboveOf.{is_of_class, only_arguments, only_above}
-use Rattle.type_infer.specs.Constraints.{opposite}
 use Rattle.type_infer.specs.Holding.{holds_param}
-use Rattle.type_infer.specs.Matching.{End, matched, mismatched, too_large, ended, is_on_side, is_built, is_as_it_stands, gives_way_at_mark, is_class, is_function, is_leaf, Match, fixed, faced, Face, MatchAll, constrained, open_there, null_at_mark, marked_both, marked_formal, marked_subtype, marked_other, bound_of_other, unbound_other, promoted_other, one_class, other_climbs, formal_climbs, other_too_large, formal_too_large, other_elsewhere, formal_elsewhere, functions, other_signature, leaf, all_matched, open_part, part_matched, part_ended}
+use Rattle.type_infer.specs.Matching.{End, matched, mismatched, too_large, ended, is_on_side, is_built, is_as_it_stands, Match, fixed, faced, Face, MatchAll, constrained, open_there, null_at_mark, marked_both, marked_formal, marked_subtype, marked_other, bound_of_other, unbound_other, promoted_other, one_class, other_climbs, formal_climbs, other_too_large, formal_too_large, other_elsewhere, formal_elsewhere, functions, other_signature, leaf, all_matched, open_part, part_matched, part_ended}
 use Rattle.type_infer.specs.MatchOf.{Found, sets_nothing, sets_then, match_by, match_all_by, constrains, gives_way, face_of_marked, as_they_stand, face_of_above, face_of_other_class, face_of_classes, face_of_class, face_of_functions, face_of_function, face_row, face_within, match_of}
 use Rattle.type_infer.specs.Open.{is_open}
 use Rattle.type_infer.specs.Pairs.{Pair, pair, paired, paired_by_name, parts_of, signatures_fit}

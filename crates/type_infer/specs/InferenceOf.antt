@@ -1,5 +1,5 @@
 -- The type arguments that a call leaves out, and the contexts of its arguments, as functions, for definitions that compute.
-use Rattle.std.specs.Prelude.{ℕ, Bool, nat_le, List, [], ◌∷◌, ◌++◌, length, slice_index_or, Option, None, Some, Result, Ok, Err, if◌then◌else◌}
+use Rattle.std.specs.Prelude.{ℕ, nat_le, List, [], ◌∷◌, ◌++◌, length, slice_index_or, Option, None, Some, Result, Ok, Err, if◌then◌else◌}
 use Rattle.dart_types.specs.Ty.{Ty, invalid, variable, nullable}
 use Rattle.dart_types.specs.Heads.{object}
 use Rattle.dart_types.specs.Normal.{substituted}

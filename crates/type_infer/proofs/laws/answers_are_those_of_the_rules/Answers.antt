@@ -1,12 +1,11 @@
-use Rattle.std.proofs.Common.{◌≡◌, List, Result, refl, sym, ap, subst}
-use Rattle.dart_types.specs.Ty.{Ty, invalid}
-use Rattle.std.specs.Prelude.{ℕ, length, slice_index_or}
+use Rattle.std.proofs.Common.{List, sym, subst}
+use Rattle.dart_types.specs.Ty.{invalid}
+use Rattle.std.specs.Prelude.{length, slice_index_or}
 use Rattle.type_infer.specs.Contexts.{ContextOf}
 use Rattle.type_infer.specs.Inference.{pairs_of, Inferred}
 use Rattle.type_infer.specs.Matching.{End, Match}
 use Rattle.type_infer.specs.MatchOf.{match_of}
 use Rattle.type_infer.specs.declared.constraints.Constraint.{Constraint}
-use Rattle.type_infer.specs.declared.refusal.InferRefusal.{InferRefusal}
 use Rattle.type_infer.proofs.Answered.{inferred_call, inferred_only, context_call, context_only}
 use Rattle.type_infer.proofs.MatchHolds.{match_is}
 use Rattle.type_infer.proofs.OneMatch.{one_match}
