@@ -1,0 +1,16 @@
+pub mod Readings
+pub mod Descent
+pub mod Leading
+pub mod Lists
+pub mod Longest
+pub mod Combinators
+pub mod Repetition
+pub mod Chains
+pub mod Choices
+pub mod Falls
+pub mod Groups
+pub mod Levels
+pub mod Elements
+pub mod Items
+pub mod Commits
+pub mod Parsers
