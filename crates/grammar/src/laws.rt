@@ -1,0 +1,4 @@
+//! What the parser's way finds.
+
+/// Nothing yet.
+pub fn parser_laws() {}

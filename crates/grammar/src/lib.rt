@@ -1,0 +1,19 @@
+//! The grammar of the language, whole: what each production reads, how deep its nodes may lie, and
+//! what a parser finds that goes down the tokens.
+//!
+//! `specs/Tokens.antt` has the tokens that the grammar reads, each with the number of tokens in the
+//! group that it opens; `specs/Types.antt`, `Expressions.antt` and `Statements.antt` have the
+//! productions as rules of `readings`, `specs/Below.antt` ties them together by the room that is left
+//! for nodes, and `specs/Descents.antt` is the parser's way. The contracts of `laws.rt` state that
+//! this way finds, of each type, expression and statement, the first of the longest readings. The
+//! crate has no parser; it stands on `dart_tokens`, `dart_tree` and `readings`, and knows nothing of
+//! what trees mean.
+#![tactic(auto)]
+
+mod laws;
+mod level;
+mod token;
+
+pub use laws::parser_laws;
+pub use level::{Level, Setting, Sign};
+pub use token::Token;
