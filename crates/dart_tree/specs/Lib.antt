@@ -1,1 +1,13 @@
 pub mod Tree
+pub mod TreeCode
+pub mod View
+pub mod Parts
+pub mod Places
+pub mod Numbers
+pub mod NumberLaws
+pub mod PlaceLaws
+pub mod Heights
+pub mod Bare
+pub mod TreeLaws
+pub mod Nodes
+pub mod Falls

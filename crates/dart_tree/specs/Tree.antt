@@ -4,7 +4,6 @@ use Rattle.dart_tokens.specs.declared.token.Kind.{Kind}
 use Rattle.dart_tree.specs.declared.names.ConstructorName.{ConstructorName}
 use Rattle.dart_tree.specs.declared.names.Identifier.{Identifier}
 use Rattle.dart_tree.specs.declared.names.Name.{Name}
-use Rattle.dart_tree.specs.declared.names.Annotation.{Annotation}
 use Rattle.dart_tree.specs.declared.names.ParameterKind.{ParameterKind}
 use Rattle.dart_tree.specs.declared.operators.AssignmentOperator.{AssignmentOperator}
 use Rattle.dart_tree.specs.declared.operators.BinaryOperator.{BinaryOperator}
@@ -227,22 +226,3 @@ trees_of (t ∷ ts) = more t (trees_of ts)
 abbrev pub part_of : Option Tree → Part
 part_of None = absent
 part_of (Some t) = present t
-
--- a name in a list, or one that may be left out, as a node
-abbrev pub name_of : Name → Tree
-name_of x = listed_name x.at x.word
-
--- names in their order
-abbrev pub names_of : List Name → Trees
-names_of [] = no_more
-names_of (x ∷ xs) = more (name_of x) (names_of xs)
-
--- the name that an option holds, or none
-abbrev pub name_part_of : Option Name → Part
-name_part_of None = absent
-name_part_of (Some x) = present (name_of x)
-
--- annotations in their order
-abbrev pub annotations_of : List Annotation → Trees
-annotations_of [] = no_more
-annotations_of (a ∷ rest) = more (annotation a.at a.name) (annotations_of rest)

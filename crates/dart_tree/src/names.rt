@@ -1,6 +1,7 @@
 //! Names as they are declared and mentioned.
 
 use crate::places::{Place, Span};
+use std::marker::Model;
 
 /// An identifier where it declares something, or stands in a list of names.
 ///
@@ -33,15 +34,6 @@ pub struct ConstructorName {
     pub name: Option<Identifier>,
 }
 
-/// `@name` before a declaration, a member or a parameter.
-#[derive(Clone, Copy, Debug, PartialEq, Eq)]
-pub struct Annotation {
-    /// Its number, and its range of text with the `@`.
-    pub at: Place,
-    /// What it names.
-    pub name: Identifier,
-}
-
 /// How arguments are given to a parameter.
 #[derive(Clone, Copy, Debug, PartialEq, Eq)]
 pub enum ParameterKind {
@@ -51,4 +43,48 @@ pub enum ParameterKind {
     OptionalPositional,
     /// By name, between `{` and `}`.
     Named,
+}
+
+/// `@name` before a declaration, a member or a parameter.
+#[derive(Drop)]
+pub struct Annotation {
+    /// Its number and its range of text.
+    pub at: Place,
+    /// What it names.
+    pub name: Identifier,
+}
+
+/// A name in a list of names, or one that may be left out.
+#[derive(Drop)]
+pub struct ListedName {
+    /// Its number and its range of text.
+    pub at: Place,
+    /// The place of its letters among the words of the text, from 0: equal for equal names.
+    pub word: u32,
+}
+
+impl Model for Annotation {
+    ghost use Rattle.dart_tree.specs.Tree.{Tree};
+    ghost use Rattle.dart_tree.specs.TreeCode.{tree_code};
+
+    ghost Value = { Tree };
+
+    ghost coded = { tree_code };
+
+    ghost use Rattle.dart_tree.specs.Parts.{annotation_of};
+
+    ghost view = { λ a. annotation_of a };
+}
+
+impl Model for ListedName {
+    ghost use Rattle.dart_tree.specs.Tree.{Tree};
+    ghost use Rattle.dart_tree.specs.TreeCode.{tree_code};
+
+    ghost Value = { Tree };
+
+    ghost coded = { tree_code };
+
+    ghost use Rattle.dart_tree.specs.Parts.{listed_name_of};
+
+    ghost view = { λ a. listed_name_of a };
 }

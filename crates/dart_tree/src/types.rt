@@ -1,0 +1,155 @@
+//! Types as they are written.
+
+use crate::functions::Parameter;
+use crate::names::{Identifier, Name};
+use crate::places::Place;
+use std::marker::Model;
+
+/// A type as it is written.
+#[cycle(tree)]
+#[derive(Drop)]
+pub struct WrittenType {
+    /// Its form, with its parts.
+    pub node: WrittenTypeNode,
+}
+
+/// The forms of a written type.
+#[cycle(tree)]
+#[derive(Drop)]
+pub enum WrittenTypeNode {
+    /// `void`.
+    Void {
+        at: Place,
+    },
+    /// `T`, `p.T`, `T<A>`, `T?`: behind an import prefix or not, with type arguments or not.
+    Named {
+        at: Place,
+        prefix: Option<Identifier>,
+        name: Identifier,
+        arguments: Option<TypeArguments>,
+        nullable: bool,
+    },
+    /// `R Function<X>(A a, [B b])`, `?` behind it or not: the required parameters, and then those between brackets or braces.
+    Function {
+        at: Place,
+        result: Option<Box<WrittenType>>,
+        type_parameters: Vec<TypeParameter>,
+        parameters: Vec<ParameterType>,
+        optional: Vec<Parameter>,
+        nullable: bool,
+    },
+}
+
+/// Type arguments with their brackets.
+#[cycle(tree)]
+#[derive(Drop)]
+pub struct TypeArguments {
+    /// Its number and its range of text.
+    pub at: Place,
+    /// The types, at least one.
+    pub types: Vec<WrittenType>,
+}
+
+/// A type parameter.
+#[cycle(tree)]
+#[derive(Drop)]
+pub struct TypeParameter {
+    /// Its number and its range of text.
+    pub at: Place,
+    /// Its name.
+    pub name: Name,
+    /// What it extends, where that is written.
+    pub bound: Option<WrittenType>,
+}
+
+/// A required parameter of a function type. Its name declares nothing.
+#[cycle(tree)]
+#[derive(Drop)]
+pub struct ParameterType {
+    /// Its number and its range of text.
+    pub at: Place,
+    /// Its type.
+    pub written: WrittenType,
+    /// Its name, where one is written.
+    pub name: Option<Identifier>,
+}
+
+impl Model for WrittenType {
+    ghost use Rattle.dart_tree.specs.Tree.{Tree};
+    ghost use Rattle.dart_tree.specs.TreeCode.{tree_code};
+    ghost use Rattle.dart_tree.specs.Numbers.{nodes_in};
+
+    ghost Value = { Tree };
+
+    ghost coded = { tree_code };
+
+    ghost use Rattle.dart_tree.specs.View.{written_type_of};
+
+    ghost view = { λ a. written_type_of a.node };
+
+    ghost size = { nodes_in };
+
+    ghost use Rattle.dart_tree.specs.Falls.{written_type_falls};
+
+    ghost size_decreases = { λ a h. written_type_falls a.node };
+}
+
+impl Model for TypeArguments {
+    ghost use Rattle.dart_tree.specs.Tree.{Tree};
+    ghost use Rattle.dart_tree.specs.TreeCode.{tree_code};
+    ghost use Rattle.dart_tree.specs.Numbers.{nodes_in};
+
+    ghost Value = { Tree };
+
+    ghost coded = { tree_code };
+
+    ghost use Rattle.dart_tree.specs.Parts.{type_arguments_of};
+
+    ghost view = { λ a. type_arguments_of a };
+
+    ghost size = { nodes_in };
+
+    ghost use Rattle.dart_tree.specs.Falls.{type_arguments_falls};
+
+    ghost size_decreases = { λ a h. type_arguments_falls a };
+}
+
+impl Model for TypeParameter {
+    ghost use Rattle.dart_tree.specs.Tree.{Tree};
+    ghost use Rattle.dart_tree.specs.TreeCode.{tree_code};
+    ghost use Rattle.dart_tree.specs.Numbers.{nodes_in};
+
+    ghost Value = { Tree };
+
+    ghost coded = { tree_code };
+
+    ghost use Rattle.dart_tree.specs.Parts.{type_parameter_of};
+
+    ghost view = { λ a. type_parameter_of a };
+
+    ghost size = { nodes_in };
+
+    ghost use Rattle.dart_tree.specs.Falls.{type_parameter_falls};
+
+    ghost size_decreases = { λ a h. type_parameter_falls a };
+}
+
+impl Model for ParameterType {
+    ghost use Rattle.dart_tree.specs.Tree.{Tree};
+    ghost use Rattle.dart_tree.specs.TreeCode.{tree_code};
+    ghost use Rattle.dart_tree.specs.Numbers.{nodes_in};
+
+    ghost Value = { Tree };
+
+    ghost coded = { tree_code };
+
+    ghost use Rattle.dart_tree.specs.Parts.{parameter_type_of};
+
+    ghost view = { λ a. parameter_type_of a };
+
+    ghost size = { nodes_in };
+
+    ghost use Rattle.dart_tree.specs.Falls.{parameter_type_falls};
+
+    ghost size_decreases = { λ a h. parameter_type_falls a };
+}
