@@ -73,22 +73,22 @@ abbrev pub sign_in : List (Kind × Sign) → Kind → Option Sign
 sign_in [] k = None
 sign_in (row ∷ rows) k = if sameb kinds.the_type k row.0 then Some row.1 else sign_in rows k
 
--- behind `>>`, and how many lexemes it has: `>>=` or `>>`
+-- `>>=` or `>>`, and how many lexemes it has behind its first
 abbrev pub shift_at : Token → List Token → Sign × ℕ
-shift_at t [] = (sign.Binary ShiftRight, 2)
-shift_at t (u ∷ us) = if adjoins t u && is kind.Equals u then (sign.Assign (Some ShiftRight), 3) else (sign.Binary ShiftRight, 2)
+shift_at t [] = (sign.Binary ShiftRight, 1)
+shift_at t (u ∷ us) = if adjoins t u && is kind.Equals u then (sign.Assign (Some ShiftRight), 2) else (sign.Binary ShiftRight, 1)
 
--- behind `>`, and how many lexemes it has: `>=`, `>>`, `>>=` or `>`. The lexemes of an operator stand side by side.
+-- `>=`, `>>`, `>>=` or `>`, and how many lexemes it has behind its first: those of one operator stand side by side
 abbrev pub greater_at : Token → List Token → Sign × ℕ
-greater_at t [] = (sign.Binary Greater, 1)
+greater_at t [] = (sign.Binary Greater, 0)
 greater_at t (u ∷ us) =
-    if adjoins t u && is kind.Equals u then (sign.Binary GreaterOrEqual, 2)
-    else if adjoins t u && is kind.Greater u then shift_at u us else (sign.Binary Greater, 1)
+    if adjoins t u && is kind.Equals u then (sign.Binary GreaterOrEqual, 1)
+    else if adjoins t u && is kind.Greater u then shift_at u us else (sign.Binary Greater, 0)
 
--- the operator that comes next, and how many lexemes it has
+-- the operator that comes next, and how many lexemes it has behind its first
 abbrev pub sign_at : List Token → Option (Sign × ℕ)
 sign_at [] = None
-sign_at (t ∷ ts) = if is kind.Greater t then Some (greater_at t ts) else option_map (λ s. (s, 1)) (sign_in signs t.kind)
+sign_at (t ∷ ts) = if is kind.Greater t then Some (greater_at t ts) else option_map (λ s. (s, 0)) (sign_in signs t.kind)
 
 -- an operator comes next that passes
 abbrev pub heads_sign : (Sign → Bool) → Test Token
@@ -106,7 +106,7 @@ is_assignment (sign.Assign compound) = true
 
 -- an operator that was found, with its range
 abbrev pub read_sign : {A : Type 0} → (Span → Sign → Option A) → List Token → Sign × ℕ → Option (Reading Token A)
-read_sign of ts s = option_map (λ a. (a, drop s.1 ts)) (of (span_over (take s.1 ts)) s.0)
+read_sign of ts s = option_map (λ a. (a, drop (suc s.1) ts)) (of (span_over (take (suc s.1) ts)) s.0)
 
 -- the operator that comes next, if there is one of a sort
 abbrev pub take_sign : {A : Type 0} → (Span → Sign → Option A) → Descent Token A

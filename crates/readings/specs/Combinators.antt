@@ -13,7 +13,7 @@ use Rattle.readings.specs.Longest.{parses_longest}
 pub parses_none : {T A : Type 0} (s f : Test T) → Parses {T = T} {A = A} s f (λ ts. []) (λ ts. None)
 parses_none s f = record { leads = λ ts. refl; starts = λ ts e. refl; shrinks = λ ts. tt }
 
-starts_at : (a b : Bool) → (a ≡ true → b ≡ true) → b ≡ false → a ≡ false
+pub starts_at : (a b : Bool) → (a ≡ true → b ≡ true) → b ≡ false → a ≡ false
 starts_at true b h e = absurd (let k : b ≡ true = h refl in cc)
 starts_at false b h e = refl
 

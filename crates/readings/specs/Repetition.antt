@@ -6,7 +6,7 @@ use Rattle.readings.specs.Readings.{Reading, Rule, Test, nothing, next, either, 
 use Rattle.readings.specs.Descent.{Descent, bind, or_else, take_given, take_token, take_where, ◌▸◌, ◌⊘◌, take_maybe, take_at_most, take_many, take_turn}
 use Rattle.readings.specs.Leading.{Each, Apart, Within, Late, Leads, Matches, Starts, Keeps, Fewer, AtMost, Parses}
 use Rattle.readings.specs.Lists.{each_append, each_implies, each_flat, each_map, or_false_left, or_false_right, or_left, or_right, leads_append, leads_each, leads_has, leads_map, leads_within, matches_within, late_within, within_left, within_right}
-use Rattle.readings.specs.Combinators.{followed_by, leads_seq, starts_seq, shrinks_seq, shrinks_after, keeps_shrinks, keeps_seq, keeps_make, made_leads, parses_turn, parses_token}
+use Rattle.readings.specs.Combinators.{followed_by, leads_seq, starts_seq, shrinks_seq, shrinks_after, keeps_shrinks, keeps_seq, keeps_make, made_leads, starts_at, parses_turn, parses_token}
 
 -- What is total: it always reads, at least nothing.
 
@@ -141,6 +141,10 @@ offers_given s f a = record { leads = λ ts. inl (refl, tt); found = λ ts. tt; 
 
 pub offers_within : {T A : Type 0} {s f : Test T} {p : Rule T A} {g : Descent T A} {a : A} (u : Test T) → ((ts : List T) → s ts ≡ true → u ts ≡ true) → Offers s f a p g → Offers u f a p g
 offers_within {s = s} {p = p} {g = g} u w m = record { leads = λ ts. matches_within s u w (p ts) (g ts) (m.leads ts); found = m.found; idle = m.idle; keeps = m.keeps }
+
+-- and with a weaker test of what is read
+pub offers_begins : {T A : Type 0} {s f : Test T} {p : Rule T A} {g : Descent T A} {a : A} (v : Test T) → Within f v → Offers s f a p g → Offers s v a p g
+offers_begins {f = f} v w m = record { leads = m.leads; found = m.found; idle = λ ts e. m.idle ts (starts_at (f ts) (v ts) (w ts) e); keeps = m.keeps }
 
 collapse : (a b : Bool) → ((a || (a || b)) || b) ≡ true → (a || b) ≡ true
 collapse true b e = refl

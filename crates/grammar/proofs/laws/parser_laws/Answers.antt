@@ -1,0 +1,19 @@
+use Rattle.readings.specs.Longest.{parses_longest}
+use Rattle.readings.specs.Combinators.{parses_sole}
+use Rattle.grammar.proofs.Agreement.{all_parse}
+use Rattle.grammar.proofs.laws.parser_laws.Goals as goal
+
+pub returns : goal.returns
+returns c = record {
+  written = λ room tokens. parses_longest (parses_sole (all_parse room).written) tokens;
+  tested = λ room setting tokens. parses_longest (parses_sole ((all_parse room).tested setting)) tokens;
+  constructed = λ room tokens. parses_longest (parses_sole (all_parse room).constructed) tokens;
+  named = λ room tokens. parses_longest (parses_sole (all_parse room).named) tokens;
+  expression = λ room setting tokens. parses_longest (parses_sole ((all_parse room).expression setting)) tokens;
+  operand = λ room setting above tokens. parses_longest (parses_sole ((all_parse room).operand setting above)) tokens;
+  unary = λ room setting tokens. parses_longest (parses_sole ((all_parse room).unary setting)) tokens;
+  section = λ room setting tokens. parses_longest (parses_sole ((all_parse room).section setting)) tokens;
+  simple = λ room tokens. parses_longest (parses_sole (all_parse room).simple) tokens;
+  block = λ room tokens. parses_longest (parses_sole (all_parse room).block) tokens;
+  statement = λ room tokens. parses_longest (parses_sole (all_parse room).statement) tokens;
+}
