@@ -46,7 +46,7 @@ string_part_parses d l a =
     (parses_switch (parses_turn string_text_of (parses_token (is kind.StringPart))) (interpolation_parses d l a) (far _ _ refl (λ t ts. refl)))
     refl (λ t ts. refl) refl (λ t ts. refl)
 
-string_parses : (d : Below) (l : Lower) → AllParse d l → Parses nothing (next begins_string) (string_rule d) (take_string l)
+pub string_parses : (d : Below) (l : Lower) → AllParse d l → Parses nothing (next begins_string) (string_rule d) (take_string l)
 unfolding string_rule take_string
 string_parses d l a =
     settled nothing (next begins_string)

@@ -3,4 +3,6 @@ pub mod TypesParse
 pub mod OperatorsParse
 pub mod ExpressionsParse
 pub mod StatementsParse
+pub mod DeclarationsParse
 pub mod Agreement
+pub mod Examples

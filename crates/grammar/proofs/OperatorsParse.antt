@@ -31,7 +31,7 @@ missed_at : {A : Type 0} (f : Sign → Bool) (of : Span → Sign → Option A) �
 missed_at f of none ts None e = refl
 missed_at {A = A} f of none ts (Some s) e = ap (λ (o : Option A). option_map (λ a. (a, drop (suc s.1) ts)) o) (none (span_over (take (suc s.1) ts)) s.0 e)
 
-sign_missed : {A : Type 0} (f : Sign → Bool) (of : Span → Sign → Option A) → ((span : Span) (s : Sign) → f s ≡ false → of span s ≡ None) → (ts : List Token) → heads_sign f ts ≡ false → take_sign of ts ≡ None
+pub sign_missed : {A : Type 0} (f : Sign → Bool) (of : Span → Sign → Option A) → ((span : Span) (s : Sign) → f s ≡ false → of span s ≡ None) → (ts : List Token) → heads_sign f ts ≡ false → take_sign of ts ≡ None
 sign_missed f of none [] e = refl
 sign_missed f of none (t ∷ ts) e = missed_at f of none (t ∷ ts) (sign_at (t ∷ ts)) e
 
@@ -45,7 +45,7 @@ sign_fewer : {A : Type 0} (of : Span → Sign → Option A) (t : Token) (ts : Li
 sign_fewer of t ts None x e = absurd (cc)
 sign_fewer of t ts (Some s) x e = read_fewer (suc (length ts)) (drop s.1 ts) (omega (arith, dropped s.1 ts)) (of (span_over (take (suc s.1) (t ∷ ts))) s.0) x e
 
-sign_falls : {A : Type 0} (of : Span → Sign → Option A) → Falls (take_sign of)
+pub sign_falls : {A : Type 0} (of : Span → Sign → Option A) → Falls (take_sign of)
 sign_falls of [] x e = absurd (cc)
 sign_falls of (t ∷ ts) x e = sign_fewer of t ts (sign_at (t ∷ ts)) x e
 

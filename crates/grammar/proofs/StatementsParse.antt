@@ -28,7 +28,7 @@ block_parses d l a = parses_make block_of (parses_sole (sole_braced (is kind.Ope
 
 -- Variables.
 
-abbrev begins_declared : Token → Bool
+abbrev pub begins_declared : Token → Bool
 begins_declared t = is kind.Final t || is kind.Var t || begins_type t
 
 declared_parses : (d : Below) (l : Lower) → AllParse d l → Parses nothing (next begins_declared) (declared_rule d) (take_declared l)
@@ -49,7 +49,7 @@ unfolding variables_rule take_variables
 variables_parse d l a = parses_make variables_of (parses_seq (declared_parses d l a) (separated_parses (variable_parses d l a) (far _ _ refl (λ t ts. refl))) (still _))
 
 -- variables, and a `;` behind them
-variables_end : (d : Below) (l : Lower) → AllParse d l → Parses nothing (next begins_declared) (variables_rule d ▹ token (is kind.Semicolon)) (take_variables l ▸ take_token (is kind.Semicolon))
+pub variables_end : (d : Below) (l : Lower) → AllParse d l → Parses nothing (next begins_declared) (variables_rule d ▹ token (is kind.Semicolon)) (take_variables l ▸ take_token (is kind.Semicolon))
 variables_end d l a = parses_seq (variables_parse d l a) (parses_token (is kind.Semicolon)) (far _ _ refl (λ t ts. refl))
 
 variable_statement_parses : (d : Below) (l : Lower) → AllParse d l → Parses nothing (next begins_declared) (variable_statement_rule d) (take_variable_statement l)
@@ -58,7 +58,7 @@ variable_statement_parses d l a = parses_make variable_statement_of (variables_e
 
 -- Functions.
 
-local_body_parses : (d : Below) (l : Lower) → AllParse d l → Parses nothing (either (heads kind.OpenBrace) (heads kind.Arrow)) (local_body_rule d) (take_local_body l)
+pub local_body_parses : (d : Below) (l : Lower) → AllParse d l → Parses nothing (either (heads kind.OpenBrace) (heads kind.Arrow)) (local_body_rule d) (take_local_body l)
 unfolding local_body_rule take_local_body
 local_body_parses d l a =
     settled nothing (either (heads kind.OpenBrace) (heads kind.Arrow))

@@ -136,7 +136,7 @@ plain_type_parses d l a question w =
 
 -- Parameters.
 
-annotation_parses : Parses nothing (heads kind.At) annotation_rule take_annotation
+pub annotation_parses : Parses nothing (heads kind.At) annotation_rule take_annotation
 unfolding annotation_rule take_annotation
 annotation_parses = parses_make annotation_of (parses_seq (parses_token (is kind.At)) (parses_token is_name) (still _))
 
@@ -147,7 +147,7 @@ value_parses m d l a = parses_seq (parses_token (is kind.Equals)) (parses_sole (
 pub offers_type : (d : Below) (l : Lower) → AllParse d l → (c : Test Token) → Offers nothing (next begins_type) None (exactly (before c d.named)) (take_maybe (take_before c l.named))
 offers_type d l a c = offers_exactly (parses_sole (sole_before c a.named))
 
-this_parses : Parses nothing (heads kind.This) (token (is kind.This) ▹ token (is kind.Period)) (take_token (is kind.This) ▸ take_token (is kind.Period))
+pub this_parses : Parses nothing (heads kind.This) (token (is kind.This) ▹ token (is kind.Period)) (take_token (is kind.This) ▸ take_token (is kind.Period))
 this_parses = parses_seq (parses_token (is kind.This)) (parses_token (is kind.Period)) (still _)
 
 abbrev begins_parameter : Token → Bool

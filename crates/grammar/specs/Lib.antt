@@ -6,3 +6,6 @@ pub mod Expressions
 pub mod Statements
 pub mod Below
 pub mod Descents
+pub mod Declarations
+pub mod DeclarationDescents
+pub mod Rows

@@ -1,12 +1,16 @@
 //! What the parser's way finds.
 
-ghost use Rattle.std.specs.Prelude.{◌≡◌, ℕ, List};
+ghost use Rattle.std.specs.Prelude.{◌≡◌, ℕ, Bool, List};
 ghost use Rattle.readings.specs.Readings.{longest};
 ghost use Rattle.grammar.specs.declared.token.Token.{Token};
 ghost use Rattle.grammar.specs.declared.level.Level.{Level};
 ghost use Rattle.grammar.specs.declared.level.Setting.{Setting};
 ghost use Rattle.grammar.specs.Below.{below};
+ghost use Rattle.grammar.specs.Declarations.{unit_below, unit_of};
 ghost use Rattle.grammar.specs.Descents.{lower};
+ghost use Rattle.grammar.specs.DeclarationDescents.{lower_unit};
+ghost use Rattle.grammar.specs.Rows.{ReadsExpression, ReadsStatement, ReadsUnit, expression_rows, statement_rows, unit_rows};
+ghost use Rattle.readings.specs.Leading.{Each};
 
 /// A parser that goes down the tokens and never gives a reading up for another finds what the
 /// grammar reads: of each type, expression, operand, block and statement, however many nodes may lie
@@ -26,4 +30,19 @@ pub fn parser_laws()
     ensures simple { (room : ℕ) (tokens : List Token) → longest ((below room).simple tokens) ≡ (lower room).simple tokens }
     ensures block { (room : ℕ) (tokens : List Token) → longest ((below room).block tokens) ≡ (lower room).block tokens }
     ensures statement { (room : ℕ) (tokens : List Token) → longest ((below room).statement tokens) ≡ (lower room).statement tokens }
+{}
+
+/// The tree of a text is the one on the parser's way, however many nodes may lie in its items and in
+/// their members.
+pub fn unit_laws()
+    ensures units { (in_core : Bool) (in_item in_member : ℕ) (tokens : List Token)
+        → unit_below in_core (below in_item) (below in_member) tokens ≡ lower_unit in_core (lower in_item) (lower in_member) tokens }
+    ensures whole { (in_core : Bool) (tokens : List Token) → unit_of in_core tokens ≡ lower_unit in_core (lower 199) (lower 198) tokens }
+{}
+
+/// Small texts are read as the rows beside them say.
+pub fn small_texts_are_read()
+    ensures expressions { Each ReadsExpression expression_rows }
+    ensures statements { Each ReadsStatement statement_rows }
+    ensures units { Each ReadsUnit unit_rows }
 {}

@@ -4,9 +4,10 @@
 //! `specs/Tokens.antt` has the tokens that the grammar reads, each with the number of tokens in the
 //! group that it opens; `specs/Types.antt`, `Expressions.antt` and `Statements.antt` have the
 //! productions as rules of `readings`, `specs/Below.antt` ties them together by the room that is left
-//! for nodes, and `specs/Descents.antt` is the parser's way. The contracts of `laws.rt` state that
-//! this way finds, of each type, expression and statement, the first of the longest readings. The
-//! crate has no parser; it stands on `dart_tokens`, `dart_tree` and `readings`, and knows nothing of
+//! for nodes, and `specs/Declarations.antt` goes on to whole texts. `specs/Descents.antt` and
+//! `DeclarationDescents.antt` are the parser's way. The contracts of `laws.rt` state that this way
+//! finds, of each type, expression and statement, the first of the longest readings, and the tree of
+//! each text; `specs/Rows.antt` has small texts with their trees. The crate has no parser; it stands on `dart_tokens`, `dart_tree` and `readings`, and knows nothing of
 //! what trees mean.
 #![tactic(auto)]
 
@@ -14,6 +15,6 @@ mod laws;
 mod level;
 mod token;
 
-pub use laws::parser_laws;
+pub use laws::{parser_laws, small_texts_are_read, unit_laws};
 pub use level::{Level, Setting, Sign};
 pub use token::Token;
