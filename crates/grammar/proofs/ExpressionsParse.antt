@@ -19,7 +19,7 @@ use Rattle.grammar.specs.declared.level.Level.{Level}
 use Rattle.grammar.specs.declared.level.Level.TheVariants as level
 use Rattle.grammar.specs.declared.level.Setting.{Setting}
 use Rattle.grammar.specs.declared.level.Setting.TheVariants as setting
-use Rattle.grammar.specs.Heights.{fits}
+use Rattle.dart_tree.specs.Heights.{fits}
 use Rattle.grammar.specs.Tokens.{is, is_either, is_name, heads, heads_name, width, past}
 use Rattle.grammar.specs.Operators.{table, heads_sign, is_binary, is_assignment, take_assignment, assignment_rule}
 use Rattle.grammar.specs.Types.{Below, every_time}

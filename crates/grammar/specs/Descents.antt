@@ -15,7 +15,7 @@ use Rattle.grammar.specs.declared.level.Level.{Level}
 use Rattle.grammar.specs.declared.level.Level.TheVariants as level
 use Rattle.grammar.specs.declared.level.Setting.{Setting}
 use Rattle.grammar.specs.declared.level.Setting.TheVariants as setting
-use Rattle.grammar.specs.Heights.{fits}
+use Rattle.dart_tree.specs.Heights.{fits}
 use Rattle.grammar.specs.Tokens.{is, is_either, is_name, is_type_name, heads, heads_name, anything, width, past}
 use Rattle.grammar.specs.Types.{separated, inner, type_arguments_of, type_parameter_of, type_parameters_of, void_of, heads_qualified, qualified_of, unqualified_of, named_type_of, annotation_of, heads_required, heads_field, parameter_of, parameter_list_of, parameter_type_of, Tail, tail_of, first_tail_of, next_tail_of, every_time}
 use Rattle.grammar.specs.Operators.{table, heads_sign, is_binary, take_binary, take_assignment, unary_at, postfix_at}

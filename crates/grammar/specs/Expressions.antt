@@ -14,7 +14,7 @@ use Rattle.grammar.specs.declared.level.Level.{Level}
 use Rattle.grammar.specs.declared.level.Level.TheVariants as level
 use Rattle.grammar.specs.declared.level.Setting.{Setting}
 use Rattle.grammar.specs.declared.level.Setting.TheVariants as setting
-use Rattle.grammar.specs.Heights.{fits}
+use Rattle.dart_tree.specs.Heights.{fits}
 use Rattle.grammar.specs.Tokens.{is, is_either, is_name, heads, first_then, group_then, anything, width, past, span_of, place_over, place_of, identifier_at}
 use Rattle.grammar.specs.Operators.{table, sign_at, heads_sign, binary_rule, assignment_rule, prefix_rule, postfix_rule}
 use Rattle.grammar.specs.Types.{Below, every_time, inner, behind_token, type_arguments_rule, plain_type_rule, parameter_list_rule}

@@ -1,5 +1,4 @@
 pub mod Tokens
-pub mod Heights
 pub mod Types
 pub mod Operators
 pub mod Expressions

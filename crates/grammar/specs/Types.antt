@@ -9,7 +9,7 @@ use Rattle.grammar.specs.declared.token.Token.{Token}
 use Rattle.grammar.specs.declared.level.Level.{Level}
 use Rattle.grammar.specs.declared.level.Setting.{Setting}
 use Rattle.grammar.specs.declared.level.Setting.TheVariants as setting
-use Rattle.grammar.specs.Heights.{fits}
+use Rattle.dart_tree.specs.Heights.{fits}
 use Rattle.grammar.specs.Tokens.{is, is_either, is_name, is_type_name, heads, heads_name, first_then, width, past, place_over, place_of, name_at, identifier_at}
 
 -- What the rules read where fewer nodes may lie on a way down.
