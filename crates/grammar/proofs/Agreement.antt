@@ -1,18 +1,16 @@
 -- The parser's way finds each rule's first longest reading, by induction on the nodes that may lie on a way down.
-use Rattle.std.proofs.Common.{◌≡◌, ℕ, zero, suc, Bool, true, false, ◌&&◌, List, [], ◌∷◌, Option, Some, None, refl}
-use Rattle.readings.specs.Readings.{Rule, Test, next, nothing, either}
-use Rattle.readings.specs.Descent.{Descent}
-use Rattle.readings.specs.Leading.{Within, Parses, Sole}
+use Rattle.std.proofs.Common.{ℕ, zero, suc, [], None, refl}
+use Rattle.readings.specs.Readings.{Test, nothing}
+use Rattle.readings.specs.Leading.{Within, Sole}
 use Rattle.readings.specs.Combinators.{parses_none, parses_sole, sole_longest}
 use Rattle.dart_tokens.specs.declared.token.Kind.TheVariants as kind
 use Rattle.dart_tree.specs.Tree.{Tree}
 use Rattle.grammar.specs.declared.token.Token.{Token}
-use Rattle.grammar.specs.declared.level.Setting.{Setting}
 use Rattle.grammar.specs.Tokens.{is, heads, anything}
-use Rattle.grammar.specs.Types.{Below, heads_field}
-use Rattle.grammar.specs.Expressions.{heads_choice, heads_nullable}
+use Rattle.grammar.specs.Types.{heads_field}
+use Rattle.grammar.specs.Expressions.{heads_nullable}
 use Rattle.grammar.specs.Below.{below}
-use Rattle.grammar.specs.Descents.{Lower, lower}
+use Rattle.grammar.specs.Descents.{lower}
 use Rattle.grammar.proofs.TypesParse.{AllParse, within_first, plain_type_parses, type_parses}
 use Rattle.grammar.proofs.ExpressionsParse.{simple_parses, unary_parses, operand_sole, section_head_parses, section_parses, expression_sole}
 use Rattle.grammar.proofs.StatementsParse.{block_parses, statement_sole}

@@ -1,35 +1,31 @@
 -- The parser's way finds what the rules of members, declarations and directives read.
-use Rattle.std.proofs.Common.{◌≡◌, ℕ, Bool, true, false, ◌&&◌, ◌||◌, List, [], ◌∷◌, map, length, Option, Some, None, is_some, option_map, if◌then◌else◌, refl, ap}
-use Rattle.readings.specs.Readings.{Reading, Rule, Test, next, nothing, either, token, given, ◌▹◌, exactly, before, longest_of}
-use Rattle.readings.specs.Descent.{Descent, take_token, take_given, ◌▸◌, take_maybe, take_before}
-use Rattle.readings.specs.Leading.{Apart, Within, Parses, Sole}
-use Rattle.readings.specs.Lists.{or_left, or_right}
+use Rattle.std.proofs.Common.{◌≡◌, ℕ, Bool, true, false, ◌&&◌, ◌||◌, List, [], ◌∷◌, map, length, Option, Some, None, is_some, option_map, refl, ap}
+use Rattle.readings.specs.Readings.{Rule, Test, next, nothing, either, token, ◌▹◌, longest_of}
+use Rattle.readings.specs.Descent.{Descent, take_token, ◌▸◌}
+use Rattle.readings.specs.Leading.{Within, Parses, Sole}
 use Rattle.readings.specs.Combinators.{parses_none, parses_within, parses_token, parses_make, parses_turn, parses_seq, parses_sole, sole_longest}
 use Rattle.readings.specs.Choices.{parses_switch, parses_where}
-use Rattle.readings.specs.Repetition.{Offers, parses_last, parses_offered, offers_given, offers_maybe, offers_many}
+use Rattle.readings.specs.Repetition.{parses_last, parses_offered, offers_given, offers_maybe, offers_many}
 use Rattle.readings.specs.Commits.{parses_prefer, sole_function}
 use Rattle.readings.specs.Elements.{sole_inside_offered}
 use Rattle.readings.specs.Items.{sole_braced, same_items}
 use Rattle.dart_tokens.specs.declared.token.Kind.TheVariants as kind
 use Rattle.dart_tree.specs.Tree.{Tree, trees_of, unit}
 use Rattle.dart_tree.specs.declared.places.Span.{Span}
-use Rattle.dart_tree.specs.declared.names.ConstructorName.{ConstructorName}
-use Rattle.dart_tree.specs.declared.operators.OperatorName.{OperatorName}
 use Rattle.dart_tree.specs.declared.operators.DeclaredOperator.{DeclaredOperator}
-use Rattle.dart_tree.specs.declared.operators.BinaryOperatorKind.{BinaryOperatorKind}
 use Rattle.grammar.specs.declared.token.Token.{Token}
 use Rattle.grammar.specs.declared.level.Setting.TheVariants as setting
 use Rattle.grammar.specs.declared.level.Sign.{Sign}
 use Rattle.grammar.specs.declared.level.Sign.TheVariants as sign
-use Rattle.grammar.specs.Tokens.{is, is_name, is_type_name, heads, heads_name, first_then, width, past, place_over}
+use Rattle.grammar.specs.Tokens.{is, is_name, is_type_name, heads, heads_name, width, past, place_over}
 use Rattle.grammar.specs.Operators.{table, heads_sign}
-use Rattle.grammar.specs.Types.{Below, annotation_of, annotation_rule}
-use Rattle.grammar.specs.Statements.{segment, error_of, variables_rule}
-use Rattle.grammar.specs.Declarations.{allowed, native_of, empty_of, body_rule, Signature, getting_of, set_of, plain_of, heads_getter, heads_setter, signature_rule, function_of, function_rule, is_class, constructor_name_of, constructor_name_rule, field_initializer_of, super_of, redirection_of, constructed_rule, initializer_rule, constructor_of, constructor_rule, factory_of, factory_rule, declared_operator, operator_name, declared_sign, is_declared, take_declared_sign, declared_sign_rule, tilde_of, index_of, operator_rule, operator_member_of, operator_member_rule, begins_static, heads_static, method_of, fields_of, plain_member_rule, behind_word, static_member_rule, member_of, member_rule, members_rule, types_behind, class_of, class_with_rule, class_word, class_rule, mixin_of, mixin_rule, alias_of, alias_rule, declared_function_of, declared_variables_of, plain_declaration_rule, heads_class, heads_word, declaration_of, declaration_rule, listed, library_names_rule, library_of, library_rule, show_of, hide_of, combinator_rule, import_of, import_rule, export_of, export_rule, part_directive_of, part_rule, part_of_uri_of, part_of_library_of, part_of_rule, directive_rule, item_rule, unit_below}
-use Rattle.grammar.specs.Descents.{Lower, begins_string, take_annotation, take_variables}
+use Rattle.grammar.specs.Types.{Below}
+use Rattle.grammar.specs.Statements.{segment, error_of}
+use Rattle.grammar.specs.Declarations.{allowed, native_of, empty_of, body_rule, getting_of, set_of, plain_of, heads_getter, heads_setter, signature_rule, function_of, function_rule, is_class, constructor_name_of, constructor_name_rule, field_initializer_of, super_of, redirection_of, constructed_rule, initializer_rule, constructor_of, constructor_rule, factory_of, factory_rule, declared_operator, operator_name, declared_sign, is_declared, take_declared_sign, declared_sign_rule, tilde_of, index_of, operator_rule, operator_member_of, operator_member_rule, heads_static, method_of, fields_of, plain_member_rule, behind_word, static_member_rule, member_of, member_rule, members_rule, types_behind, class_of, class_with_rule, class_word, class_rule, mixin_of, mixin_rule, alias_of, alias_rule, declared_function_of, declared_variables_of, plain_declaration_rule, heads_class, heads_word, declaration_of, declaration_rule, listed, library_names_rule, library_of, library_rule, show_of, hide_of, combinator_rule, import_of, import_rule, export_of, export_rule, part_directive_of, part_rule, part_of_uri_of, part_of_library_of, part_of_rule, directive_rule, item_rule, unit_below}
+use Rattle.grammar.specs.Descents.{Lower}
 use Rattle.grammar.specs.DeclarationDescents.{take_allowed, take_body, take_signature, take_function, take_constructor_name, take_constructed, take_initializer, take_constructor, take_factory, take_operator, take_operator_member, take_plain_member, take_static_member, take_member, take_members, take_types_behind, take_class_with, take_class, take_mixin, take_alias, take_plain_declaration, take_declaration, take_library_names, take_library, take_combinator, take_import, take_export, take_part, take_part_of, take_directive, take_item, lower_unit}
-use Rattle.grammar.proofs.KindTests.{far, far_second, within, settled, still}
-use Rattle.grammar.proofs.TypesParse.{AllParse, begins_type, begins_operand, annotation_parses, this_parses, offers_type, separated_parses, type_parameters_parses, parameter_list_parses}
+use Rattle.grammar.proofs.KindTests.{far, far_second, settled, still}
+use Rattle.grammar.proofs.TypesParse.{AllParse, begins_type, annotation_parses, this_parses, offers_type, separated_parses, type_parameters_parses, parameter_list_parses}
 use Rattle.grammar.proofs.OperatorsParse.{sign_missed, sign_falls}
 use Rattle.grammar.proofs.ExpressionsParse.{string_parses, arguments_parse}
 use Rattle.grammar.proofs.StatementsParse.{begins_declared, variables_end, local_body_parses}

@@ -1,9 +1,9 @@
 -- The parser's way finds what the rules of expressions read.
-use Rattle.std.proofs.Common.{◌≡◌, ℕ, suc, ◌<◌, ◌++◌, Bool, true, false, ◌&&◌, ◌||◌, List, [], ◌∷◌, Option, Some, None, length, if◌then◌else◌, refl, ap, subst, sym, ◌∙◌, inr, arith}
-use Rattle.readings.specs.Readings.{Reading, Rule, Test, next, nothing, either, optional, token, ◌▹◌, ◌∣◌, before, longest_of}
-use Rattle.readings.specs.Descent.{Descent, bind, climb, take_token, ◌▸◌, take_where, take_before, take_onto, take_chain}
+use Rattle.std.proofs.Common.{◌≡◌, ℕ, ◌<◌, ◌++◌, Bool, true, false, ◌||◌, List, [], ◌∷◌, Option, Some, length, if◌then◌else◌, refl, ap, subst, sym, ◌∙◌, inr, arith}
+use Rattle.readings.specs.Readings.{Reading, Rule, Test, next, nothing, either, optional, token, ◌▹◌, ◌∣◌}
+use Rattle.readings.specs.Descent.{Descent, bind, climb, take_token, ◌▸◌, take_where, take_onto}
 use Rattle.readings.specs.Leading.{Each, Apart, Within, Late, Parses, Sole}
-use Rattle.readings.specs.Combinators.{parses_none, parses_within, parses_token, parses_make, parses_turn, parses_seq, parses_sole, sole_longest}
+use Rattle.readings.specs.Combinators.{parses_within, parses_token, parses_make, parses_turn, parses_seq, parses_sole, sole_longest}
 use Rattle.readings.specs.Choices.{Wins, parses_first, parses_switch, parses_where}
 use Rattle.readings.specs.Repetition.{parses_last, parses_offered, offers_maybe, offers_many}
 use Rattle.readings.specs.Commits.{parses_prefer, sole_before}
@@ -23,8 +23,8 @@ use Rattle.dart_tree.specs.Heights.{fits}
 use Rattle.grammar.specs.Tokens.{is, is_either, is_name, heads, heads_name, width, past}
 use Rattle.grammar.specs.Operators.{table, heads_sign, is_binary, is_assignment, take_assignment, assignment_rule}
 use Rattle.grammar.specs.Types.{Below, every_time}
-use Rattle.grammar.specs.Expressions.{begins_expression, heads_nullable, simple_string_of, string_text_of, simple_interpolation_of, interpolation_rule, string_part_rule, interpolated_of, string_rule, strings_of, strings_rule, heads_label, positional_of, named_of, argument_rule, arguments_of, arguments_rule, integer_of, boolean_of, null_of, this_of, super_of, identifier_of, simple_rule, generic_of, heads_use, name_rule, parenthesis_of, parenthesis_rule, arrow_of, closure_of, heads_closure, closure_rule, new_of, new_rule, entry_of, entry_rule, listed_of, entries_of, collection_of, collection_rule, primary_rule, member_of, element_of, check_of, plain_call_of, generic_call_of, behind_call, selector_rule, select_with, selected_rule, one_time, postfix_of, unary_of, incremented_rule, unary_rule, operated_of, tested_of, cast_of, choices_of, operated_rule, right_rule, times, side_with, operand_rule, assign_of, assignment_expression_rule, throw_of, throw_rule, cascaded_name_of, cascaded_index_of, section_head_rule, section_rule, cascade_of, section_of, cascade_section_rule, cascade_rule, expression_rule}
-use Rattle.grammar.specs.Descents.{Lower, begins_string, begins_prefix, take_interpolation, take_string_part, take_string, take_strings, take_argument, take_arguments, take_simple, take_name, take_parenthesis, take_closure, take_new, take_entry, take_collection, take_primary, take_selector, take_selected, take_incremented, take_unary, take_operated, take_right, take_operand, take_assignment_expression, take_throw, take_section_head, take_section, take_cascade_section, take_cascade, take_expression}
+use Rattle.grammar.specs.Expressions.{begins_expression, simple_string_of, string_text_of, simple_interpolation_of, interpolation_rule, string_part_rule, interpolated_of, string_rule, strings_of, strings_rule, heads_label, positional_of, named_of, argument_rule, arguments_of, arguments_rule, integer_of, boolean_of, null_of, this_of, super_of, identifier_of, simple_rule, generic_of, heads_use, name_rule, parenthesis_of, parenthesis_rule, arrow_of, closure_of, heads_closure, closure_rule, new_of, new_rule, entry_of, entry_rule, listed_of, entries_of, collection_of, collection_rule, primary_rule, member_of, element_of, check_of, plain_call_of, generic_call_of, behind_call, selector_rule, select_with, selected_rule, one_time, postfix_of, unary_of, incremented_rule, unary_rule, operated_of, tested_of, cast_of, choices_of, operated_rule, right_rule, times, side_with, operand_rule, assign_of, assignment_expression_rule, throw_of, throw_rule, cascaded_name_of, cascaded_index_of, section_head_rule, section_rule, cascade_of, section_of, cascade_section_rule, cascade_rule, expression_rule}
+use Rattle.grammar.specs.Descents.{Lower, begins_string, take_interpolation, take_string_part, take_string, take_strings, take_argument, take_arguments, take_simple, take_name, take_parenthesis, take_closure, take_new, take_entry, take_collection, take_primary, take_selector, take_selected, take_incremented, take_unary, take_operated, take_right, take_operand, take_assignment_expression, take_throw, take_section_head, take_section, take_cascade_section, take_cascade, take_expression}
 use Rattle.grammar.proofs.KindTests.{far, far_second, within, settled, still}
 use Rattle.grammar.proofs.TypesParse.{AllParse, begins_type, begins_primary, begins_operand, begins_section, begins_simple, type_arguments_parses, parameter_list_parses}
 use Rattle.grammar.proofs.OperatorsParse.{begins_postfix, binary_sole, assignment_sole, assignment_apart, prefix_parses, postfix_parses}

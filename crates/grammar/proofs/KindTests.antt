@@ -1,7 +1,7 @@
 -- Tests that look at the kind of the next token alone: what they say is found by trying each kind.
-use Rattle.std.proofs.Common.{◌≡◌, ℕ, zero, suc, Bool, true, false, ◌&&◌, ◌||◌, not, List, [], ◌∷◌, Option, Some, None, if◌then◌else◌, refl}
+use Rattle.std.proofs.Common.{◌≡◌, ℕ, zero, suc, Bool, true, false, ◌&&◌, not, List, [], ◌∷◌, Option, Some, None, if◌then◌else◌, refl}
 use denote.Enum.Declared.{tag_of}
-use Rattle.readings.specs.Readings.{Rule, Test, next, either, nothing}
+use Rattle.readings.specs.Readings.{Rule, Test, nothing}
 use Rattle.readings.specs.Descent.{Descent}
 use Rattle.readings.specs.Leading.{Apart, Within, Parses}
 use Rattle.readings.specs.Combinators.{parses_within}

@@ -1,10 +1,8 @@
 -- The parser's way finds what the rules of operators read.
-use Rattle.std.proofs.Common.{◌≡◌, ℕ, suc, ◌<◌, ◌≤◌, Bool, true, false, ◌&&◌, ◌||◌, List, [], ◌∷◌, Option, Some, None, option_map, length, take, drop, if◌then◌else◌, refl, ap, subst, sym, ◌∙◌, arith}
+use Rattle.std.proofs.Common.{◌≡◌, ℕ, suc, ◌<◌, Bool, true, false, ◌||◌, List, [], ◌∷◌, Option, Some, None, option_map, length, take, drop, refl, ap, subst, arith}
 use Rattle.std.specs.Option.{option_map_or}
-use denote.Enum.Bare.{sameb}
-use Rattle.readings.specs.Readings.{Reading, Rule, Test, next, nothing, either, token}
-use Rattle.readings.specs.Descent.{Descent, take_token}
-use Rattle.readings.specs.Leading.{Apart, Within, Parses, Sole}
+use Rattle.readings.specs.Readings.{Reading, next, nothing}
+use Rattle.readings.specs.Leading.{Apart, Parses, Sole}
 use Rattle.readings.specs.Combinators.{parses_token, parses_turn}
 use Rattle.readings.specs.Choices.{parses_switch}
 use Rattle.readings.specs.Groups.{dropped}
@@ -16,11 +14,10 @@ use Rattle.dart_tree.specs.declared.operators.UnaryOperatorKind.TheVariants as u
 use Rattle.dart_tree.specs.declared.operators.PostfixOperatorKind.TheVariants as postfix
 use Rattle.grammar.specs.declared.token.Token.{Token}
 use Rattle.grammar.specs.declared.level.Level.{Level}
-use Rattle.grammar.specs.contracts.level.Level as levels_of
 use Rattle.grammar.specs.declared.level.Sign.{Sign}
 use Rattle.grammar.specs.declared.level.Sign.TheVariants as sign
-use Rattle.grammar.specs.Tokens.{is, heads, span_over}
-use Rattle.grammar.specs.Operators.{level_of, sign_at, heads_sign, is_binary, is_assignment, read_sign, take_sign, binary_of, assignment_of, take_binary, take_assignment, binary_rule, assignment_rule, unary_at, prefix_rule, postfix_at, postfix_rule}
+use Rattle.grammar.specs.Tokens.{is, span_over}
+use Rattle.grammar.specs.Operators.{sign_at, heads_sign, is_binary, is_assignment, read_sign, take_sign, binary_of, assignment_of, take_binary, take_assignment, binary_rule, assignment_rule, unary_at, prefix_rule, postfix_at, postfix_rule}
 use Rattle.grammar.specs.Descents.{begins_prefix, take_prefix, take_postfix}
 use Rattle.grammar.proofs.KindTests.{far, settled}
 

@@ -1,8 +1,8 @@
 -- The parser's way finds what the rules of statements read.
-use Rattle.std.proofs.Common.{◌≡◌, ℕ, Bool, true, false, ◌&&◌, ◌||◌, List, [], ◌∷◌, Option, Some, None, refl}
-use Rattle.readings.specs.Readings.{Rule, Test, next, nothing, either, token, ◌▹◌, prefer}
-use Rattle.readings.specs.Descent.{Descent, take_token, ◌▸◌, ◌⊘◌}
-use Rattle.readings.specs.Leading.{Apart, Within, Parses, Sole}
+use Rattle.std.proofs.Common.{Bool, ◌||◌, Some, refl}
+use Rattle.readings.specs.Readings.{Test, next, nothing, either, token, ◌▹◌}
+use Rattle.readings.specs.Descent.{take_token, ◌▸◌}
+use Rattle.readings.specs.Leading.{Parses, Sole}
 use Rattle.readings.specs.Combinators.{parses_within, parses_token, parses_make, parses_turn, parses_seq, parses_sole, sole_longest}
 use Rattle.readings.specs.Choices.{parses_switch, parses_where}
 use Rattle.readings.specs.Repetition.{parses_last, parses_offered, offers_maybe, offers_many}
@@ -11,15 +11,14 @@ use Rattle.readings.specs.Groups.{sole_inside}
 use Rattle.readings.specs.Elements.{sole_inside_offered}
 use Rattle.readings.specs.Items.{sole_braced}
 use Rattle.dart_tokens.specs.declared.token.Kind.TheVariants as kind
-use Rattle.dart_tree.specs.Tree.{Tree}
 use Rattle.grammar.specs.declared.token.Token.{Token}
 use Rattle.grammar.specs.declared.level.Setting.TheVariants as setting
-use Rattle.grammar.specs.Tokens.{is, is_either, is_name, heads, heads_name, width, past}
+use Rattle.grammar.specs.Tokens.{is, is_name, heads, heads_name, width, past}
 use Rattle.grammar.specs.Types.{Below, inner}
 use Rattle.grammar.specs.Expressions.{begins_expression, heads_label}
 use Rattle.grammar.specs.Statements.{segment, error_of, block_of, block_rule, final_of, var_of, typed_of, declared_rule, variable_of, variable_rule, variables_of, variables_rule, ended, variable_statement_of, variable_statement_rule, arrow_body_of, local_body_rule, plain_function_of, local_function_rule, function_statement_of, function_statement_rule, expression_statement_of, expression_statement_rule, return_of, return_rule, break_of, break_rule, continue_of, continue_rule, rethrow_of, rethrow_rule, labeled_of, labeled_rule, condition_rule, if_of, if_rule, while_of, while_rule, do_of, do_rule, each_of, each_rule, start_rule, counted_of, counted_rule, for_of, for_rule, label_of, label_rule, labels_of, default_of, labels_rule, case_of, case_size, case_rule, cases_end_with_default, cases_rule, switch_of, switch_rule, catch_of, catch_rule, on_of, clause_of, clause_rule, has_clause, try_of, try_rule, other_statement_rule, statement_rule}
 use Rattle.grammar.specs.Descents.{Lower, take_block, take_declared, take_variable, take_variables, take_variable_statement, take_local_body, take_local_function, take_function_statement, take_expression_statement, take_return, take_break, take_continue, take_rethrow, take_labeled, take_condition, take_if, take_while, take_do, take_each, take_start, take_counted, take_for, take_label, take_labels, take_case, take_cases, take_switch, take_catch, take_clause, take_try, take_other_statement, take_statement}
-use Rattle.grammar.proofs.KindTests.{far, within, settled, still}
+use Rattle.grammar.proofs.KindTests.{far, settled, still}
 use Rattle.grammar.proofs.TypesParse.{AllParse, begins_type, begins_statement, separated_parses, value_parses, offers_type, type_parameters_parses, parameter_list_parses}
 
 pub block_parses : (d : Below) (l : Lower) → AllParse d l → Parses nothing (heads kind.OpenBrace) (block_rule d) (take_block l)

@@ -1,17 +1,15 @@
 -- The parser's way finds what the rules of types and parameters read.
-use Rattle.std.proofs.Common.{◌≡◌, ℕ, Bool, true, false, ◌&&◌, ◌||◌, List, [], ◌∷◌, Option, Some, None, refl}
+use Rattle.std.proofs.Common.{◌≡◌, ℕ, Bool, true, false, ◌&&◌, ◌||◌, List, [], ◌∷◌, None, refl}
 use Rattle.readings.specs.Readings.{Rule, Test, next, nothing, either, token, ◌▹◌, exactly, before}
 use Rattle.readings.specs.Descent.{Descent, take_token, ◌▸◌, take_maybe, take_before}
 use Rattle.readings.specs.Leading.{Apart, Within, Parses, Sole}
-use Rattle.readings.specs.Lists.{or_left, or_right}
 use Rattle.readings.specs.Combinators.{parses_within, parses_token, parses_make, parses_turn, parses_seq, parses_sole, sole_longest}
 use Rattle.readings.specs.Choices.{parses_switch, parses_where}
 use Rattle.readings.specs.Repetition.{Offers, parses_last, parses_offered, offers_seq, offers_maybe, offers_many, offers_taken, offers_begins}
 use Rattle.readings.specs.Commits.{parses_prefer, offers_exactly, sole_before}
 use Rattle.readings.specs.Chains.{parses_chain}
-use Rattle.readings.specs.Elements.{offers_elements, sole_inside_offered, sole_listed}
+use Rattle.readings.specs.Elements.{offers_elements, sole_inside_offered}
 use Rattle.dart_tokens.specs.declared.token.Kind.TheVariants as kind
-use Rattle.dart_tree.specs.Tree.{Tree}
 use Rattle.dart_tree.specs.declared.names.ParameterKind.{ParameterKind}
 use Rattle.dart_tree.specs.declared.names.ParameterKind.TheVariants as parameter_kind
 use Rattle.grammar.specs.declared.token.Token.{Token}
@@ -23,7 +21,7 @@ use Rattle.grammar.specs.Tokens.{is, is_either, is_name, is_type_name, heads, he
 use Rattle.grammar.specs.Types.{Below, separated, separated_rule, inner, type_arguments_of, type_arguments_rule, type_parameter_of, type_parameter_rule, type_parameters_of, type_parameters_rule, void_of, heads_qualified, qualified_of, unqualified_of, type_name_rule, question_rule, named_type_of, plain_type_rule, annotation_of, annotation_rule, goes_on_parameter, heads_required, heads_field, parameter_of, parameter_rule, parameters_rule, optional_parameters_rule, parameter_list_of, parameter_list_rule, parameter_type_of, parameter_type_rule, tail_of, tail_rule, tail_before_rule, first_tail_of, next_tail_of, every_time, type_rule}
 use Rattle.grammar.specs.Expressions.{begins_expression}
 use Rattle.grammar.specs.Descents.{Lower, begins_prefix, begins_string, take_separated, take_type_arguments, take_type_parameter, take_type_parameters, take_type_name, take_question, take_plain_type, take_annotation, take_parameter, take_parameters, take_optional_parameters, take_parameter_list, take_parameter_type, take_tail, take_tail_before, take_type}
-use Rattle.grammar.proofs.KindTests.{far, within, settled, still}
+use Rattle.grammar.proofs.KindTests.{far, settled, still}
 
 -- What things begin with.
 

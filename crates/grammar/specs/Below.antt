@@ -1,8 +1,8 @@
 -- What the rules read where so many nodes may lie on a way down, the node itself among them.
-use Rattle.std.specs.Prelude.{ℕ, zero, suc, [], true}
-use Rattle.readings.specs.Readings.{longest_of, prefer, next}
+use Rattle.std.specs.Prelude.{ℕ, zero, suc, []}
+use Rattle.readings.specs.Readings.{longest_of}
 use Rattle.dart_tokens.specs.declared.token.Kind.TheVariants as kind
-use Rattle.grammar.specs.Tokens.{heads, heads_name, anything}
+use Rattle.grammar.specs.Tokens.{heads, anything}
 use Rattle.grammar.specs.Types.{Below, heads_field, plain_type_rule, type_rule}
 use Rattle.grammar.specs.Expressions.{heads_nullable, simple_rule, unary_rule, operand_rule, section_head_rule, section_rule, expression_rule}
 use Rattle.grammar.specs.Statements.{block_rule, statement_rule}

@@ -1,6 +1,6 @@
 -- The parser's way through members, declarations, directives and whole texts.
-use Rattle.std.specs.Prelude.{ℕ, Bool, true, false, List, [], ◌∷◌, map, length, Option, Some, None}
-use Rattle.readings.specs.Readings.{Test, next, either}
+use Rattle.std.specs.Prelude.{ℕ, Bool, true, false, List, [], ◌∷◌, map, Option, None}
+use Rattle.readings.specs.Readings.{either}
 use Rattle.readings.specs.Descent.{Descent, take_token, take_given, ◌▸◌, ◌⊘◌, take_make, take_turn, take_maybe, take_many, take_where, take_before, take_inside, take_items, all_items}
 use Rattle.dart_tokens.specs.declared.token.Kind.TheVariants as kind
 use Rattle.dart_tree.specs.Tree.{Tree, trees_of, unit}

@@ -1,12 +1,10 @@
 -- Members, declarations, directives, and whole texts.
-use Rattle.std.specs.Prelude.{ℕ, zero, suc, ◌==◌, Bool, true, false, ◌&&◌, ◌||◌, List, [], ◌∷◌, map, length, Option, Some, None, is_some, option_map, slice_get, if◌then◌else◌}
-use Rattle.std.specs.Option.{option_map_or}
+use Rattle.std.specs.Prelude.{ℕ, ◌==◌, Bool, true, false, ◌&&◌, ◌||◌, List, [], ◌∷◌, map, length, Option, Some, None, is_some, option_map, slice_get, if◌then◌else◌}
 use Rattle.readings.specs.Readings.{Rule, Test, next, optional, token, given, ◌▹◌, ◌∣◌, make, turn, maybe, many, longest_of, where_next, prefer, exactly, before, inside, items, items_at}
 use Rattle.readings.specs.Descent.{Descent}
 use Rattle.dart_tokens.specs.declared.token.Kind.TheVariants as kind
-use Rattle.dart_tree.specs.Tree.{Tree, Trees, trees_of, part_of, getter, setter, plain_function, expression_body, empty_body, native_body, constructor_declaration, factory_declaration, method_declaration, field_declaration, operator_declaration, field_initializer, super_initializer, redirection, class_declaration, mixin_declaration, type_alias, function_declaration, variable_declaration, library_directive, import_directive, export_directive, part_directive, part_of_directive, part_of_library_directive, show_combinator, hide_combinator, listed_name, unit}
+use Rattle.dart_tree.specs.Tree.{Tree, trees_of, part_of, getter, setter, plain_function, empty_body, native_body, constructor_declaration, factory_declaration, method_declaration, field_declaration, operator_declaration, field_initializer, super_initializer, redirection, class_declaration, mixin_declaration, type_alias, function_declaration, variable_declaration, library_directive, import_directive, export_directive, part_directive, part_of_directive, part_of_library_directive, show_combinator, hide_combinator, listed_name, unit}
 use Rattle.dart_tree.specs.declared.places.Span.{Span}
-use Rattle.dart_tree.specs.declared.names.Name.{Name}
 use Rattle.dart_tree.specs.declared.names.ConstructorName.{ConstructorName}
 use Rattle.dart_tree.specs.declared.operators.BinaryOperatorKind.{BinaryOperatorKind}
 use Rattle.dart_tree.specs.declared.operators.BinaryOperatorKind.TheVariants.{Multiply, Divide, TruncatingDivide, Modulo, Add, Subtract, ShiftLeft, ShiftRight, BitAnd, BitXor, BitOr, Less, Greater, LessOrEqual, GreaterOrEqual, Equal, NotEqual, And, Or, IfNull}
@@ -17,12 +15,12 @@ use Rattle.grammar.specs.declared.token.Token.{Token}
 use Rattle.grammar.specs.declared.level.Setting.TheVariants as setting
 use Rattle.grammar.specs.declared.level.Sign.{Sign}
 use Rattle.grammar.specs.declared.level.Sign.TheVariants as sign
-use Rattle.grammar.specs.Tokens.{is, is_either, is_name, is_type_name, heads, heads_name, first_then, width, past, place_at, place_of, place_over, name_at, identifier_at}
+use Rattle.grammar.specs.Tokens.{is, is_name, is_type_name, heads, heads_name, first_then, width, past, place_at, place_of, place_over, name_at, identifier_at}
 use Rattle.grammar.specs.Operators.{table, take_sign}
 use Rattle.grammar.specs.Types.{Below, separated_rule, behind_token, listed_or_none, type_parameters_rule, parameter_list_rule, annotation_rule}
 use Rattle.grammar.specs.Expressions.{arguments_rule, string_rule}
 use Rattle.grammar.specs.Below.{below}
-use Rattle.grammar.specs.Statements.{segment, error_of, block_rule, local_body_rule, variables_rule, ended}
+use Rattle.grammar.specs.Statements.{segment, error_of, local_body_rule, variables_rule}
 
 -- what is read where it is allowed
 abbrev pub allowed : {A : Type 0} → Bool → Rule Token A → Rule Token A

@@ -1,5 +1,5 @@
 -- Expressions.
-use Rattle.std.specs.Prelude.{ℕ, Bool, true, false, not, ◌&&◌, ◌||◌, List, [], ◌∷◌, ◌++◌, length, drop, Option, Some, None, is_some, option_map, if◌then◌else◌}
+use Rattle.std.specs.Prelude.{ℕ, Bool, true, false, not, ◌&&◌, ◌||◌, List, [], ◌∷◌, ◌++◌, Option, Some, None, is_some, option_map}
 use Rattle.readings.specs.Readings.{Rule, Test, next, token, ◌▹◌, ◌∣◌, make, turn, maybe, many, chain, once, longest_of, where_next, prefer, before, inside, levels, elements}
 use Rattle.dart_tokens.specs.declared.token.Kind.TheVariants as kind
 use Rattle.dart_tree.specs.Tree.{Tree, trees_of, part_of, integer_literal, string_literal, boolean_literal, null_literal, this_expression, super_expression, identifier, parenthesis, new_expression, list_literal, set_or_map_literal, function_expression, generic_identifier, property_access, index_expression, null_check, call, unary_expression, postfix_expression, binary_expression, type_test, type_cast, conditional, assignment, throw_expression, cascade, cascaded_name, cascaded_index, simple_string, interpolated_string, string_text, string_interpolation, map_entry, argument_list, argument, expression_body}
@@ -16,8 +16,8 @@ use Rattle.grammar.specs.declared.level.Setting.{Setting}
 use Rattle.grammar.specs.declared.level.Setting.TheVariants as setting
 use Rattle.dart_tree.specs.Heights.{fits}
 use Rattle.grammar.specs.Tokens.{is, is_either, is_name, heads, first_then, group_then, anything, width, past, span_of, place_over, place_of, identifier_at}
-use Rattle.grammar.specs.Operators.{table, sign_at, heads_sign, binary_rule, assignment_rule, prefix_rule, postfix_rule}
-use Rattle.grammar.specs.Types.{Below, every_time, inner, behind_token, type_arguments_rule, plain_type_rule, parameter_list_rule}
+use Rattle.grammar.specs.Operators.{table, sign_at, binary_rule, assignment_rule, prefix_rule, postfix_rule}
+use Rattle.grammar.specs.Types.{Below, every_time, inner, behind_token, type_arguments_rule, parameter_list_rule}
 
 -- What comes next.
 

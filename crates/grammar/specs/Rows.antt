@@ -1,18 +1,18 @@
--- Small texts, and how they are read. Each token of them is one character wide, and stands right behind the one before it; its word is its place.
-use Rattle.std.specs.Prelude.{◌≡◌, ℕ, suc, Bool, true, false, List, [], ◌∷◌, drop, Option, Some, None}
+-- Small texts, and how they are read. Each token of them is one character wide, and stands right behind the one before it.
+use Rattle.std.specs.Prelude.{◌≡◌, ℕ, suc, true, false, List, [], ◌∷◌, drop, Option, Some, None}
 use Rattle.readings.specs.Readings.{longest}
 use Rattle.dart_tokens.specs.declared.token.Kind.{Kind}
-use Rattle.dart_tokens.specs.declared.token.Kind.TheVariants.{Identifier, Integer, Is, If, Else, OpenParenthesis, CloseParenthesis, OpenBrace, CloseBrace, Comma, Semicolon, Colon, Period, PeriodPeriod, Question, QuestionQuestion, Equals, Arrow, Void, Less, Greater, Plus, Minus, BarBar}
+use Rattle.dart_tokens.specs.declared.token.Kind.TheVariants.{Identifier, Integer, Is, If, Else, OpenParenthesis, CloseParenthesis, OpenBrace, CloseBrace, Comma, Semicolon, Class, Colon, Period, PeriodPeriod, Question, QuestionQuestion, Equals, Arrow, Void, Less, Greater, Plus, Minus, BarBar}
 use Rattle.dart_tokens.specs.declared.token.Token.{Token as TextToken}
 use Rattle.dart_tree.specs.declared.places.Place.{Place}
 use Rattle.dart_tree.specs.declared.places.Span.{Span}
 use Rattle.dart_tree.specs.declared.operators.BinaryOperator.{BinaryOperator}
 use Rattle.dart_tree.specs.declared.operators.BinaryOperatorKind.{BinaryOperatorKind}
-use Rattle.dart_tree.specs.declared.operators.BinaryOperatorKind.TheVariants.{Subtract, Add, IfNull, Or, ShiftRight, GreaterOrEqual, Greater as GreaterThan, Less as LessThan}
+use Rattle.dart_tree.specs.declared.operators.BinaryOperatorKind.TheVariants.{Subtract, Add, IfNull, Or, ShiftRight, Greater as GreaterThan, Less as LessThan}
 use Rattle.dart_tree.specs.declared.operators.AssignmentOperator.{AssignmentOperator}
 use Rattle.dart_tree.specs.declared.names.Name.{Name}
 use Rattle.dart_tree.specs.declared.names.Identifier.{Identifier as NameIn}
-use Rattle.dart_tree.specs.Tree.{Tree, trees_of, part_of, absent, present, named_type, type_argument_list, identifier, integer_literal, binary_expression, assignment, type_test, conditional, function_expression, parameter_list, parameter, expression_body, generic_identifier, call, argument_list, argument, property_access, cascade, cascaded_name, block, expression_statement, if_statement, variable_statement, variable_list, variable, function_statement, plain_function, error_node, unit, function_declaration, void_type}
+use Rattle.dart_tree.specs.Tree.{Tree, trees_of, absent, present, named_type, type_argument_list, identifier, integer_literal, binary_expression, assignment, type_test, conditional, function_expression, parameter_list, parameter, expression_body, generic_identifier, call, argument_list, argument, property_access, cascade, cascaded_name, block, expression_statement, if_statement, variable_statement, variable_list, variable, function_statement, plain_function, error_node, unit, function_declaration, void_type, class_declaration, constructor_declaration, field_initializer, empty_body, parenthesis}
 use Rattle.dart_tree.specs.declared.names.ParameterKind.TheVariants.{Positional}
 use Rattle.grammar.specs.declared.token.Token.{Token}
 use Rattle.grammar.specs.declared.level.Setting.TheVariants.{Plain}
@@ -20,19 +20,24 @@ use Rattle.grammar.specs.Tokens.{grammar_tokens, place_at}
 use Rattle.grammar.specs.Below.{below}
 use Rattle.grammar.specs.Declarations.{unit_below}
 
--- tokens of these kinds, from a place on
-abbrev pub texts : ℕ → List Kind → List TextToken
+-- tokens of these kinds with these words, from a place on
+abbrev pub texts : ℕ → List (Kind × ℕ) → List TextToken
 texts n [] = []
-texts n (k ∷ ks) = record { kind = k; start = n; end = suc n; word = n } ∷ texts (suc n) ks
+texts n (k ∷ ks) = record { kind = k.0; start = n; end = suc n; word = k.1 } ∷ texts (suc n) ks
+
+-- kinds of tokens, each with a word of its own: its place
+abbrev pub apart : ℕ → List Kind → List (Kind × ℕ)
+apart n [] = []
+apart n (k ∷ ks) = (k, n) ∷ apart (suc n) ks
 
 -- a text, what is read of it, and how many tokens that has
 pub record Row : Type 0 where
-  pub text : List Kind
+  pub text : List (Kind × ℕ)
   pub tree : Tree
   pub read : ℕ
 
 abbrev pub row : List Kind → Tree → ℕ → Row
-row text tree read = record { text = text; tree = tree; read = read }
+row text tree read = record { text = apart 0 text; tree = tree; read = read }
 
 -- the tokens of a row
 abbrev pub tokens : Row → List Token
@@ -174,6 +179,10 @@ block_with_error =
     row (OpenBrace ∷ Else ∷ Semicolon ∷ Identifier ∷ Semicolon ∷ CloseBrace ∷ [])
     (block (over 0 6) (trees_of (error_node (over 1 3) ∷ expression_statement (over 3 5) (present (name 3)) ∷ []))) 6
 
+-- `{a;`: a group that no bracket closes ends with the text
+abbrev open_block : Row
+open_block = row (OpenBrace ∷ Identifier ∷ Semicolon ∷ []) (block (over 0 3) (trees_of (expression_statement (over 1 3) (present (name 1)) ∷ []))) 3
+
 -- `T?a=b;` declares a variable
 abbrev nullable_variable : Row
 nullable_variable =
@@ -194,7 +203,7 @@ function =
 
 -- how statements are read
 abbrev pub statement_rows : List Row
-statement_rows = dangling_else ∷ empty_block ∷ block_with_error ∷ nullable_variable ∷ conditional_statement ∷ function ∷ []
+statement_rows = dangling_else ∷ empty_block ∷ block_with_error ∷ open_block ∷ nullable_variable ∷ conditional_statement ∷ function ∷ []
 
 abbrev no_parameters : ℕ → Tree
 no_parameters start = parameter_list (over start (suc (suc start))) (trees_of [])
@@ -214,6 +223,40 @@ lone_function =
 abbrev lone_error : Row
 lone_error = row (CloseBrace ∷ Identifier ∷ Semicolon ∷ []) (unit (over 1 3) (trees_of (error_node (over 1 3) ∷ []))) 2
 
+-- `class C{C():f=(a)` and what comes behind it, with the name of the class as the constructor's
+abbrev class_text : List Kind → List (Kind × ℕ)
+class_text rest =
+    (Class, 0) ∷ (Identifier, 1) ∷ (OpenBrace, 2) ∷ (Identifier, 1) ∷ (OpenParenthesis, 4) ∷ (CloseParenthesis, 5) ∷ (Colon, 6) ∷ (Identifier, 7) ∷ (Equals, 8)
+    ∷ (OpenParenthesis, 9) ∷ (Identifier, 10) ∷ (CloseParenthesis, 11) ∷ apart 12 rest
+
+-- the class of that text, which ends at a place
+abbrev class_with : ℕ → Tree → Tree
+class_with end member = unit (over 0 end) (trees_of (class_declaration (over 0 end) (trees_of []) false (declared 1) (trees_of []) absent (trees_of []) (trees_of []) (trees_of (member ∷ [])) ∷ []))
+
+abbrev constructor_with : ℕ → Tree → Tree → Tree
+constructor_with end initializer body =
+    constructor_declaration (over 3 end) (trees_of []) (record { at = over 3 4; class = 1; name = None }) (no_parameters 4) (trees_of (initializer ∷ [])) body
+
+-- `class C{C():f=(a){}}`: the braces are the constructor's body
+abbrev body_behind_initializer : Row
+body_behind_initializer = record {
+  text = class_text (OpenBrace ∷ CloseBrace ∷ CloseBrace ∷ []);
+  tree = class_with 15 (constructor_with 14 (field_initializer (over 7 12) (part 7) (parenthesis (over 9 12) (name 10))) (empty_block_at 12));
+  read = 15;
+}
+
+-- `class C{C():f=(a){};}`: with a `;` behind them they are a closure's
+abbrev closure_in_initializer : Row
+closure_in_initializer = record {
+  text = class_text (OpenBrace ∷ CloseBrace ∷ Semicolon ∷ CloseBrace ∷ []);
+  tree = class_with 16
+      (constructor_with 15
+      (field_initializer (over 7 14) (part 7)
+      (function_expression (over 9 14)
+      (parameter_list (over 9 12) (trees_of (parameter (over 10 11) (trees_of []) Positional false false absent false (declared 10) absent ∷ []))) (empty_block_at 12))) (empty_body (over 14 15)));
+  read = 16;
+}
+
 -- how texts are read
 abbrev pub unit_rows : List Row
-unit_rows = lone_function ∷ lone_error ∷ []
+unit_rows = lone_function ∷ lone_error ∷ body_behind_initializer ∷ closure_in_initializer ∷ []

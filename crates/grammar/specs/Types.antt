@@ -1,5 +1,5 @@
 -- Types, and the parameters of functions.
-use Rattle.std.specs.Prelude.{ℕ, Bool, true, false, ◌||◌, List, [], ◌∷◌, ◌++◌, length, map, Option, Some, None, is_some, option_map}
+use Rattle.std.specs.Prelude.{ℕ, Bool, false, ◌||◌, List, [], ◌∷◌, ◌++◌, length, map, Option, Some, None, is_some, option_map}
 use Rattle.readings.specs.Readings.{Rule, Test, next, token, given, ◌▹◌, ◌∣◌, make, turn, maybe, many, chain, longest_of, where_next, prefer, exactly, before, inside, elements}
 use Rattle.dart_tokens.specs.declared.token.Kind.TheVariants as kind
 use Rattle.dart_tree.specs.Tree.{Tree, trees_of, part_of, void_type, named_type, function_type, type_argument_list, type_parameter, parameter_type, annotation, parameter, parameter_list}
@@ -10,7 +10,7 @@ use Rattle.grammar.specs.declared.level.Level.{Level}
 use Rattle.grammar.specs.declared.level.Setting.{Setting}
 use Rattle.grammar.specs.declared.level.Setting.TheVariants as setting
 use Rattle.dart_tree.specs.Heights.{fits}
-use Rattle.grammar.specs.Tokens.{is, is_either, is_name, is_type_name, heads, heads_name, first_then, width, past, place_over, place_of, name_at, identifier_at}
+use Rattle.grammar.specs.Tokens.{is, is_either, is_name, is_type_name, first_then, width, past, place_over, place_of, name_at, identifier_at}
 
 -- What the rules read where fewer nodes may lie on a way down.
 pub record Below : Type 0 where
