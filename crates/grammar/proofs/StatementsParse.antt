@@ -3,7 +3,7 @@ use Rattle.std.proofs.Common.{Bool, ◌||◌, Some, refl}
 use Rattle.readings.specs.Readings.{Test, next, nothing, either, token, ◌▹◌}
 use Rattle.readings.specs.Descent.{take_token, ◌▸◌}
 use Rattle.readings.specs.Leading.{Parses, Sole}
-use Rattle.readings.specs.Combinators.{parses_within, parses_token, parses_make, parses_turn, parses_seq, parses_sole, sole_longest}
+use Rattle.readings.specs.Combinators.{parses_none, parses_within, parses_token, parses_make, parses_turn, parses_seq, parses_sole, sole_longest}
 use Rattle.readings.specs.Choices.{parses_switch, parses_where}
 use Rattle.readings.specs.Repetition.{parses_last, parses_offered, offers_maybe, offers_many}
 use Rattle.readings.specs.Commits.{parses_prefer, offers_exactly, sole_before, sole_only, offers_within_items}
@@ -15,9 +15,9 @@ use Rattle.grammar.specs.declared.token.Token.{Token}
 use Rattle.grammar.specs.declared.level.Setting.TheVariants as setting
 use Rattle.grammar.specs.Tokens.{is, is_name, heads, heads_name, width, past}
 use Rattle.grammar.specs.Types.{Below, inner}
-use Rattle.grammar.specs.Expressions.{begins_expression, heads_label}
-use Rattle.grammar.specs.Statements.{segment, error_of, block_of, block_rule, final_of, var_of, typed_of, declared_rule, variable_of, variable_rule, variables_of, variables_rule, ended, variable_statement_of, variable_statement_rule, arrow_body_of, local_body_rule, plain_function_of, local_function_rule, function_statement_of, function_statement_rule, expression_statement_of, expression_statement_rule, return_of, return_rule, break_of, break_rule, continue_of, continue_rule, rethrow_of, rethrow_rule, labeled_of, labeled_rule, condition_rule, if_of, if_rule, while_of, while_rule, do_of, do_rule, each_of, each_rule, start_rule, counted_of, counted_rule, for_of, for_rule, label_of, label_rule, labels_of, default_of, labels_rule, case_of, case_size, case_rule, cases_end_with_default, cases_rule, switch_of, switch_rule, catch_of, catch_rule, on_of, clause_of, clause_rule, has_clause, try_of, try_rule, other_statement_rule, statement_rule}
-use Rattle.grammar.specs.Descents.{Lower, take_block, take_declared, take_variable, take_variables, take_variable_statement, take_local_body, take_local_function, take_function_statement, take_expression_statement, take_return, take_break, take_continue, take_rethrow, take_labeled, take_condition, take_if, take_while, take_do, take_each, take_start, take_counted, take_for, take_label, take_labels, take_case, take_cases, take_switch, take_catch, take_clause, take_try, take_other_statement, take_statement}
+use Rattle.grammar.specs.Expressions.{heads_closure, begins_expression, heads_label}
+use Rattle.grammar.specs.Statements.{segment, error_of, block_of, block_rule, final_of, var_of, typed_of, declared_rule, variable_of, variable_rule, variables_of, variables_rule, ended, variable_statement_of, variable_statement_rule, arrow_body_of, local_body_rule, plain_function_of, local_rest_rule, local_function_rule, function_statement_of, function_statement_rule, expression_statement_of, expression_statement_rule, return_of, return_rule, break_of, break_rule, continue_of, continue_rule, rethrow_of, rethrow_rule, labeled_of, labeled_rule, condition_rule, if_of, if_rule, while_of, while_rule, do_of, do_rule, each_of, each_rule, start_rule, counted_of, counted_rule, for_of, for_rule, label_of, label_rule, labels_of, default_of, labels_rule, case_of, case_size, case_rule, cases_end_with_default, cases_rule, switch_of, switch_rule, catch_of, catch_rule, on_of, clause_of, clause_rule, has_clause, try_of, try_rule, other_statement_rule, statement_rule}
+use Rattle.grammar.specs.Descents.{Lower, take_block, take_declared, take_variable, take_variables, take_variable_statement, take_local_body, take_local_rest, take_local_function, take_function_statement, take_expression_statement, take_return, take_break, take_continue, take_rethrow, take_labeled, take_condition, take_if, take_while, take_do, take_each, take_start, take_counted, take_for, take_label, take_labels, take_case, take_cases, take_switch, take_catch, take_clause, take_try, take_other_statement, take_statement}
 use Rattle.grammar.proofs.KindTests.{far, settled, still}
 use Rattle.grammar.proofs.TypesParse.{AllParse, begins_type, begins_statement, separated_parses, value_parses, offers_type, type_parameters_parses, parameter_list_parses}
 
@@ -65,14 +65,20 @@ local_body_parses d l a =
     (parses_make arrow_body_of (parses_seq (parses_token (is kind.Arrow)) (parses_seq (parses_sole (a.expression setting.Plain)) (parses_token (is kind.Semicolon)) (still _)) (still _))) (far _ _ refl (λ t ts. refl)))
     refl (λ t ts. refl) refl (λ t ts. refl)
 
+local_rest_parses : (d : Below) (l : Lower) → AllParse d l → Parses nothing (heads kind.OpenParenthesis) (local_rest_rule d) (take_local_rest l)
+unfolding local_rest_rule take_local_rest
+local_rest_parses d l a =
+    settled nothing (heads kind.OpenParenthesis)
+    (parses_where (heads_closure setting.Plain) (parses_seq (parameter_list_parses d l a) (local_body_parses d l a) (still _)) (parses_none nothing nothing))
+    refl (λ t ts. refl) refl (λ t ts. refl)
+
 local_function_parses : (d : Below) (l : Lower) → AllParse d l → Parses nothing (next begins_type) (local_function_rule d) (take_local_function l)
 unfolding local_function_rule take_local_function
 local_function_parses d l a =
     settled nothing (next begins_type)
     (parses_make plain_function_of
     (parses_offered (offers_type d l a heads_name)
-    (parses_seq (parses_token is_name)
-    (parses_offered (offers_maybe (type_parameters_parses d l a)) (parses_seq (parameter_list_parses d l a) (local_body_parses d l a) (still _)) (far _ _ refl (λ t ts. refl))) (still _)) (still _)))
+    (parses_seq (parses_token is_name) (parses_offered (offers_maybe (type_parameters_parses d l a)) (local_rest_parses d l a) (far _ _ refl (λ t ts. refl))) (still _)) (still _)))
     refl (λ t ts. refl) refl (λ t ts. refl)
 
 function_statement_parses : (d : Below) (l : Lower) → AllParse d l → Parses nothing (next begins_type) (function_statement_rule d) (take_function_statement l)

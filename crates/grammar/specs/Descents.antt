@@ -211,8 +211,12 @@ take_variable_statement l = take_make variable_statement_of (take_variables l �
 unfoldable pub take_local_body : Lower → Descent Token Tree
 take_local_body l = take_where (heads kind.OpenBrace) (l.block) (take_make arrow_body_of (take_token (is kind.Arrow) ▸ l.expression setting.Plain ▸ take_token (is kind.Semicolon)))
 
+unfoldable pub take_local_rest : Lower → Descent Token (Tree × Tree)
+take_local_rest l = take_where (heads_closure setting.Plain) (take_parameter_list l ▸ take_local_body l) (λ ts. None)
+
 unfoldable pub take_local_function : Lower → Descent Token Tree
-take_local_function l = take_make plain_function_of (take_maybe (take_before heads_name l.named) ▸ take_token is_name ▸ take_maybe (take_type_parameters l) ▸ take_parameter_list l ▸ take_local_body l)
+take_local_function l =
+    take_make plain_function_of (take_maybe (take_before heads_name l.named) ▸ take_token is_name ▸ take_maybe (take_type_parameters l) ▸ take_local_rest l)
 
 unfoldable pub take_function_statement : Lower → Descent Token Tree
 take_function_statement l = take_make function_statement_of (take_local_function l)

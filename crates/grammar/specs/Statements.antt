@@ -7,7 +7,7 @@ use Rattle.grammar.specs.declared.token.Token.{Token}
 use Rattle.grammar.specs.declared.level.Setting.TheVariants as setting
 use Rattle.grammar.specs.Tokens.{is, is_either, is_name, heads, heads_name, width, past, place_over, place_of, name_at, identifier_at}
 use Rattle.grammar.specs.Types.{Below, separated_rule, behind_token, inner, listed_or_none, type_parameters_rule, parameter_list_rule}
-use Rattle.grammar.specs.Expressions.{heads_label}
+use Rattle.grammar.specs.Expressions.{heads_label, heads_closure}
 
 -- Segments of tokens from which nothing derives.
 
@@ -88,11 +88,13 @@ abbrev pub plain_function_of : List Token → Option Tree × (Token × (Option (
 plain_function_of read (result, (name, (type_parameters, (parameters, body)))) =
     plain_function (place_over read) (part_of result) (name_at name) (trees_of (listed_or_none type_parameters)) parameters body
 
+-- parameters and body of a function among statements: read where a body comes behind the parameters
+unfoldable pub local_rest_rule : Below → Rule Token (Tree × Tree)
+local_rest_rule d = where_next (heads_closure setting.Plain) (parameter_list_rule d ▹ local_body_rule d) (λ ts. [])
+
 -- function among statements: type? identifier type-parameters? parameters body
 unfoldable pub local_function_rule : Below → Rule Token Tree
-local_function_rule d =
-    make plain_function_of
-    (exactly (before heads_name d.named) ▹ token is_name ▹ maybe (type_parameters_rule d) ▹ parameter_list_rule d ▹ local_body_rule d)
+local_function_rule d = make plain_function_of (exactly (before heads_name d.named) ▹ token is_name ▹ maybe (type_parameters_rule d) ▹ local_rest_rule d)
 
 abbrev pub function_statement_of : List Token → Tree → Tree
 function_statement_of read function = function_statement (place_over read) function
