@@ -1,7 +1,7 @@
 //! What the parser's way finds.
 
 ghost use Rattle.std.specs.Prelude.{◌≡◌, ℕ, Bool, List};
-ghost use Rattle.readings.specs.Readings.{longest};
+ghost use Rattle.readings.specs.Readings.{longest, optional};
 ghost use Rattle.grammar.specs.declared.token.Token.{Token};
 ghost use Rattle.grammar.specs.declared.level.Level.{Level};
 ghost use Rattle.grammar.specs.declared.level.Setting.{Setting};
@@ -30,6 +30,25 @@ pub fn parser_laws()
     ensures simple { (room : ℕ) (tokens : List Token) → longest ((below room).simple tokens) ≡ (lower room).simple tokens }
     ensures block { (room : ℕ) (tokens : List Token) → longest ((below room).block tokens) ≡ (lower room).block tokens }
     ensures statement { (room : ℕ) (tokens : List Token) → longest ((below room).statement tokens) ≡ (lower room).statement tokens }
+{}
+
+/// Each type, expression, operand, cascade section, block and statement has one reading at most at
+/// its place: so a parser need not try what else might be read there.
+pub fn readings_are_single()
+    ensures written { (room : ℕ) (tokens : List Token) → (below room).written tokens ≡ optional ((lower room).written tokens) }
+    ensures tested { (room : ℕ) (setting : Setting) (tokens : List Token) → (below room).tested setting tokens ≡ optional ((lower room).tested setting tokens) }
+    ensures constructed { (room : ℕ) (tokens : List Token) → (below room).constructed tokens ≡ optional ((lower room).constructed tokens) }
+    ensures named { (room : ℕ) (tokens : List Token) → (below room).named tokens ≡ optional ((lower room).named tokens) }
+    ensures expression { (room : ℕ) (setting : Setting) (tokens : List Token)
+        → (below room).expression setting tokens ≡ optional ((lower room).expression setting tokens) }
+    ensures operand { (room : ℕ) (setting : Setting) (above : List Level) (tokens : List Token)
+        → (below room).operand setting above tokens ≡ optional ((lower room).operand setting above tokens) }
+    ensures unary { (room : ℕ) (setting : Setting) (tokens : List Token) → (below room).unary setting tokens ≡ optional ((lower room).unary setting tokens) }
+    ensures section { (room : ℕ) (setting : Setting) (tokens : List Token)
+        → (below room).section setting tokens ≡ optional ((lower room).section setting tokens) }
+    ensures simple { (room : ℕ) (tokens : List Token) → (below room).simple tokens ≡ optional ((lower room).simple tokens) }
+    ensures block { (room : ℕ) (tokens : List Token) → (below room).block tokens ≡ optional ((lower room).block tokens) }
+    ensures statement { (room : ℕ) (tokens : List Token) → (below room).statement tokens ≡ optional ((lower room).statement tokens) }
 {}
 
 /// The tree of a text is the one on the parser's way, however many nodes may lie in its items and in
