@@ -1,5 +1,5 @@
 -- Small texts, and how they are read. Each token of them is one character wide, and stands right behind the one before it.
-use Rattle.std.specs.Prelude.{◌≡◌, ℕ, suc, true, false, List, [], ◌∷◌, drop, Option, Some, None}
+use Rattle.std.specs.Prelude.{◌≡◌, ℕ, suc, true, false, List, [], ◌∷◌, drop, Option, Some, None, option_map}
 use Rattle.readings.specs.Readings.{longest}
 use Rattle.dart_tokens.specs.declared.token.Kind.{Kind}
 use Rattle.dart_tokens.specs.declared.token.Kind.TheVariants.{Identifier, Integer, Is, If, Else, OpenParenthesis, CloseParenthesis, OpenBrace, CloseBrace, Comma, Semicolon, Class, Colon, Period, PeriodPeriod, Question, QuestionQuestion, Equals, Arrow, Void, Less, Greater, Plus, Minus, BarBar}
@@ -260,3 +260,52 @@ closure_in_initializer = record {
 -- how texts are read
 abbrev pub unit_rows : List Row
 unit_rows = lone_function ∷ lone_error ∷ body_behind_initializer ∷ closure_in_initializer ∷ []
+
+-- Where nodes have room.
+
+-- an expression, how many nodes may lie on a way down, and how many of its tokens are read then, if any are
+pub record RoomRow : Type 0 where
+  pub room : ℕ
+  pub text : List Kind
+  pub read : Option ℕ
+
+abbrev within : ℕ → List Kind → Option ℕ → RoomRow
+within room text read = record { room = room; text = text; read = read }
+
+-- so many tokens of the row are read as an expression
+abbrev pub ReadsAsFar : RoomRow → Type 0
+ReadsAsFar r =
+    option_map (λ x. x.1) (longest ((below r.room).expression Plain (grammar_tokens (texts 0 (apart 0 r.text)))))
+    ≡ option_map (λ n. drop n (grammar_tokens (texts 0 (apart 0 r.text)))) r.read
+
+-- `a-b-c`
+abbrev two_differences : List Kind
+two_differences = Identifier ∷ Minus ∷ Identifier ∷ Minus ∷ Identifier ∷ []
+
+-- `(a)`
+abbrev one_parenthesis : List Kind
+one_parenthesis = OpenParenthesis ∷ Identifier ∷ CloseParenthesis ∷ []
+
+-- `()=>a`
+abbrev short_closure : List Kind
+short_closure = OpenParenthesis ∷ CloseParenthesis ∷ Arrow ∷ Identifier ∷ []
+
+-- `(){a;}`
+abbrev block_closure : List Kind
+block_closure = OpenParenthesis ∷ CloseParenthesis ∷ OpenBrace ∷ Identifier ∷ Semicolon ∷ CloseBrace ∷ []
+
+-- `a..b`
+abbrev one_section : List Kind
+one_section = Identifier ∷ PeriodPeriod ∷ Identifier ∷ []
+
+-- `a.b.c`
+abbrev two_members : List Kind
+two_members = Identifier ∷ Period ∷ Identifier ∷ Period ∷ Identifier ∷ []
+
+-- How far expressions are read. An operator, a selector or a section deepens what stands on its left, so a repeat stops where it has no room; `=>` adds no node; and a block is read wherever it has room itself, since what is too deep in it is an error.
+abbrev pub room_rows : List RoomRow
+room_rows =
+    within 0 two_differences None ∷ within 1 two_differences (Some 1) ∷ within 2 two_differences (Some 3) ∷ within 3 two_differences (Some 5)
+    ∷ within 1 one_parenthesis None ∷ within 2 one_parenthesis (Some 3) ∷ within 1 short_closure None ∷ within 2 short_closure (Some 4)
+    ∷ within 1 block_closure None ∷ within 2 block_closure (Some 6) ∷ within 1 one_section (Some 1) ∷ within 2 one_section (Some 3)
+    ∷ within 2 two_members (Some 3) ∷ within 3 two_members (Some 5) ∷ []

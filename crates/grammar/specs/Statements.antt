@@ -195,10 +195,6 @@ unfoldable pub start_rule : Below → Rule Token (Option Tree)
 start_rule d =
     prefer (turn (λ x. Some (ended x)) (variables_rule d ▹ token (is kind.Semicolon))) (turn ended (maybe (d.expression setting.Plain) ▹ token (is kind.Semicolon)))
 
--- the updates, if there are any
-abbrev pub updates_of : Option (List Tree) → List Tree
-updates_of found = listed_or_none found
-
 abbrev pub counted_of : Option Tree × (Option Tree × (Token × Option (List Tree))) → Header
 counted_of (initializer, (condition, (semicolon, updates))) = counted initializer condition (listed_or_none updates)
 
@@ -235,7 +231,7 @@ case_size_at (suc n) (t ∷ ts) = if is_case t then 0 else suc t.past + case_siz
 abbrev pub case_size : List Token → ℕ
 case_size ts = case_size_at (length ts) ts
 
--- the values of a case, and whether it is the default
+-- the value of a label
 abbrev pub label_of : Token × (Tree × Token) → Tree
 label_of (word, (value, colon)) = value
 
@@ -243,6 +239,7 @@ label_of (word, (value, colon)) = value
 unfoldable pub label_rule : Below → Rule Token Tree
 label_rule d = turn label_of (token (is kind.Case) ▹ d.expression setting.Plain ▹ token (is kind.Colon))
 
+-- the values of a case, and whether it is the default
 abbrev pub labels_of : (Tree × List Tree) × Option (Token × Token) → List Tree × Bool
 labels_of ((first, rest), fallback) = (first ∷ rest, is_some fallback)
 

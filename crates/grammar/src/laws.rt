@@ -9,7 +9,7 @@ ghost use Rattle.grammar.specs.Below.{below};
 ghost use Rattle.grammar.specs.Declarations.{unit_below, unit_of};
 ghost use Rattle.grammar.specs.Descents.{lower};
 ghost use Rattle.grammar.specs.DeclarationDescents.{lower_unit};
-ghost use Rattle.grammar.specs.Rows.{ReadsExpression, ReadsStatement, ReadsUnit, expression_rows, statement_rows, unit_rows};
+ghost use Rattle.grammar.specs.Rows.{ReadsExpression, ReadsStatement, ReadsUnit, ReadsAsFar, expression_rows, statement_rows, unit_rows, room_rows};
 ghost use Rattle.readings.specs.Leading.{Each};
 
 /// A parser that goes down the tokens and never gives a reading up for another finds what the
@@ -59,9 +59,10 @@ pub fn unit_laws()
     ensures whole { (in_core : Bool) (tokens : List Token) → unit_of in_core tokens ≡ lower_unit in_core (lower 199) (lower 198) tokens }
 {}
 
-/// Small texts are read as the rows beside them say.
+/// Small texts are read as the rows beside them say, and as far as there is room for nodes.
 pub fn small_texts_are_read()
     ensures expressions { Each ReadsExpression expression_rows }
     ensures statements { Each ReadsStatement statement_rows }
     ensures units { Each ReadsUnit unit_rows }
+    ensures room { Each ReadsAsFar room_rows }
 {}

@@ -178,6 +178,3 @@ parses_sole {T = T} {A = A} {f = f} {p = p} {g = g} a = record {
   starts = a.starts;
   shrinks = a.shrinks;
 }
-
-pub parses_longest_of : {T A : Type 0} {s f : Test T} {p : Rule T A} {g : Descent T A} → Parses s f p g → Parses nothing f (longest_of p) g
-parses_longest_of a = parses_sole (sole_longest a)

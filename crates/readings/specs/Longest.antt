@@ -6,20 +6,11 @@ use Rattle.readings.specs.Readings.{Reading, Rule, Test, better, longest, whole_
 use Rattle.readings.specs.Descent.{Descent, complete}
 use Rattle.readings.specs.Leading.{Each, Late, Leads, Matches, Parses}
 
--- equal readings leave equally many tokens
-pub length_same : {T A : Type 0} (x y : Reading T A) → x ≡ y → length x.1 ≡ length y.1
-length_same {T = T} {A = A} x y e = ap (λ (v : Reading T A). length v.1) e
-
 better_keeps : {T A : Type 0} (x y : Reading T A) → length x.1 ≤ length y.1 → better x (Some y) ≡ Some x
 better_keeps x y h = grind (arith, nat_tests)
 
 better_takes : {T A : Type 0} (x y : Reading T A) → length y.1 < length x.1 → better x (Some y) ≡ Some y
 better_takes x y h = grind (arith, nat_tests)
-
--- where what stands behind is no longer, the first stays
-late_first : {T A : Type 0} (s : Test T) (b x : Reading T A) → Late s b x → better b (Some x) ≡ Some b
-late_first {T = T} s b x (inl e) = let h : length b.1 ≤ length x.1 = omega (arith, ap (λ (ts : List T). length ts) e) in better_keeps b x h
-late_first s b x (inr d) = let h : length b.1 ≤ length x.1 = omega (arith, d.0) in better_keeps b x h
 
 no_longer : {T A : Type 0} (s : Test T) (b x : Reading T A) → Late s b x → length b.1 ≤ length x.1
 no_longer {T = T} s b x (inl e) = omega (arith, ap (λ (ts : List T). length ts) e)

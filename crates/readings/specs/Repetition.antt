@@ -6,7 +6,7 @@ use Rattle.readings.specs.Readings.{Reading, Rule, Test, nothing, next, either, 
 use Rattle.readings.specs.Descent.{Descent, bind, or_else, take_given, take_token, take_where, ◌▸◌, ◌⊘◌, take_maybe, take_at_most, take_many, take_turn}
 use Rattle.readings.specs.Leading.{Each, Apart, Within, Late, Leads, Matches, Starts, Keeps, Fewer, AtMost, Parses}
 use Rattle.readings.specs.Lists.{each_append, each_implies, each_flat, each_map, or_false_left, or_false_right, or_left, or_right, leads_append, leads_each, leads_has, leads_map, leads_within, matches_within, late_within, within_left, within_right}
-use Rattle.readings.specs.Combinators.{followed_by, leads_seq, starts_seq, shrinks_seq, shrinks_after, keeps_shrinks, keeps_seq, keeps_make, made_leads, starts_at, parses_turn, parses_token}
+use Rattle.readings.specs.Combinators.{followed_by, leads_seq, starts_seq, shrinks_seq, shrinks_after, keeps_shrinks, keeps_seq, starts_at, parses_turn, parses_token}
 
 -- What is total: it always reads, at least nothing.
 
@@ -120,18 +120,6 @@ offers_seq {s = s} {f = f} {u = u} {v = v} {p = p} {q = q} {g = g} {h = h} {a = 
   found = λ ts. found_seq h n.found (g ts) (m.found ts);
   idle = λ ts e. followed_idle q a b ts (p ts) (m.idle ts (or_false_left (f ts) (v ts) e)) (n.idle ts (or_false_right (f ts) (v ts) e));
   keeps = keeps_seq p q m.keeps n.keeps;
-}
-
-found_turn : {T A B : Type 0} (k : Reading T A → Reading T B) (o : Option (Reading T A)) → IsFound o → IsFound (bind o (λ x. Some (k x)))
-found_turn k None found = elim found [ ]
-found_turn k (Some x) found = tt
-
-pub offers_turn : {T A B : Type 0} {s f : Test T} {p : Rule T A} {g : Descent T A} {a : A} (k : A → B) → Offers s f a p g → Offers s f (k a) (turn k p) (take_turn k g)
-offers_turn {s = s} {p = p} {g = g} {a = a} k m = record {
-  leads = λ ts. made_leads s (λ read x. k x) ts (p ts) (g ts) (m.leads ts);
-  found = λ ts. found_turn (made (λ read x. k x) ts) (g ts) (m.found ts);
-  idle = λ ts e. ap (map (made (λ read x. k x) ts)) (m.idle ts e);
-  keeps = keeps_make (λ read x. k x) p m.keeps;
 }
 
 -- What is repeated.

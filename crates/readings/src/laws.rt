@@ -89,6 +89,7 @@ pub fn level_laws<T, A, B, R>()
 pub fn element_laws<T, A>()
     ensures elements { (p : Parser T A) (comma : T → Bool) → Apart p.stops (next comma)
         → Offers (either p.stops (either p.begins (next comma))) p.begins [] (elements p.rule (token comma)) (take_elements p.descent (take_token comma)) }
+    ensures begins { (all : Option (Reading T (List A))) → all ≡ preceded [] all }
     ensures goes_on { (g : Descent T A) (comma : Descent T T) → Falls g → Falls comma → (all : Option (Reading T (List A))) (done : List A) (ts : List T)
         (x : Reading T A) (y : Reading T T) → all ≡ preceded done (take_elements g comma ts) → g ts ≡ Some x → comma x.1 ≡ Some y
         → all ≡ preceded (done ++ x.0 ∷ []) (take_elements g comma y.1) }
