@@ -7,8 +7,8 @@
 //! for nodes, and `specs/Declarations.antt` goes on to whole texts. `specs/Descents.antt` and
 //! `DeclarationDescents.antt` are the parser's way. The contracts of `laws.rt` state that this way
 //! finds, of each type, expression and statement, the first of the longest readings, and the tree of
-//! each text; `specs/Rows.antt` has small texts with their trees. The crate has no parser; it stands on `dart_tokens`, `dart_tree` and `readings`, and knows nothing of
-//! what trees mean.
+//! each text; `specs/Rows.antt` has small texts with their trees. The crate has no parser; it stands
+//! on `dart_tokens`, `dart_tree` and `readings`, and knows nothing of what trees mean.
 #![tactic(auto)]
 
 mod laws;
