@@ -7,7 +7,8 @@ pub mod Numbers
 pub mod NumberLaws
 pub mod PlaceLaws
 pub mod Heights
+pub mod Nodes
+pub mod HeightLaws
 pub mod Bare
 pub mod TreeLaws
-pub mod Nodes
 pub mod Falls
