@@ -5,4 +5,6 @@ pub mod ExpressionsParse
 pub mod StatementsParse
 pub mod DeclarationsParse
 pub mod Agreement
+pub mod Depths
+pub mod DepthLaws
 pub mod Examples

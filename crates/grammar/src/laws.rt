@@ -1,10 +1,11 @@
 //! What the parser's way finds.
 
-ghost use Rattle.std.specs.Prelude.{◌≡◌, ℕ, Bool, List};
+ghost use Rattle.std.specs.Prelude.{◌≡◌, ◌≤◌, ℕ, Bool, List};
 ghost use Rattle.readings.specs.Readings.{longest, optional};
 ghost use Rattle.grammar.specs.declared.token.Token.{Token};
 ghost use Rattle.grammar.specs.declared.level.Level.{Level};
 ghost use Rattle.grammar.specs.declared.level.Setting.{Setting};
+ghost use Rattle.dart_tree.specs.Heights.{height};
 ghost use Rattle.grammar.specs.Below.{below};
 ghost use Rattle.grammar.specs.Declarations.{unit_below, unit_of};
 ghost use Rattle.grammar.specs.Descents.{lower};
@@ -49,6 +50,19 @@ pub fn readings_are_single()
     ensures simple { (room : ℕ) (tokens : List Token) → (below room).simple tokens ≡ optional ((lower room).simple tokens) }
     ensures block { (room : ℕ) (tokens : List Token) → (below room).block tokens ≡ optional ((lower room).block tokens) }
     ensures statement { (room : ℕ) (tokens : List Token) → (below room).statement tokens ≡ optional ((lower room).statement tokens) }
+{}
+
+/// No tree that is read is higher than its room, and no node of a text lies deeper than 200 below
+/// the whole.
+pub fn trees_fit_their_room()
+    ensures written { (room : ℕ) (tokens : List Token) → Each (λ x. height x.0 ≤ room) ((below room).written tokens) }
+    ensures expression { (room : ℕ) (setting : Setting) (tokens : List Token) → Each (λ x. height x.0 ≤ room) ((below room).expression setting tokens) }
+    ensures operand { (room : ℕ) (setting : Setting) (above : List Level) (tokens : List Token)
+        → Each (λ x. height x.0 ≤ room) ((below room).operand setting above tokens) }
+    ensures section { (room : ℕ) (setting : Setting) (tokens : List Token) → Each (λ x. height x.0 ≤ room) ((below room).section setting tokens) }
+    ensures block { (room : ℕ) (tokens : List Token) → Each (λ x. height x.0 ≤ room) ((below room).block tokens) }
+    ensures statement { (room : ℕ) (tokens : List Token) → Each (λ x. height x.0 ≤ room) ((below room).statement tokens) }
+    ensures unit { (in_core : Bool) (tokens : List Token) → height (unit_of in_core tokens) ≤ 201 }
 {}
 
 /// The tree of a text is the one on the parser's way, however many nodes may lie in its items and in

@@ -14,3 +14,4 @@ pub mod Elements
 pub mod Items
 pub mod Commits
 pub mod Parsers
+pub mod Values
