@@ -125,12 +125,8 @@ fn narrowed_variable(
         return Ok(None);
     }
     let tested = to.copy(alloc)?;
-    Ok(Some(DartType {
-        node: TypeNode::Promoted {
-            var,
-            to: Box::new(alloc, tested)?,
-        },
-    }))
+    let narrowed = DartType::promoted(alloc, var, tested)?;
+    Ok(Some(narrowed))
 }
 
 // A type without null, where it is another type.

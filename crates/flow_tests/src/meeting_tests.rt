@@ -1,0 +1,128 @@
+//! Models that meet, the end of scopes, and types that are too large.
+
+use crate::sample::{letter, local, of, or_null, rows};
+use dart_types::{CORE, ClassId, DartType, NODE_LIMIT, Rows, TypeList, TypeNode};
+use flow_model::{Flow, LocalDecl, LocalId};
+use std::alloc::Global;
+use std::test::Fail;
+
+// Two locals, of the types `int?` and `Object?`.
+const X: LocalId = LocalId(1);
+
+const Y: LocalId = LocalId(2);
+
+// The type of a letter.
+fn type_of(alloc: Global, mark: u8) -> Result<DartType, Fail> {
+    match letter(alloc, mark)? {
+        Some(t) => Ok(t),
+        None => Err("no letter of a type".into()),
+    }
+}
+
+// Puts a local in scope.
+fn declare(alloc: Global, flow: &mut Flow, declared: &LocalDecl) -> Result<(), Fail> {
+    if flow.is_in_scope(declared.var) {
+        return Err("a local that is in scope".into());
+    }
+    flow.declare(alloc, declared)?;
+    Ok(())
+}
+
+// The model of both locals.
+fn both(alloc: Global) -> Result<Flow, Fail> {
+    let int = type_of(alloc, b'i')?;
+    let object = type_of(alloc, b'o')?;
+    let mut flow = Flow::start(alloc, &[])?;
+    declare(alloc, &mut flow, &local(2, or_null(alloc, object)?))?;
+    declare(alloc, &mut flow, &local(1, or_null(alloc, int)?))?;
+    Ok(flow)
+}
+
+// The model where X isn't null and Y has the type of a letter.
+fn tested(alloc: Global, rows: &Rows, mark: u8) -> Result<Flow, Fail> {
+    let to = type_of(alloc, mark)?;
+    let mut flow = both(alloc)?;
+    flow.non_null(alloc, rows, X)?;
+    flow.promote(alloc, rows, Y, &to)?;
+    Ok(flow)
+}
+
+// Whether a local has the type of a letter, with `?` or without.
+fn has(alloc: Global, flow: &Flow, var: LocalId, mark: u8, null: bool) -> Result<bool, Fail> {
+    let mut t = type_of(alloc, mark)?;
+    if null {
+        t = or_null(alloc, t)?;
+    }
+    match flow.current(var) {
+        Some(current) => Ok(current.is_same(&t)),
+        None => Ok(false),
+    }
+}
+
+// A type of so many nodes.
+fn of_nodes(alloc: Global, nodes: u64) -> Result<DartType, Fail> {
+    let mut args = TypeList::new(alloc);
+    for _ in 1..nodes {
+        args.push(of(TypeNode::Void))?;
+    }
+    let class = ClassId {
+        lib: CORE,
+        index: 8,
+    };
+    let t = DartType::interface(alloc, class, args)?;
+    Ok(t)
+}
+
+// Whether a local of the type X is promoted by a test for a type of so many nodes.
+fn is_promoted(alloc: Global, rows: &Rows, nodes: u64) -> Result<bool, Fail> {
+    let to = of_nodes(alloc, nodes)?;
+    let mut flow = Flow::start(alloc, &[])?;
+    declare(alloc, &mut flow, &local(1, type_of(alloc, b'X')?))?;
+    flow.promote(alloc, rows, X, &to)?;
+    Ok(!has(alloc, &flow, X, b'X', false)?)
+}
+
+#[test]
+fn models_meet_as_the_rules_say(rt: HostRuntime) -> Result<(), Fail> {
+    let alloc = rt.alloc();
+    let rows = rows(alloc)?;
+    let one = tested(alloc, &rows, b'n')?;
+    let mut other = tested(alloc, &rows, b's')?;
+    let joined = Flow::join(alloc, &one, &other)?;
+    assert!(rt; has(alloc, &joined, X, b'i', false)?);
+    assert!(rt; has(alloc, &joined, Y, b'o', true)?);
+    assert!(rt; joined.is_assigned(X) && !joined.is_unassigned(X) && joined.reachable());
+    other.exit();
+    assert!(rt; !other.reachable());
+    assert!(rt; Flow::join(alloc, &other, &one)?.is_same(&one));
+    assert!(rt; Flow::join(alloc, &one, &one)?.is_same(&one.copy(alloc)?));
+    Ok(())
+}
+
+#[test]
+fn a_finally_block_is_met(rt: HostRuntime) -> Result<(), Fail> {
+    let alloc = rt.alloc();
+    let rows = rows(alloc)?;
+    let body = tested(alloc, &rows, b'n')?;
+    let mut block = both(alloc)?;
+    block.promote(alloc, &rows, Y, &type_of(alloc, b'i')?)?;
+    let behind = Flow::restrict(alloc, &rows, &body, &block, &[X], &[])?;
+    assert!(rt; has(alloc, &behind, X, b'i', true)?);
+    assert!(rt; has(alloc, &behind, Y, b'i', false)?);
+    block.capture(alloc, &[Y])?;
+    let mut captured = Flow::restrict(alloc, &rows, &body, &block, &[X], &[Y])?;
+    assert!(rt; captured.is_captured(Y) && !captured.is_captured(X));
+    assert!(rt; has(alloc, &captured, Y, b'o', true)?);
+    captured.end(&[Y]);
+    assert!(rt; captured.declared(Y).is_none() && captured.declared(X).is_some());
+    Ok(())
+}
+
+#[test]
+fn no_type_that_is_too_large_is_appended(rt: HostRuntime) -> Result<(), Fail> {
+    let alloc = rt.alloc();
+    let rows = rows(alloc)?;
+    assert!(rt; is_promoted(alloc, &rows, NODE_LIMIT - 1)?);
+    assert!(rt; !is_promoted(alloc, &rows, NODE_LIMIT)?);
+    Ok(())
+}
