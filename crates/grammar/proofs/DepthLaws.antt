@@ -1,22 +1,21 @@
 -- No statement, declaration or text that is read is higher than the room that it was read in.
-use Rattle.std.proofs.Common.{◌≡◌, ℕ, zero, suc, ◌≤◌, Bool, true, false, List, [], ◌∷◌, map, length, Option, Some, None, option_map, refl, arith}
-use Rattle.readings.specs.Readings.{Rule, Test, next, token, given, ◌▹◌, ◌∣◌, maybe, many, longest_of}
+use Rattle.std.proofs.Common.{ℕ, zero, suc, ◌≤◌, Bool, true, false, List, [], map, Option, Some, None, arith}
+use Rattle.readings.specs.Readings.{Rule, token, ◌▹◌, maybe, many, longest_of}
 use Rattle.readings.specs.Leading.{Each}
-use Rattle.readings.specs.Lists.{each_implies, each_map}
+use Rattle.readings.specs.Lists.{each_map}
 use Rattle.readings.specs.Values.{Gives, Maybe, gives_any, gives_none, gives_seq, gives_or, gives_make, gives_turn, gives_maybe, gives_many, gives_longest, gives_inside, gives_within, gives_where, gives_prefer, gives_exactly, gives_before, gives_only, gives_items, all_items_are}
 use Rattle.dart_tokens.specs.declared.token.Kind.TheVariants as kind
-use Rattle.dart_tree.specs.Tree.{Tree, trees_of, part_of}
-use Rattle.dart_tree.specs.Heights.{higher, height, heights, height_of_part}
+use Rattle.dart_tree.specs.Tree.{Tree}
+use Rattle.dart_tree.specs.Heights.{height}
 use Rattle.grammar.specs.declared.token.Token.{Token}
-use Rattle.grammar.specs.declared.level.Setting.{Setting}
 use Rattle.grammar.specs.declared.level.Setting.TheVariants as setting
-use Rattle.grammar.specs.Tokens.{is, is_either, is_name, is_type_name, heads, heads_name, anything, width, past}
+use Rattle.grammar.specs.Tokens.{is, is_name, is_type_name, heads, heads_name, anything, width, past}
 use Rattle.grammar.specs.Operators.{table}
-use Rattle.grammar.specs.Types.{Below, inner, behind_token, listed_or_none, annotation_rule, heads_field, parameter_list_rule}
+use Rattle.grammar.specs.Types.{Below, inner, behind_token, listed_or_none, annotation_rule, heads_field}
 use Rattle.grammar.specs.Expressions.{heads_label, heads_closure, heads_nullable}
 use Rattle.grammar.specs.Below.{below}
-use Rattle.grammar.specs.Statements.{Header, counted, assigned, declaring, each_with, for_with, clause_with, caught, segment, error_of, block_of, block_rule, final_of, var_of, typed_of, declared_rule, variable_of, variable_rule, variables_of, variables_rule, ended, variable_statement_of, variable_statement_rule, arrow_body_of, local_body_rule, plain_function_of, local_rest_rule, local_function_rule, function_statement_of, function_statement_rule, expression_statement_of, expression_statement_rule, return_of, return_rule, break_of, break_rule, continue_of, continue_rule, rethrow_of, rethrow_rule, labeled_of, labeled_rule, condition_rule, if_of, if_rule, while_of, while_rule, do_of, do_rule, each_of, each_rule, start_rule, counted_of, counted_rule, for_of, for_rule, label_of, label_rule, labels_of, default_of, labels_rule, case_of, case_size, case_rule, cases_end_with_default, cases_rule, switch_of, switch_rule, catch_of, catch_rule, on_of, clause_of, clause_rule, has_clause, try_of, try_rule, other_statement_rule, statement_rule}
-use Rattle.grammar.specs.Declarations.{Signature, getting, setting_of, plain, function_with, constructed, made_by_factory, method, fields, operated_by, member_with, of_class, of_mixin, of_type, of_function, of_variables, declaration_with, Member, Declaration, unit_of, allowed, native_of, empty_of, body_rule, getting_of, set_of, plain_of, heads_getter, heads_setter, signature_rule, function_of, function_rule, is_class, constructor_name_of, constructor_name_rule, field_initializer_of, super_of, redirection_of, constructed_rule, initializer_rule, constructor_of, constructor_rule, factory_of, factory_rule, declared_operator, operator_name, declared_sign, is_declared, take_declared_sign, declared_sign_rule, tilde_of, index_of, operator_rule, operator_member_of, operator_member_rule, heads_static, method_of, fields_of, plain_member_rule, behind_word, static_member_rule, member_of, member_rule, members_rule, types_behind, class_of, class_with_rule, class_word, class_rule, mixin_of, mixin_rule, alias_of, alias_rule, declared_function_of, declared_variables_of, plain_declaration_rule, heads_class, heads_word, declaration_of, declaration_rule, listed, library_names_rule, library_of, library_rule, show_of, hide_of, combinator_rule, import_of, import_rule, export_of, export_rule, part_directive_of, part_rule, part_of_uri_of, part_of_library_of, part_of_rule, directive_rule, item_rule, unit_below}
+use Rattle.grammar.specs.Statements.{Header, counted, assigned, declaring, each_with, for_with, clause_with, segment, error_of, block_of, block_rule, final_of, var_of, typed_of, declared_rule, variable_of, variable_rule, variables_of, variables_rule, ended, variable_statement_of, variable_statement_rule, arrow_body_of, local_body_rule, plain_function_of, local_rest_rule, local_function_rule, function_statement_of, function_statement_rule, expression_statement_of, expression_statement_rule, return_of, return_rule, break_of, break_rule, continue_of, continue_rule, rethrow_of, rethrow_rule, labeled_of, labeled_rule, condition_rule, if_of, if_rule, while_of, while_rule, do_of, do_rule, each_of, each_rule, start_rule, counted_of, counted_rule, for_of, for_rule, label_of, label_rule, labels_of, default_of, labels_rule, case_of, case_size, case_rule, cases_end_with_default, cases_rule, switch_of, switch_rule, catch_rule, on_of, clause_of, clause_rule, has_clause, try_of, try_rule, other_statement_rule, statement_rule}
+use Rattle.grammar.specs.Declarations.{Signature, getting, setting_of, plain, function_with, constructed, made_by_factory, method, fields, operated_by, member_with, of_class, of_mixin, of_type, of_function, of_variables, declaration_with, Member, Declaration, native_of, empty_of, body_rule, getting_of, set_of, plain_of, heads_getter, heads_setter, signature_rule, function_of, function_rule, constructor_name_rule, field_initializer_of, super_of, redirection_of, initializer_rule, constructor_of, constructor_rule, factory_of, factory_rule, operator_rule, operator_member_of, operator_member_rule, heads_static, method_of, fields_of, plain_member_rule, behind_word, static_member_rule, member_of, member_rule, members_rule, types_behind, class_of, class_with_rule, class_word, class_rule, mixin_of, mixin_rule, alias_of, alias_rule, declared_function_of, declared_variables_of, plain_declaration_rule, heads_class, heads_word, declaration_of, declaration_rule, library_names_rule, library_of, library_rule, combinator_rule, import_of, import_rule, export_of, export_rule, part_directive_of, part_rule, part_of_uri_of, part_of_library_of, part_of_rule, directive_rule, item_rule, unit_below}
 use Rattle.grammar.proofs.Depths.{Low, Lows, up, first_node, hi, ls, pt, bt, lo, tok, separated_low, type_parameters_low, parameter_list_low, plain_type_low, type_low, string_low, arguments_low, simple_low, unary_low, operand_low, section_head_low, section_low, expression_low}
 
 -- an error has no height

@@ -1,10 +1,10 @@
 -- No tree that is read is higher than the room that it was read in.
-use Rattle.std.proofs.Common.{◌≡◌, ℕ, zero, suc, ◌≤◌, ◌++◌, Bool, true, false, not, List, [], ◌∷◌, map, Option, Some, None, option_map, nat_lt, if◌then◌else◌, refl, arith}
+use Rattle.std.proofs.Common.{◌≡◌, ℕ, suc, ◌≤◌, ◌++◌, Bool, true, false, not, List, [], ◌∷◌, Option, Some, None, nat_lt, if◌then◌else◌, arith}
 use Rattle.std.proofs.lemmas.Bool.Decides.{nat_tests}
-use Rattle.readings.specs.Readings.{Rule, Test, next, token, given, ◌▹◌, ◌∣◌, maybe, many, longest_of, before, where_next, turn}
+use Rattle.readings.specs.Readings.{Rule, Test, token, given, ◌▹◌, maybe, many, where_next, turn}
 use Rattle.readings.specs.Leading.{Each}
 use Rattle.readings.specs.Lists.{each_append, each_implies, each_map}
-use Rattle.readings.specs.Values.{Gives, Maybe, gives_any, gives_none, gives_seq, gives_or, gives_make, gives_turn, gives_maybe, gives_many, gives_chain, gives_once, gives_longest, gives_inside, gives_within, gives_where, gives_prefer, gives_exactly, gives_before, gives_only, gives_elements, gives_items, gives_levels}
+use Rattle.readings.specs.Values.{Gives, Maybe, gives_any, gives_seq, gives_or, gives_make, gives_turn, gives_maybe, gives_many, gives_chain, gives_once, gives_longest, gives_inside, gives_where, gives_prefer, gives_exactly, gives_before, gives_elements, gives_levels}
 use Rattle.dart_tokens.specs.declared.token.Kind.TheVariants as kind
 use Rattle.dart_tree.specs.Tree.{Tree, trees_of, part_of}
 use Rattle.dart_tree.specs.Heights.{higher, height, heights, height_of_part, fits}
@@ -15,10 +15,10 @@ use Rattle.grammar.specs.declared.level.Level.{Level}
 use Rattle.grammar.specs.declared.level.Level.TheVariants as level
 use Rattle.grammar.specs.declared.level.Setting.{Setting}
 use Rattle.grammar.specs.declared.level.Setting.TheVariants as setting
-use Rattle.grammar.specs.Tokens.{is, is_either, is_name, is_type_name, heads, heads_name, width, past}
-use Rattle.grammar.specs.Types.{tail, Tail, function_type_with, listed_or_none, behind_token, Below, separated, separated_rule, inner, type_arguments_of, type_arguments_rule, type_parameter_of, type_parameter_rule, type_parameters_of, type_parameters_rule, void_of, heads_qualified, qualified_of, unqualified_of, type_name_rule, question_rule, named_type_of, plain_type_rule, annotation_of, annotation_rule, goes_on_parameter, heads_required, heads_field, parameter_of, parameter_rule, parameters_rule, optional_parameters_rule, parameter_list_of, parameter_list_rule, parameter_type_of, parameter_type_rule, tail_of, tail_rule, tail_before_rule, first_tail_of, next_tail_of, every_time, type_rule}
-use Rattle.grammar.specs.Operators.{binary_rule, prefix_rule, postfix_rule, table, heads_sign, is_binary, is_assignment, take_assignment, assignment_rule}
-use Rattle.grammar.specs.Expressions.{Selector, member, element, check, called, Side, operated, tested, cast, choices, Contents, listed, entries, collection_with, side_with, begins_expression, simple_string_of, string_text_of, simple_interpolation_of, interpolation_rule, string_part_rule, interpolated_of, string_rule, strings_of, strings_rule, heads_label, positional_of, named_of, argument_rule, arguments_of, arguments_rule, integer_of, boolean_of, null_of, this_of, super_of, identifier_of, simple_rule, generic_of, heads_use, name_rule, parenthesis_of, parenthesis_rule, arrow_of, closure_of, heads_closure, closure_rule, new_of, new_rule, entry_of, entry_rule, listed_of, entries_of, collection_of, collection_rule, primary_rule, member_of, element_of, check_of, plain_call_of, generic_call_of, behind_call, selector_rule, select_with, selected_rule, one_time, postfix_of, unary_of, incremented_rule, unary_rule, operated_of, tested_of, cast_of, choices_of, operated_rule, right_rule, times, side_with, operand_rule, assign_of, assignment_expression_rule, throw_of, throw_rule, cascaded_name_of, cascaded_index_of, section_head_rule, section_rule, cascade_of, section_of, cascade_section_rule, cascade_rule, expression_rule}
+use Rattle.grammar.specs.Tokens.{is, is_either, is_name, is_type_name, width, past}
+use Rattle.grammar.specs.Types.{tail, Tail, function_type_with, listed_or_none, behind_token, Below, separated, separated_rule, inner, type_arguments_of, type_arguments_rule, type_parameter_of, type_parameter_rule, type_parameters_of, type_parameters_rule, void_of, type_name_rule, question_rule, named_type_of, plain_type_rule, annotation_rule, heads_required, heads_field, parameter_of, parameter_rule, parameters_rule, optional_parameters_rule, parameter_list_of, parameter_list_rule, parameter_type_of, parameter_type_rule, tail_of, tail_rule, tail_before_rule, first_tail_of, next_tail_of, every_time, type_rule}
+use Rattle.grammar.specs.Operators.{binary_rule, prefix_rule, postfix_rule, table, assignment_rule}
+use Rattle.grammar.specs.Expressions.{Selector, member, element, check, called, Side, operated, tested, cast, choices, Contents, listed, entries, collection_with, side_with, simple_string_of, string_text_of, simple_interpolation_of, interpolation_rule, string_part_rule, interpolated_of, string_rule, strings_of, strings_rule, heads_label, positional_of, named_of, argument_rule, arguments_of, arguments_rule, integer_of, boolean_of, null_of, this_of, super_of, identifier_of, simple_rule, generic_of, heads_use, name_rule, parenthesis_of, parenthesis_rule, arrow_of, closure_of, heads_closure, closure_rule, new_of, new_rule, entry_of, entry_rule, listed_of, entries_of, collection_of, collection_rule, primary_rule, member_of, element_of, check_of, plain_call_of, generic_call_of, behind_call, selector_rule, select_with, selected_rule, one_time, postfix_of, unary_of, incremented_rule, unary_rule, operated_of, tested_of, cast_of, choices_of, operated_rule, right_rule, times, side_with, operand_rule, assign_of, assignment_expression_rule, throw_of, throw_rule, cascaded_name_of, cascaded_index_of, section_head_rule, section_rule, cascade_of, section_of, cascade_section_rule, cascade_rule, expression_rule}
 
 -- a tree of at most this height
 abbrev pub Low : ℕ → Tree → Type 0

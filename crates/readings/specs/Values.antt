@@ -1,7 +1,7 @@
 -- What holds of every value that a rule reads.
-use Rattle.std.specs.Prelude.{◌≡◌, ℕ, zero, suc, ◌++◌, Bool, true, false, List, [], ◌∷◌, Option, Some, None, option_map, length, map, take, drop, nat_lt, if◌then◌else◌, refl}
+use Rattle.std.specs.Prelude.{◌≡◌, ℕ, zero, suc, Bool, true, false, List, [], ◌∷◌, Option, Some, None, option_map, length, map, take, drop, nat_lt, if◌then◌else◌, refl}
 use Rattle.std.specs.List.{flat_map}
-use Rattle.readings.specs.Readings.{Reading, Rule, Test, optional, token, given, behind, ◌▹◌, ◌∣◌, tokens_read, made, make, turn, maybe, listed, at_most, many, onto, chain, once, better, longest, whole_or, whole, longest_of, where_next, or_others, prefer, exactly, passing, before, only, within, inside, levels, first_behind, at_most_elements, elements, item_or_error, items_at, items}
+use Rattle.readings.specs.Readings.{Reading, Rule, Test, optional, behind, ◌▹◌, ◌∣◌, tokens_read, made, make, turn, maybe, listed, at_most, many, onto, chain, once, better, longest, whole_or, whole, longest_of, where_next, or_others, prefer, exactly, passing, before, only, within, inside, levels, first_behind, at_most_elements, elements, item_or_error, items_at, items}
 use Rattle.readings.specs.Leading.{Each}
 use Rattle.readings.specs.Lists.{each_append, each_implies, each_map, each_flat}
 use Rattle.readings.specs.Combinators.{followed_by}
