@@ -85,7 +85,8 @@ fn chain_behind(
     b: &Facts,
     changed: bool,
 ) -> Result<TypeList, AllocError>
-    ensures { IfOk result (λ chain. chain ≡ (if a.now.captured || b.now.captured then [] else if changed then b.now.chain else further_of rows.now.table a.now.ty a.now.chain b.now.chain)) }
+    ensures { IfOk result (λ chain. chain ≡ (if a.now.captured || b.now.captured then [] else
+        if changed then b.now.chain else further_of rows.now.table a.now.ty a.now.chain b.now.chain)) }
 {
     if a.captured || b.captured {
         return Ok(TypeList::new(alloc));

@@ -21,11 +21,14 @@ pub fn no_captured_local_is_promoted(_rows: &Rows)
     ensures declare { (m : FlowModel) (local : LocalDecl) → PromotesNoCaptured m → PromotesNoCaptured (declare_of m local) }
     ensures end { (m : FlowModel) (vars : List LocalId) → PromotesNoCaptured m → PromotesNoCaptured (end_of m vars) }
     ensures exit { (m : FlowModel) → PromotesNoCaptured m → PromotesNoCaptured (exit_of m) }
-    ensures promote { (m : FlowModel) (var : LocalId) (to : Ty) → PromotesNoCaptured m → PromotesNoCaptured (at_local m var (promote_facts _rows.now.table to)) }
+    ensures promote { (m : FlowModel) (var : LocalId) (to : Ty) → PromotesNoCaptured m
+        → PromotesNoCaptured (at_local m var (promote_facts _rows.now.table to)) }
     ensures non_null { (m : FlowModel) (var : LocalId) → PromotesNoCaptured m → PromotesNoCaptured (at_local m var (non_null_facts _rows.now.table)) }
     ensures append { (m : FlowModel) (var : LocalId) (to : Ty) → PromotesNoCaptured m → PromotesNoCaptured (at_local m var (append_facts _rows.now.table to)) }
-    ensures assign { (m : FlowModel) (var : LocalId) (written : Ty) → PromotesNoCaptured m → PromotesNoCaptured (at_local m var (assign_facts _rows.now.table written)) }
-    ensures conservative_join { (m : FlowModel) (written captured : List LocalId) → PromotesNoCaptured m → PromotesNoCaptured (conservative_of m written captured) }
+    ensures assign { (m : FlowModel) (var : LocalId) (written : Ty) → PromotesNoCaptured m
+        → PromotesNoCaptured (at_local m var (assign_facts _rows.now.table written)) }
+    ensures conservative_join { (m : FlowModel) (written captured : List LocalId) → PromotesNoCaptured m
+        → PromotesNoCaptured (conservative_of m written captured) }
     ensures join { (a b : FlowModel) → PromotesNoCaptured a → PromotesNoCaptured b → PromotesNoCaptured (join_of a b) }
     ensures restrict { (a b : FlowModel) (written captured : List LocalId) → PromotesNoCaptured (restrict_of _rows.now.table a b written captured) }
 {}
@@ -53,7 +56,9 @@ pub fn chains_descend(_rows: &Rows)
         → HasDescendingChains _rows.now.table (at_local m var (assign_facts _rows.now.table written)) }
     ensures conservative_join { (m : FlowModel) (written captured : List LocalId) → HasDescendingChains _rows.now.table m
         → HasDescendingChains _rows.now.table (conservative_of m written captured) }
-    ensures join { (a b : FlowModel) → HasDescendingChains _rows.now.table a → HasDescendingChains _rows.now.table b → HasDescendingChains _rows.now.table (join_of a b) }
-    ensures restrict { (a b : FlowModel) (written captured : List LocalId) → HaveSameScope a b → HasDescendingChains _rows.now.table a → HasDescendingChains _rows.now.table b
+    ensures join { (a b : FlowModel) → HasDescendingChains _rows.now.table a → HasDescendingChains _rows.now.table b
+        → HasDescendingChains _rows.now.table (join_of a b) }
+    ensures restrict { (a b : FlowModel) (written captured : List LocalId) → HaveSameScope a b → HasDescendingChains _rows.now.table a
+        → HasDescendingChains _rows.now.table b
         → HasDescendingChains _rows.now.table (restrict_of _rows.now.table a b written captured) }
 {}

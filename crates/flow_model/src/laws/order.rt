@@ -92,7 +92,8 @@ pub fn steps_say_more_or_less(_rows: &Rows)
     ensures promote { (m : FlowModel) (var : LocalId) (to : Ty) → Implies (at_local m var (promote_facts _rows.now.table to)) m }
     ensures non_null { (m : FlowModel) (var : LocalId) → Implies (at_local m var (non_null_facts _rows.now.table)) m }
     ensures append { (m : FlowModel) (var : LocalId) (to : Ty) → Implies (at_local m var (append_facts _rows.now.table to)) m }
-    ensures assign { (m : FlowModel) (var : LocalId) (written : Ty) → Implies (at_local m var (assign_facts _rows.now.table written)) (conservative_of m (var ∷ []) []) }
+    ensures assign { (m : FlowModel) (var : LocalId) (written : Ty)
+        → Implies (at_local m var (assign_facts _rows.now.table written)) (conservative_of m (var ∷ []) []) }
     ensures end { (m : FlowModel) (vars : List LocalId) → Implies m (end_of m vars) }
     ensures conservative_join { (m : FlowModel) (written captured : List LocalId) → Implies m (conservative_of m written captured) }
     ensures exit { (m k : FlowModel) → Implies (exit_of m) k }

@@ -76,5 +76,6 @@ pub fn steps_keep_the_scope(_rows: &Rows)
     ensures assign { (m : FlowModel) (var : LocalId) (written : Ty) → scope_of (at_local m var (assign_facts _rows.now.table written)) ≡ scope_of m }
     ensures conservative_join { (m : FlowModel) (written captured : List LocalId) → scope_of (conservative_of m written captured) ≡ scope_of m }
     ensures join { (m n : FlowModel) → HaveSameScope m n → scope_of (join_of m n) ≡ scope_of m }
-    ensures restrict { (m n : FlowModel) (written captured : List LocalId) → HaveSameScope m n → scope_of (restrict_of _rows.now.table m n written captured) ≡ scope_of m }
+    ensures restrict { (m n : FlowModel) (written captured : List LocalId) → HaveSameScope m n
+        → scope_of (restrict_of _rows.now.table m n written captured) ≡ scope_of m }
 {}

@@ -51,5 +51,6 @@ pub fn appended_types_are_proper_subtypes(_rows: &Rows)
     ensures promote { (to current : Ty) → All (IsProperSubtype _rows.now.table current) (tested_as _rows.now.table to current) }
     ensures non_null { (current : Ty) → All (IsProperSubtype _rows.now.table current) (without_null_of _rows.now.table current) }
     ensures append { (to current : Ty) → All (IsProperSubtype _rows.now.table current) (below_current _rows.now.table to current) }
-    ensures assign { (written current : Ty) (interest : List Ty) → All (IsProperSubtype _rows.now.table current) (appended_of _rows.now.table written current interest) }
+    ensures assign { (written current : Ty) (interest : List Ty)
+        → All (IsProperSubtype _rows.now.table current) (appended_of _rows.now.table written current interest) }
 {}
