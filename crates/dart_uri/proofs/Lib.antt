@@ -1,0 +1,3 @@
+pub mod TextLemmas
+pub mod PathLemmas
+pub mod SegmentLemmas
