@@ -1,0 +1,11 @@
+pub mod PathOrder
+pub mod Places
+pub mod Counting
+pub mod Walking
+pub mod Names
+pub mod Sorting
+pub mod Reaching
+pub mod Completeness
+pub mod Outcome
+pub mod Listing
+pub mod Meeting

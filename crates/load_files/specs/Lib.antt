@@ -1,0 +1,11 @@
+pub mod Paths
+pub mod Contents
+pub mod Tables
+pub mod Places
+pub mod Folders
+pub mod Visits
+pub mod Kept
+pub mod Counts
+pub mod Causes
+pub mod Loads
+pub mod Belonging
