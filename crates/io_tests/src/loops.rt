@@ -14,14 +14,12 @@ struct Echo;
 impl Answerer for Echo {
     type State = ();
 
-    ghost use Rattle.std.specs.Prelude.{false};
+    ghost use Rattle.std.specs.Prelude.{◌≡◌, false};
     ghost use Rattle.io_tests.specs.Echo.{echo_of};
 
     ghost state = { λ _. tt };
 
-    ghost reply = { λ _ _ event _. echo_of event };
-
-    ghost next = { λ state _ _ _. state };
+    ghost gives = { λ _ _ event _ reply _. reply ≡ echo_of event };
 
     ghost uses = { λ _. false };
 

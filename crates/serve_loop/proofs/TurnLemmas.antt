@@ -40,6 +40,14 @@ module _ (input : List ℕ) (lines : List (List ℕ)) (r : Reading) (s : Stands 
         ahead = omega (arith, behind-part part rest n, small);
       }
 
+-- the lines that were read stand in front of all
+pub front_is : (input : List ℕ) (lines : List (List ℕ)) (r : Reading) → Stands input lines r → (more : List (List ℕ)) × (lines ++ more ≡ input_lines r.budget input)
+front_is input lines r s =
+    elim (cases_Bool r.at_end) [
+      | inl past ↦ ([], append-nil lines ∙ (s.past_end past).0)
+      | inr o ↦ (lines_of (ends r (drop r.taken input)) (unread r (drop r.taken input)), sym (all_lines input lines r s o))
+    ]
+
 -- what a call that read from r to r' knows
 pub record Moves (input : List ℕ) (r r' : Reading) : Type 0 where
   pub budget : r'.budget ≡ r.budget

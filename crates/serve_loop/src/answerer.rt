@@ -7,6 +7,10 @@ use fault_io::Files;
 use std::alloc::{AllocError, Global};
 
 /// Answers events, one after another.
+///
+/// What it may answer is a relation between its state before an event, what the store of files tells,
+/// the reply and the state after: an answer that rests on what a store has, which doesn't tell it, is
+/// no function of the rest.
 pub trait Answerer {
     ghost use Rattle.fault_io.specs.Stored.{Stored};
     ghost use Rattle.serve_loop.specs.Event.{Event, event_of};
@@ -17,11 +21,8 @@ pub trait Answerer {
 
     ghost state: { Self → Self.State };
 
-    // the reply to an event, over what the store of files tells and by a mark that says whether the store failed
-    ghost reply: { Self.State → Option Stored → Event → Bool → Option (List ℕ) };
-
-    // the state after an event
-    ghost next: { Self.State → Option Stored → Event → Bool → Self.State };
+    // over what the store tells, in a state, to an event, and by a mark that says whether the store failed: a reply that may be given, and the state after it
+    ghost gives: { Option Stored → Self.State → Event → Bool → Option (List ℕ) → Self.State → Type 0 };
 
     // whether the store may be used in the answer to an event
     ghost uses: { Event → Bool };
@@ -34,8 +35,7 @@ pub trait Answerer {
         files: &mut F,
     ) -> Result<Option<Vec<u8>>, AllocError>
         ensures answered { IfOk result (λ bytes. (mark : Bool) × Tells (uses (event_of heard.entry)) mark (F.faults files.old) (F.faults files.new)
-            × (option_map (λ v. v.items) bytes ≡ reply (state self.old) (F.told files.old) (event_of heard.entry) mark)
-            × (state self.new ≡ next (state self.old) (F.told files.old) (event_of heard.entry) mark)) }
+            × gives (F.told files.old) (state self.old) (event_of heard.entry) mark (option_map (λ v. v.items) bytes) (state self.new)) }
         ensures unused { uses (event_of heard.entry) ≡ false → F.faults files.new ≡ F.faults files.old }
         ensures uncalled { uses (event_of heard.entry) ≡ false → (F.lists files.new ≡ F.lists files.old) × (F.reads files.new ≡ F.reads files.old) }
         ensures told { F.told files.new ≡ F.told files.old }

@@ -1,13 +1,13 @@
 //! The loop of a server.
 
-ghost use Rattle.std.specs.Prelude.{◌≡◌, ◌≢◌, Option, false, ℕ, ◌+◌, ◌-◌, ◌<◌, ◌≤◌, Bool, List, [], ◌∷◌, ◌++◌, length, take, drop, Ok, Err, Some, None, IfOk, IfErr, OnOk, OnErr, MatchResult, option_map, unwrap_or};
+ghost use Rattle.std.specs.Prelude.{◌≡◌, ◌≢◌, Option, false, ℕ, ◌+◌, ◌-◌, ◌<◌, ◌≤◌, Bool, List, [], ◌∷◌, ◌++◌, length, take, drop, Ok, Err, Some, None, IfOk, IfErr, OnOk, OnErr, MatchResult};
 ghost use Rattle.std.specs.Option.{ForSome};
 ghost use Rattle.fault_io.specs.Faults.{Rose};
-ghost use Rattle.fault_io.specs.Bytes.{and_then};
+ghost use Rattle.fault_io.specs.Lines.{input_lines};
 ghost use Rattle.serve_loop.specs.Event.{Event, event_of, event_shown};
 ghost use Rattle.serve_loop.specs.Turn.{Stands, Step, StopsAt};
-ghost use Rattle.serve_loop.specs.Parts.{PartOfReply};
-ghost use Rattle.serve_loop.specs.Marks.{Tells};
+ghost use Rattle.serve_loop.specs.Replies.{UseNothing};
+ghost use Rattle.serve_loop.specs.Parts.{IsReplied, PartOfReply};
 ghost use Rattle.serve_loop.specs.Served.{Served};
 
 use crate::answerer::Answerer;
@@ -59,11 +59,10 @@ fn reply_to<K: Sink, A: Answerer, F: Files>(
     heard: Heard<'_>,
     files: &mut F,
 ) -> Result<(), ServeEnd>
-    ensures ok { OnOk result ((mark : Bool) × Tells (A.uses (event_of heard.entry)) mark (F.faults files.old) (F.faults files.new)
-        × (K.written sink.new ≡ and_then (K.written sink.old) (unwrap_or (A.reply (A.state answerer.old) (F.told files.old) (event_of heard.entry) mark) []))
-        × (A.state answerer.new ≡ A.next (A.state answerer.old) (F.told files.old) (event_of heard.entry) mark)) }
-    ensures err { let event = event_of heard.entry in let reply = A.reply (A.state answerer.old) (F.told files.old) event in
-        IfErr result (λ end. PartOfReply end (A.uses event) reply (K.written sink.old) (K.written sink.new) (F.faults files.old) (F.faults files.new)) }
+    ensures ok { OnOk result (IsReplied (A.uses (event_of heard.entry)) (A.gives (F.told files.old) (A.state answerer.old) (event_of heard.entry))
+        (K.written sink.old) (K.written sink.new) (F.faults files.old) (F.faults files.new) (A.state answerer.new)) }
+    ensures err { IfErr result (PartOfReply (A.uses (event_of heard.entry)) (A.gives (F.told files.old) (A.state answerer.old) (event_of heard.entry))
+        (K.written sink.old) (K.written sink.new) (F.faults files.old) (F.faults files.new)) }
     ensures told { F.told files.new ≡ F.told files.old }
     ensures unused { A.uses (event_of heard.entry) ≡ false → F.faults files.new ≡ F.faults files.old }
     ensures uncalled { A.uses (event_of heard.entry) ≡ false → (F.lists files.new ≡ F.lists files.old) × (F.reads files.new ≡ F.reads files.old) }
@@ -98,7 +97,10 @@ pub fn serve<S: Source, K: Sink, A: Answerer, F: Files>(
     files: &mut F,
 ) -> ServeEnd
     ensures served { ForSome (S.left source.old) (λ input.
-        Served A.uses (λ s. A.reply s (F.told files.old)) (λ s. A.next s (F.told files.old)) line_limit input_limit (A.state answerer.old) input (K.written sink.old) (K.written sink.new) (S.left source.new) (F.faults files.old) (F.faults files.new) result) }
+        Served A.uses (A.gives (F.told files.old)) line_limit input_limit (A.state answerer.old) input
+        (K.written sink.old) (K.written sink.new) (S.left source.new) (F.faults files.old) (F.faults files.new) result) }
+    ensures quiet { ForSome (S.left source.old) (λ input. UseNothing A.uses line_limit (input_lines input_limit input)
+        → (F.lists files.new ≡ F.lists files.old) × (F.reads files.new ≡ F.reads files.old)) }
     ensures unused { ((event : Event) → A.uses event ≡ false) → F.faults files.new ≡ F.faults files.old }
     ensures uncalled { ((event : Event) → A.uses event ≡ false) → (F.lists files.new ≡ F.lists files.old) × (F.reads files.new ≡ F.reads files.old) }
     ensures told { F.told files.new ≡ F.told files.old }

@@ -9,7 +9,7 @@ invariant-loop-is_too_long g l =
     record {
       max : l.line.max ≡ l.line_limit;
       budget : l.line.budget ≡ l.input_limit;
-      progress : ForSome (g.S.Source.left l.fn.source) (λ input. Progress g.A.Answerer.uses (λ s. g.A.Answerer.reply s (g.F.Files.told l.fn.files)) (λ s. g.A.Answerer.next s (g.F.Files.told l.fn.files)) l.line_limit (g.A.Answerer.state l.fn.answerer) input (g.K.Sink.written l.fn.sink) (g.K.Sink.written l.sink) (g.A.Answerer.state l.answerer) l.line (g.S.Source.left l.source) (g.F.Files.faults l.fn.files) (g.F.Files.faults l.files));
+      progress : ForSome (g.S.Source.left l.fn.source) (λ input. Progress g.A.Answerer.uses (g.A.Answerer.gives (g.F.Files.told l.fn.files)) l.line_limit (g.A.Answerer.state l.fn.answerer) input (g.K.Sink.written l.fn.sink) (g.K.Sink.written l.sink) (g.A.Answerer.state l.answerer) l.line (g.S.Source.left l.source) (g.F.Files.faults l.fn.files) (g.F.Files.faults l.files) (g.F.Files.lists l.fn.files) (g.F.Files.lists l.files) (g.F.Files.reads l.fn.files) (g.F.Files.reads l.files));
       told : g.F.Files.told l.files ≡ g.F.Files.told l.fn.files;
       unused : ((event : Event) → g.A.Answerer.uses event ≡ false) → g.F.Files.faults l.files ≡ g.F.Files.faults l.fn.files;
       uncalled : ((event : Event) → g.A.Answerer.uses event ≡ false) → (g.F.Files.lists l.files ≡ g.F.Files.lists l.fn.files) × (g.F.Files.reads l.files ≡ g.F.Files.reads l.fn.files);
