@@ -1,147 +1,109 @@
 -- What all refusals, all replies and all updates have in common.
-use Rattle.std.proofs.Common.{◌≡◌, ◌≢◌, ℕ, List, [], Bool, true, false, if◌then◌else◌, Option, None, Some, Result, Ok, Err, IfSome, inl, inr, refl, sym, subst}
-use Rattle.std.specs.Option.{option_map_or}
+use Rattle.std.proofs.Common.{◌≡◌, ℕ, List, Bool, true, false, not, ◌&&◌, Option, None, Some, Result, Ok, Err, inl, inr, refl, sym, ap, subst, ◌∙◌}
+use Rattle.fault_io.specs.Stored.{Stored}
 use Rattle.serve_loop.specs.Event.{Event, line, too_long}
-use Rattle.proto_json.specs.Parameters.{has_paths, request_of}
-use Rattle.proto_json.specs.Requests.{Head, head_by, method_named, answer, answer_to, answer_to_head, answer_to_method, answer_to_params, answer_to_request}
+use Rattle.proto_json.specs.Requests.{head_by, answer}
 use Rattle.proto_json.specs.declared.code.Code.{Code}
-use Rattle.proto_json.specs.declared.code.Code.TheVariants.{InvalidFilePathFormat}
+use Rattle.proto_json.specs.declared.code.Code.TheVariants.{ServerError}
 use Rattle.proto_json.specs.declared.overlay.FileOverlay.{FileOverlay}
 use Rattle.proto_json.specs.declared.reply.ReplyBody.TheVariants.{Plain, Error}
 use Rattle.proto_json.specs.declared.request.Asked.{Asked}
 use Rattle.proto_json.specs.declared.request.Request.{Request}
 use Rattle.proto_json.specs.declared.request.Request.TheVariants.{SetRoots, Reanalyze, Update, GetErrors, GetWork}
 use Rattle.proto_json.specs.declared.request.RequestRefusal.{RequestRefusal}
-use Rattle.proto_json.specs.declared.request.RequestRefusal.TheVariants.{Refused, Memory}
+use Rattle.load_files.specs.Tables.{Table}
+use Rattle.load_files.specs.declared.refusal.LoadRefusal.{LoadRefusal}
+use Rattle.load_files.specs.declared.refusal.LoadRefusal.TheVariants.{FilesFault}
+use Rattle.load_files.specs.declared.roots.Roots.{Roots}
 use Rattle.overlays.specs.Applied.{applied}
 use Rattle.overlays.specs.Tables.{PathsAndTexts}
 use Rattle.overlays.specs.declared.refusal.OverlayRefusal.{OverlayRefusal}
-use Rattle.overlays.specs.declared.refusal.OverlayRefusal.TheVariants.{BadChange, TooLong}
-use Rattle.overlays.specs.declared.refusal.OverlayRefusal.TheVariants as overlay_refusal
-use Rattle.protocol_rules.proofs.AppliedLemmas.{applied-no_memory}
-use Rattle.protocol_rules.specs.Limits.{passes_limit}
+use Rattle.overlays.specs.declared.refusal.OverlayRefusal.TheVariants.{BadChange, TooLong, Memory}
+use Rattle.protocol_rules.proofs.Rows.{Row, refuses, takes, lists, reads, id_of, request_turn, line_row, event_row}
+use Rattle.protocol_rules.proofs.WithinLemmas.{within_by}
+use Rattle.std.proofs.lemmas.Bool.{false≢true}
+use Rattle.protocol_rules.specs.Answers.{uses_store, request_uses_store, reads_store}
+use Rattle.protocol_rules.specs.Limits.{passes_limit, AreWithin}
 use Rattle.protocol_rules.specs.Skipped.{is_skipped}
-use Rattle.protocol_rules.specs.Turns.{Turn, turn, refused_turn, overlays_turn, updated_turn, asked_turn, request_turn}
+use Rattle.protocol_rules.specs.State.{State}
+use Rattle.protocol_rules.specs.Turns.{Turn, IsTurn, IsLineTurn, IsRequestTurn, IsAskedTurn, IsReadTurn, refused_turn, overlays_turn, updated_turn, update_turn, read_turn, with_paths}
 use Rattle.protocol_rules.specs.Updates.{TakesNone, TakesAllOrNone}
-use Rattle.protocol_rules.specs.declared.contents.Contents.{Contents}
-
--- what holds of the turn of a refusal, and of the turn that takes overlays within the limits, holds of the turn that tests the limits
-overlays_turn-cases : (P : Turn → Type 0) (s : Contents) (id : List ℕ) (overlays : PathsAndTexts) (passes : Bool) → passes_limit overlays ≡ passes → ((code : Code) → P (refused_turn s id code)) → (passes_limit overlays ≡ false → P (record { id = id; body = Plain; after = record s { overlays = overlays } })) → P (overlays_turn s id overlays)
-overlays_turn-cases P s id overlays true is refused taken = rw is (refused _)
-overlays_turn-cases P s id overlays false is refused taken = rw is (taken is)
-
--- and of every turn of an update
-updated_turn-cases : (P : Turn → Type 0) (s : Contents) (id : List ℕ) (found : Result PathsAndTexts OverlayRefusal) → ((id : List ℕ) (code : Code) → P (refused_turn s id code)) → ((overlays : PathsAndTexts) → found ≡ Ok overlays → passes_limit overlays ≡ false → P (record { id = id; body = Plain; after = record s { overlays = overlays } })) → P (updated_turn s id found)
-updated_turn-cases P s id (Ok overlays) refused taken = overlays_turn-cases P s id overlays (passes_limit overlays) refl (refused id) (taken overlays refl)
-updated_turn-cases P s id (Err (BadChange path)) refused taken = refused id _
-updated_turn-cases P s id (Err (TooLong path bytes)) refused taken = refused id _
-updated_turn-cases P s id (Err overlay_refusal.Memory) refused taken = refused [] _
 
 -- a refusal leaves the state as it was
-abbrev Keeps : Contents → Turn → Type 0
-Keeps s t = (code : Code) → t.body ≡ Error code → t.after ≡ s
+row-keeps : (mark : Bool) (s : State) (id : List ℕ) (t : Turn) → Row mark s id t → (code : Code) → t.body ≡ Error code → t.after ≡ s
+row-keeps mark s id t (refuses code is marked) other body = ap (λ (v : Turn). v.after) is
+row-keeps mark s id t (takes overlays is within) code body = let plain = ap (λ (v : Turn). v.body) is in cc
+row-keeps mark s id t (lists rows is) code body = let listed = ap (λ (v : Turn). v.body) is in cc
+row-keeps mark s id t (reads roots snapshot is within) code body = let plain = ap (λ (v : Turn). v.body) is in cc
 
--- of a request
-asked_turn-keeps : (s : Contents) (id : List ℕ) (request : Request) → Keeps s (asked_turn s id request)
-asked_turn-keeps s id (SetRoots included excluded) = λ code is. refl
-asked_turn-keeps s id Reanalyze = λ code is. refl
-asked_turn-keeps s id (Update files) = updated_turn-cases (Keeps s) s id (applied files s.overlays) (λ id refusal code is. refl) (λ overlays found within code is. cc)
-asked_turn-keeps s id (GetErrors file) = λ code is. refl
-asked_turn-keeps s id GetWork = λ code is. refl
+pub turn-keeps : (s : State) (told : Option Stored) (mark : Bool) (event : Event) (t : Turn) → IsTurn told mark s event (Some t) → (code : Code) → t.body ≡ Error code → t.after ≡ s
+turn-keeps s told mark event t h = let row = event_row told mark s event t h in row-keeps mark s row.0 t row.1
 
--- of a line that is answered
-request_turn-keeps : (s : Contents) (found : Result Asked RequestRefusal) → Keeps s (request_turn s found)
-request_turn-keeps s (Ok asked) = asked_turn-keeps s asked.id asked.request
-request_turn-keeps s (Err (Refused id refusal)) = λ code is. refl
-request_turn-keeps s (Err Memory) = λ code is. refl
+-- a reply has its id
+row-id : (mark : Bool) (s : State) (id : List ℕ) (t : Turn) → Row mark s id t → t.id ≡ id
+row-id mark s id t (refuses code is marked) = ap (λ (v : Turn). v.id) is
+row-id mark s id t (takes overlays is within) = ap (λ (v : Turn). v.id) is
+row-id mark s id t (lists rows is) = ap (λ (v : Turn). v.id) is
+row-id mark s id t (reads roots snapshot is within) = ap (λ (v : Turn). v.id) is
 
--- what holds of a turn holds of it where the line isn't skipped
-unless_skipped : (P : Turn → Type 0) (skipped : Bool) (t : Turn) → P t → IfSome (if skipped then None else Some t) P
-unless_skipped P true t h = tt
-unless_skipped P false t h = h
+pub turn-id : (s : State) (bytes : List ℕ) (told : Option Stored) (mark : Bool) (t : Turn) → IsTurn told mark s (line bytes) (Some t) → t.id ≡ id_of (head_by bytes)
+turn-id s bytes told mark t h = row-id mark s (id_of (head_by bytes)) t (line_row told mark s bytes t h)
 
--- of any event
-pub turn-keeps : (s : Contents) (event : Event) → IfSome (turn s event) (Keeps s)
-turn-keeps s too_long = λ code is. refl
-turn-keeps s (line bytes) = unless_skipped (Keeps s) (is_skipped bytes) (request_turn s (answer bytes)) (request_turn-keeps s (answer bytes))
+-- files and texts stay within the limits
+row-within : (mark : Bool) (s : State) (id : List ℕ) (t : Turn) → AreWithin s.snapshot s.overlays → Row mark s id t → AreWithin t.after.snapshot t.after.overlays
+row-within mark s id t h (refuses code is marked) = subst (λ (v : Turn). AreWithin v.after.snapshot v.after.overlays) (sym is) h
+row-within mark s id t h (takes overlays is passes) = subst (λ (v : Turn). AreWithin v.after.snapshot v.after.overlays) (sym is) (within_by s.snapshot overlays passes)
+row-within mark s id t h (lists rows is) = subst (λ (v : Turn). AreWithin v.after.snapshot v.after.overlays) (sym is) h
+row-within mark s id t h (reads roots snapshot is within) = subst (λ (v : Turn). AreWithin v.after.snapshot v.after.overlays) (sym is) within
 
--- a reply has the id
-abbrev HasId : List ℕ → Turn → Type 0
-HasId id t = t.id ≡ id
+pub turn-within : (s : State) → AreWithin s.snapshot s.overlays → (told : Option Stored) (mark : Bool) (event : Event) (t : Turn) → IsTurn told mark s event (Some t) → AreWithin t.after.snapshot t.after.overlays
+turn-within s within told mark event t h = let row = event_row told mark s event t h in row-within mark s row.0 t within row.1
 
--- of an update; no definition answers want of memory
-updated_turn-id : (s : Contents) (id : List ℕ) (found : Result PathsAndTexts OverlayRefusal) → found ≢ Err overlay_refusal.Memory → HasId id (updated_turn s id found)
-updated_turn-id s id (Ok overlays) answered = overlays_turn-cases (HasId id) s id overlays (passes_limit overlays) refl (λ code. refl) (λ within. refl)
-updated_turn-id s id (Err (BadChange path)) answered = refl
-updated_turn-id s id (Err (TooLong path bytes)) answered = refl
-updated_turn-id s id (Err overlay_refusal.Memory) answered = absurd (answered refl)
+-- a fault of the store is told only where it failed
+row-told : (mark : Bool) (s : State) (id : List ℕ) (t : Turn) → Row mark s id t → t.body ≡ Error ServerError → mark ≡ true
+row-told mark s id t (refuses code is marked) body = let refused = ap (λ (v : Turn). v.body) is in marked cc
+row-told mark s id t (takes overlays is within) body = let plain = ap (λ (v : Turn). v.body) is in cc
+row-told mark s id t (lists rows is) body = let listed = ap (λ (v : Turn). v.body) is in cc
+row-told mark s id t (reads roots snapshot is within) body = let plain = ap (λ (v : Turn). v.body) is in cc
 
--- of a request
-asked_turn-id : (s : Contents) (id : List ℕ) (request : Request) → HasId id (asked_turn s id request)
-asked_turn-id s id (SetRoots included excluded) = refl
-asked_turn-id s id Reanalyze = refl
-asked_turn-id s id (Update files) = updated_turn-id s id (applied files s.overlays) (applied-no_memory files s.overlays)
-asked_turn-id s id (GetErrors file) = refl
-asked_turn-id s id GetWork = refl
+pub turn-told : (s : State) (told : Option Stored) (mark : Bool) (event : Event) (t : Turn) → IsTurn told mark s event (Some t) → t.body ≡ Error ServerError → mark ≡ true
+turn-told s told mark event t h = let row = event_row told mark s event t h in row-told mark s row.0 t row.1
 
--- by the format of its paths
-answer_to_request-id : (s : Contents) (id : List ℕ) (request : Request) → HasId id (request_turn s (answer_to_request id request))
-answer_to_request-id s id request =
-    elim (has_paths request) as (λ has. HasId id (request_turn s (if has then Ok (record { id = id; request = request }) else Err (Refused id InvalidFilePathFormat))))
-    [ true ↦ asked_turn-id s id request | false ↦ refl ]
+-- and where it failed it is told
+read-came : (told : Option Stored) (s : State) (id : List ℕ) (roots : Roots) (t : Turn) → IsReadTurn told true s id roots t → t.body ≡ Error ServerError
+read-came told s id roots t h = ap (λ (v : Turn). v.body) (h.turn ∙ ap (λ (found : Result Table LoadRefusal). read_turn s id roots found) (h.reading.failed refl))
 
--- by its parameters
-answer_to_params-id : (s : Contents) (id : List ℕ) (request : Option Request) → HasId id (request_turn s (answer_to_params id request))
-answer_to_params-id s id None = refl
-answer_to_params-id s id (Some request) = answer_to_request-id s id request
+asked-came : (told : Option Stored) (s : State) (id : List ℕ) (request : Request) (t : Turn) → reads_store request ≡ true → IsAskedTurn told true s id request t → t.body ≡ Error ServerError
+asked-came told s id (SetRoots included excluded) t uses h = read-came told s id (with_paths s.roots included excluded) t h
+asked-came told s id Reanalyze t uses h = read-came told s id s.roots t h
+asked-came told s id (Update files) t uses h = absurd (false≢true uses)
+asked-came told s id (GetErrors file) t uses h = absurd (false≢true uses)
+asked-came told s id GetWork t uses h = absurd (false≢true uses)
 
--- by its method
-answer_to_head-id : (s : Contents) (h : Head) → HasId h.id (request_turn s (answer_to_head h))
-answer_to_head-id s h =
-    elim (method_named h.method) as (λ m. HasId h.id (request_turn s (answer_to_method h.id m h.params)))
-    [ None ↦ refl | Some m ↦ answer_to_params-id s h.id (request_of m h.params) ]
+request-came : (told : Option Stored) (s : State) (request : Result Asked RequestRefusal) (t : Turn) → request_uses_store request ≡ true → IsRequestTurn told true s request t → t.body ≡ Error ServerError
+request-came told s (Err refusal) t uses h = absurd (false≢true uses)
+request-came told s (Ok asked) t uses h = asked-came told s asked.id asked.request t uses h
 
--- or it is empty
-answer_to-id : (s : Contents) (head : Option Head) → HasId (option_map_or (λ h. h.id) head []) (request_turn s (answer_to head))
-answer_to-id s None = refl
-answer_to-id s (Some h) = answer_to_head-id s h
+line-came : (told : Option Stored) (s : State) (skipped : Bool) (request : Result Asked RequestRefusal) (t : Turn) → (not skipped && request_uses_store request) ≡ true → IsLineTurn told true s skipped request (Some t) → t.body ≡ Error ServerError
+line-came told s true request t uses h = absurd h
+line-came told s false request t uses h = request-came told s request t uses h
 
--- of the reply to a line
-pub turn-id : (s : Contents) (bytes : List ℕ) → IfSome (turn s (line bytes)) (HasId (option_map_or (λ h. h.id) (head_by bytes) []))
-turn-id s bytes = unless_skipped (HasId (option_map_or (λ h. h.id) (head_by bytes) [])) (is_skipped bytes) (request_turn s (answer bytes)) (answer_to-id s (head_by bytes))
+pub turn-came : (s : State) (told : Option Stored) (event : Event) (t : Turn) → uses_store event ≡ true → IsTurn told true s event (Some t) → t.body ≡ Error ServerError
+turn-came s told too_long t uses h = absurd (false≢true uses)
+turn-came s told (line bytes) t uses h = line-came told s (is_skipped bytes) (answer bytes) t uses h
 
 -- an update takes all its files, or none
-update_turn-takes : (s : Contents) (id : List ℕ) (files : List FileOverlay) → TakesAllOrNone s files (asked_turn s id (Update files))
-update_turn-takes s id files =
-    updated_turn-cases (TakesAllOrNone s files) s id (applied files s.overlays)
-    (λ id refusal. let none : TakesNone s (refused_turn s id refusal) = record { code = refusal; refused = refl; kept = refl } in inr none)
-    (λ overlays found inside. inl (record { done = refl; overlays = found; within = inside }))
+overlays_turn-takes : (s : State) (id : List ℕ) (files : List FileOverlay) (overlays : PathsAndTexts) (passes : Bool) → applied files s.overlays ≡ Ok overlays → passes_limit s.snapshot overlays ≡ passes → TakesAllOrNone s files (overlays_turn s id overlays)
+overlays_turn-takes s id files overlays true found is = rw is (inr (record { code = _; refused = refl; kept = refl }))
+overlays_turn-takes s id files overlays false found is = rw is (inl (record { done = refl; overlays = found; within = is; rest = refl }))
 
--- the line of an update
-pub turn-takes : (s : Contents) (bytes id : List ℕ) (files : List FileOverlay) → answer bytes ≡ Ok (record { id = id; request = Update files }) → IfSome (turn s (line bytes)) (TakesAllOrNone s files)
-turn-takes s bytes id files is =
-    unless_skipped (TakesAllOrNone s files) (is_skipped bytes) (request_turn s (answer bytes))
-    (subst (λ (found : Result Asked RequestRefusal). TakesAllOrNone s files (request_turn s found)) (sym is) (update_turn-takes s id files))
+updated_turn-takes : (s : State) (id : List ℕ) (files : List FileOverlay) (found : Result PathsAndTexts OverlayRefusal) → applied files s.overlays ≡ found → TakesAllOrNone s files (updated_turn s id found)
+updated_turn-takes s id files (Ok overlays) is = overlays_turn-takes s id files overlays (passes_limit s.snapshot overlays) is refl
+updated_turn-takes s id files (Err (BadChange path)) is = inr (record { code = _; refused = refl; kept = refl })
+updated_turn-takes s id files (Err (TooLong path bytes)) is = inr (record { code = _; refused = refl; kept = refl })
+updated_turn-takes s id files (Err Memory) is = inr (record { code = _; refused = refl; kept = refl })
 
--- the texts are within the limits
-abbrev IsWithin : Turn → Type 0
-IsWithin t = passes_limit t.after.overlays ≡ false
-
--- after a request
-asked_turn-within : (s : Contents) (id : List ℕ) (request : Request) → passes_limit s.overlays ≡ false → IsWithin (asked_turn s id request)
-asked_turn-within s id (SetRoots included excluded) h = h
-asked_turn-within s id Reanalyze h = h
-asked_turn-within s id (Update files) h = updated_turn-cases IsWithin s id (applied files s.overlays) (λ id refusal. h) (λ overlays found within. within)
-asked_turn-within s id (GetErrors file) h = h
-asked_turn-within s id GetWork h = h
-
--- after a line that is answered
-request_turn-within : (s : Contents) (found : Result Asked RequestRefusal) → passes_limit s.overlays ≡ false → IsWithin (request_turn s found)
-request_turn-within s (Ok asked) h = asked_turn-within s asked.id asked.request h
-request_turn-within s (Err (Refused id refusal)) h = h
-request_turn-within s (Err Memory) h = h
-
--- after any event
-pub turn-within : (s : Contents) → passes_limit s.overlays ≡ false → (event : Event) → IfSome (turn s event) IsWithin
-turn-within s h too_long = h
-turn-within s h (line bytes) = unless_skipped IsWithin (is_skipped bytes) (request_turn s (answer bytes)) (request_turn-within s (answer bytes) h)
+pub turn-takes : (s : State) (bytes : List ℕ) (told : Option Stored) (mark : Bool) (id : List ℕ) (files : List FileOverlay) (t : Turn) → answer bytes ≡ Ok (record { id = id; request = Update files }) → IsTurn told mark s (line bytes) (Some t) → TakesAllOrNone s files t
+turn-takes s bytes told mark id files t is h =
+    let turn = subst (λ (found : Result Asked RequestRefusal). IsRequestTurn told mark s found t) is (request_turn told mark s (is_skipped bytes) (answer bytes) t h) in
+    subst (TakesAllOrNone s files) (sym turn) (updated_turn-takes s id files (applied files s.overlays) refl)

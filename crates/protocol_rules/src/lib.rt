@@ -1,22 +1,26 @@
 //! The states of a server and its replies: the protocol's rules as definitions.
 //!
-//! `turn` in `specs/Turns.antt` states, for a state and an event, the reply and the state after it,
-//! one row for each request and refusal; `reply_to` and `state_after` are read off it. A state has
-//! the texts that the client has given, and nothing that was computed from them: a reply is a
-//! function of the texts then current. The crate has these definitions, their laws, the type of a
-//! state and the tests of lines and limits (`specs/Skipped.antt`, `specs/Limits.antt`); the server
-//! above proves its sessions against it.
+//! `IsTurn` in `specs/Turns.antt` states, for a state and an event, the reply and the state after it,
+//! one row for each request and refusal. A row is an equation, but for the reading of roots, which
+//! rests on the store of files: there `IsReading` in `specs/Reading.antt` says what it may come to. A
+//! state has the roots, what the store had there and the texts that the client has given, and nothing
+//! that was computed from them: `diagnostics_of` in `specs/Files.antt` states the diagnostics of a file
+//! as a function of the state. The crate has these definitions, their laws, the type of a state
+//! (`Contents`) and the tests of lines and limits; sessions above are proved against it.
 #![tactic(auto)]
 
 mod contents;
+mod files;
 mod laws;
 mod limits;
 mod skipped;
 
 pub use contents::Contents;
+pub use files::{CurrentFile, empty_text, is_library};
 pub use laws::{
-    a_refusal_changes_nothing, a_reply_repeats_the_id, an_update_is_taken_whole_or_not_at_all,
-    texts_keep_within_the_limits, want_of_memory_is_no_answer,
+    a_fault_of_the_store_is_told_where_it_came, a_refusal_changes_nothing, a_reply_repeats_the_id,
+    a_turn_is_settled, an_update_is_taken_whole_or_not_at_all, contents_keep_within_the_limits,
+    want_of_memory_is_no_answer,
 };
-pub use limits::{MAX_BYTES, MAX_PATHS, passes_limit};
+pub use limits::passes_limit;
 pub use skipped::is_skipped;
