@@ -8,8 +8,8 @@ use Rattle.proto_json.specs.declared.reply.ErrorRow.{ErrorRow}
 use Rattle.core_machine.specs.State.{Outcome, Went, Done as Ended, Wrong, run_of}
 use Rattle.dart_server.specs.declared.status.Status.{Status}
 use Rattle.dart_server.specs.declared.status.Status.TheVariants.{Done, Errors, Refused, Threw, Memory, StepsSpent, ReadFault, WriteFault, FilesFault, InputSpent}
-use Rattle.protocol_rules.specs.Turns.{is_library}
-use Rattle.protocol_rules.specs.declared.limits.TheConstants.{MAX_BYTES}
+use Rattle.load_files.specs.Paths.{is_library}
+use Rattle.load_files.specs.declared.loading.TheConstants.{MAX_BYTES}
 use Rattle.dart_server.specs.Run.{library_of, rows_of_file, Prints, RowsGive, BytesGive, RunGives, Writes, status_after, RunOutput}
 
 -- the statuses of whole outputs

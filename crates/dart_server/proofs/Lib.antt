@@ -1,4 +1,3 @@
-pub mod AnsweredLemmas
 pub mod WritesLemmas
 pub mod RunLemmas
 pub mod ProgramLemmas

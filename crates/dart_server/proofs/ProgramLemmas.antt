@@ -23,7 +23,8 @@ use Rattle.std.proofs.Math.Dec.{eqb-suc-zero}
 use Rattle.std.proofs.lemmas.Bool.{true≢false}
 use Rattle.dart_server.specs.declared.status.Status.{Status}
 use Rattle.dart_server.specs.declared.status.Status.TheVariants.{Errors}
-use Rattle.dart_server.specs.Run.{Says, no_text, rows_of_file, Prints, ProgramGives, RowsGive}
+use Rattle.protocol_rules.specs.Files.{no_text}
+use Rattle.dart_server.specs.Run.{Says, rows_of_file, Prints, ProgramGives, RowsGive}
 use Rattle.dart_server.proofs.RunLemmas.{IsSound}
 
 -- where nothing is reported, nothing is wrong

@@ -1,5 +1,4 @@
 pub mod Codes
-pub mod Said
 pub mod Words
 pub mod Lent
 pub mod Run

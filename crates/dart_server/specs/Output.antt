@@ -4,11 +4,15 @@ use Rattle.std.specs.Option.{ForSome}
 use Rattle.fault_io.specs.Bytes.{and_then}
 use Rattle.fault_io.specs.Faults.{Rose, one_more}
 use Rattle.fault_io.specs.Stored.{Stored}
+use Rattle.fault_io.specs.Lines.{input_lines}
+use Rattle.load_files.specs.Paths.{is_library}
+use Rattle.serve_loop.specs.Replies.{UseNothing}
 use Rattle.serve_loop.specs.Served.{Served}
 use Rattle.proto_json.specs.declared.request.TheConstants.{MAX_LINE}
 use Rattle.serve_loop.specs.declared.end.ServeEnd.{ServeEnd}
 use Rattle.serve_loop.specs.declared.end.ServeEnd.TheVariants as End
-use Rattle.protocol_rules.specs.Turns.{at_start, is_library, reply_to, state_after}
+use Rattle.protocol_rules.specs.Answers.{uses_store, MayAnswer}
+use Rattle.protocol_rules.specs.State.{at_start}
 use Rattle.dart_server.specs.Words.{Command, Serve, Run, Refused as NoCommand, command_of}
 use Rattle.dart_server.specs.Run.{RunOutput}
 use Rattle.dart_server.specs.declared.status.Status.{Status}
@@ -40,12 +44,13 @@ CountsShortage End.ReadFault shortages shortages' = shortages' ≡ shortages
 CountsShortage End.WriteFault shortages shortages' = shortages' ≡ shortages
 CountsShortage End.Memory shortages shortages' = shortages' ≡ shortages
 
--- Under `serve`: the replies to the lines of the input, over the texts then current, as far as the end of serving says.
-pub record ServeOutput (told : Option Stored) (input : List ℕ) (old new left : Option (List ℕ)) (faults faults' shortages shortages' : ℕ) (status : Status) : Type 0 where
+-- Under `serve`: the replies to the lines of the input, each over the contents then current, as far as the end of serving says; where no line asks for the store it isn't called.
+pub record ServeOutput (told : Option Stored) (input : List ℕ) (old new left : Option (List ℕ)) (faults faults' lists lists' reads reads' shortages shortages' : ℕ) (status : Status) : Type 0 where
   pub end : ServeEnd
   pub status_is : status ≡ status_for end
   pub counts : CountsShortage end shortages shortages'
-  pub served : Served (λ _. false) (λ s. reply_to s told) (λ s. state_after s told) MAX_LINE input_limit at_start input old new left faults faults' end
+  pub served : Served uses_store (MayAnswer told) MAX_LINE input_limit (at_start []) input old new left faults faults' end
+  pub quiet : UseNothing uses_store MAX_LINE (input_lines input_limit input) → (lists' ≡ lists) × (reads' ≡ reads)
 
 -- a front of the usage line that isn't all of it
 abbrev pub PartOfUsage : Option (List ℕ) → Option (List ℕ) → Type 0
@@ -83,15 +88,14 @@ MayEnd NoCommand Memory = Unit {0}
 MayEnd NoCommand WriteFault = Unit {0}
 MayEnd _ _ = ⊥
 
--- How often the store is asked for a file: once for a run of a library, and else never.
+-- How often the store is asked for a file, but under `serve`: once for a run of a library, and else never.
 pub record Reads (words : List (List ℕ)) (reads reads' : ℕ) : Type 0 where
-  pub serves : command_of words ≡ Serve → reads' ≡ reads
   pub runs : (file : List ℕ) (steps : ℕ) → command_of words ≡ Run file steps → is_library file ≡ true → reads' ≡ one_more reads
   pub passes : (file : List ℕ) (steps : ℕ) → command_of words ≡ Run file steps → is_library file ≡ false → reads' ≡ reads
   pub refuses : command_of words ≡ NoCommand → reads' ≡ reads
 
 -- What the program writes, and its status: one field for each command.
-pub record Output (words : List (List ℕ)) (told : Option Stored) (from : Option (List ℕ)) (old new left : Option (List ℕ)) (faults faults' shortages shortages' : ℕ) (status : Status) : Type 0 where
-  pub serves : command_of words ≡ Serve → ForSome from (λ input. ServeOutput told input old new left faults faults' shortages shortages' status)
+pub record Output (words : List (List ℕ)) (told : Option Stored) (from : Option (List ℕ)) (old new left : Option (List ℕ)) (faults faults' lists lists' reads reads' shortages shortages' : ℕ) (status : Status) : Type 0 where
+  pub serves : command_of words ≡ Serve → ForSome from (λ input. ServeOutput told input old new left faults faults' lists lists' reads reads' shortages shortages' status)
   pub runs : (file : List ℕ) (steps : ℕ) → command_of words ≡ Run file steps → RunOutput file steps told old new status
   pub refuses : command_of words ≡ NoCommand → RefusedOutput status old new

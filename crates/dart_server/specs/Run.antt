@@ -9,8 +9,6 @@ use Rattle.fault_io.specs.Stored.{Stored, bytes_at}
 use Rattle.fault_io.specs.declared.traits.WriteRefusal.{WriteRefusal}
 use Rattle.fault_io.specs.declared.traits.WriteRefusal.TheVariants as Cut
 use Rattle.proto_json.specs.declared.reply.ErrorRow.{ErrorRow}
-use Rattle.judgement.specs.declared.Fault.{Fault}
-use Rattle.judgement.specs.declared.DiagnosticCode.{DiagnosticCode}
 use Rattle.judgement.specs.declared.DiagnosticCode.TheVariants.{FileNotUtf8, ProfileFileLength}
 use Rattle.small_tree.specs.Tree.{Tree}
 use Rattle.check_library.specs.Grammar.{tree_of}
@@ -20,8 +18,9 @@ use Rattle.core_ir.specs.Program.{Program}
 use Rattle.core_machine.specs.Steps.{Kind}
 use Rattle.core_machine.specs.State.{Outcome, Went, Done as Ended, Wrong, run_of}
 use Rattle.elaborate.specs.Elaborated.{IsElaborationOf}
-use Rattle.protocol_rules.specs.Turns.{is_library}
-use Rattle.protocol_rules.specs.declared.limits.TheConstants.{MAX_BYTES}
+use Rattle.load_files.specs.Paths.{is_library}
+use Rattle.load_files.specs.declared.loading.TheConstants.{MAX_BYTES}
+use Rattle.protocol_rules.specs.Files.{no_text}
 use Rattle.dart_server.specs.declared.status.Status.{Status}
 use Rattle.dart_server.specs.declared.status.Status.TheVariants.{Done, Errors, Refused, Memory, StepsSpent, WriteFault, FilesFault}
 
@@ -40,10 +39,6 @@ limit_line = codes "dart_serve: limit" ++ 10 ∷ []
 -- the last line of a run that hasn't ended within its steps
 abbrev pub steps_spent_line : List ℕ
 steps_spent_line = codes "steps spent" ++ 10 ∷ []
-
--- the one diagnostic of a file that holds no text, at the beginning of the file
-abbrev pub no_text : DiagnosticCode → Fault
-no_text code = record { span = record { start = 0; end = 0 }; code = code }
 
 -- the rows of a file: that its bytes aren't UTF-8, else that they are too many, else those of its text
 abbrev pub rows_of_file : (file bytes : List ℕ) → List ErrorRow

@@ -3,8 +3,8 @@
 use crate::program::dart_main;
 use crate::status::Status;
 use fault_io::{HostFiles, StdSink, StdSource};
+use load_files::MAX_BYTES;
 use plain_text::PlainText;
-use protocol_rules::MAX_BYTES;
 use std::alloc::{AllocError, Global};
 use std::env;
 use std::env::FillError;
@@ -57,7 +57,7 @@ fn status_on_host<R: Runtime + AllocGlobal>(rt: &R) -> Result<Status, AllocError
     let words = words_of(rt.alloc(), rt)?;
     let mut source = StdSource::new(rt.reader());
     let mut sink = StdSink::new(writer(rt));
-    let mut files = HostFiles::new(rt.clone()?, MAX_BYTES + 1);
+    let mut files = HostFiles::new(rt.clone()?, MAX_BYTES as usize + 1);
     Ok(dart_main(rt.alloc(), &words, &mut source, &mut sink, &mut files))
 }
 

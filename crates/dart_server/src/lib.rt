@@ -3,15 +3,13 @@
 //! `dart_main` is the program over any source, sink and store of files; its contract is the theorem
 //! of the program (`specs/Output.antt`). `on_host` hands it the standard streams, the file system
 //! and the words of the command line, and gives its exit code, so that a program is a `main` of one
-//! call. The crate stands on the loop, the protocol, the checker and the machine, and adds the words
-//! (`specs/Words.antt`), the session between loop and checker, and the run of a file between checker
-//! and machine (`specs/Run.antt`).
+//! call. The crate stands on the loop, the sessions, the checker and the machine, and adds the words
+//! (`specs/Words.antt`) and the run of a file between checker and machine (`specs/Run.antt`).
 #![tactic(auto)]
 
 mod host;
 mod program;
 mod run;
-mod session;
 mod status;
 mod words;
 

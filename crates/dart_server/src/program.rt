@@ -1,17 +1,19 @@
 //! The program over a source, a sink and a store of files.
 
-ghost use Rattle.std.specs.Prelude.{◌≡◌, ◌≢◌};
+ghost use Rattle.std.specs.Prelude.{◌≡◌, ◌≢◌, []};
 ghost use Rattle.std.specs.Option.{ForSome};
 ghost use Rattle.fault_io.specs.Faults.{Rose};
 ghost use Rattle.dart_server.specs.Words.{Serve, Refused, command_of};
 ghost use Rattle.dart_server.specs.Output.{Output, ServeOutput, RefusedOutput, MayEnd, Reads};
 
 use crate::run::run;
-use crate::session::Session;
 use crate::status::{Status, status_of};
 use crate::words::{Command, command_of};
+use analysis_store::Plain;
 use fault_io::{Files, Sink, Source, WriteRefusal, write_all_of};
+use load_files::Packages;
 use plain_text::PlainText;
+use request_core::Session;
 use serve_loop::serve;
 use std::alloc::Global;
 
@@ -38,6 +40,13 @@ fn refuse<K: Sink>(alloc: Global, sink: &mut K) -> Status
     }
 }
 
+/// No packages.
+fn no_packages(alloc: Global) -> Packages
+    ensures { result ≡ [] }
+{
+    Packages::from_vec(Vec::new(alloc))
+}
+
 /// Answers the lines of the source.
 fn serve_lines<S: Source, K: Sink, F: Files>(
     alloc: Global,
@@ -47,18 +56,17 @@ fn serve_lines<S: Source, K: Sink, F: Files>(
 ) -> Status
     ensures output { ForSome (S.left source.old) (λ input.
         ServeOutput (F.told files.old) input (K.written sink.old) (K.written sink.new) (S.left source.new)
-        (F.faults files.old) (F.faults files.new) (K.shortages sink.old) (K.shortages sink.new) result) }
+        (F.faults files.old) (F.faults files.new) (F.lists files.old) (F.lists files.new) (F.reads files.old) (F.reads files.new)
+        (K.shortages sink.old) (K.shortages sink.new) result) }
     ensures statuses { MayEnd Serve result }
     ensures read_fault { result ≡ Status.ReadFault → Rose (S.faults source.old) (S.faults source.new) }
     ensures no_read_fault { result ≢ Status.ReadFault → S.faults source.new ≡ S.faults source.old }
     ensures write_fault { result ≡ Status.WriteFault → Rose (K.faults sink.old) (K.faults sink.new) }
     ensures no_write_fault { result ≢ Status.WriteFault → K.faults sink.new ≡ K.faults sink.old }
-    ensures store { F.faults files.new ≡ F.faults files.old }
-    ensures unlisted { F.lists files.new ≡ F.lists files.old }
-    ensures not_read { F.reads files.new ≡ F.reads files.old }
     ensures told { F.told files.new ≡ F.told files.old }
 {
-    let mut session = Session::new(alloc);
+    let packages = no_packages(alloc);
+    let mut session = Session::new(alloc, packages, Plain::new(alloc));
     let end = serve(
         alloc,
         LINE_LIMIT,
@@ -76,14 +84,16 @@ fn serve_lines<S: Source, K: Sink, F: Files>(
 /// are refused by the usage line.
 ///
 /// `output` is the theorem of the program. Under `serve` what was written, for every input in
-/// whatever pieces, is the replies that the rules of the protocol define, and each reply to
+/// whatever pieces, is the replies that the rules of the protocol allow, and each reply to
 /// `analysis.getErrors` lists exactly the diagnostics that the rules of the language define, from
-/// nothing, for the text then current. Under `run` it is the diagnostics of the file, or where it
-/// has none, what its program prints, of which no number of steps goes wrong. The other clauses say
-/// when each fault comes: a count of faults rises, or stands at its end, exactly where the status
-/// says so; only `serve` reads the source, and only under `run` may the store of files fail. Under
-/// `serve` a reply is cut at the status of want of memory only where the sink's count of it rose.
-/// The store is called once for a run of a library, by `read`, and else never.
+/// nothing, for what the file then had: its overlay, or else what the store had there when the roots
+/// were last read. Under `run` it is the diagnostics of the file, or where it has none, what its
+/// program prints, of which no number of steps goes wrong. The other clauses say when each fault
+/// comes: the count of faults of the source or the sink rises, or stands at its end, exactly where the
+/// status says so; only `serve` reads the source. Under `serve` a reply is cut at the status of want of
+/// memory only where the sink's count of it rose. The store is called once for a run of a library, by
+/// `read`; under `serve` only for lines of `analysis.setAnalysisRoots` and `analysis.reanalyze`, whose
+/// replies say where it failed; and else never.
 pub fn dart_main<S: Source, K: Sink, F: Files>(
     alloc: Global,
     words: &[PlainText],
@@ -93,16 +103,17 @@ pub fn dart_main<S: Source, K: Sink, F: Files>(
 ) -> Status
     ensures output { Output words.now (F.told files.old)
         (S.left source.old) (K.written sink.old) (K.written sink.new) (S.left source.new)
-        (F.faults files.old) (F.faults files.new) (K.shortages sink.old) (K.shortages sink.new) result }
+        (F.faults files.old) (F.faults files.new) (F.lists files.old) (F.lists files.new) (F.reads files.old) (F.reads files.new)
+        (K.shortages sink.old) (K.shortages sink.new) result }
     ensures statuses { MayEnd (command_of words.now) result }
     ensures read_fault { result ≡ Status.ReadFault → Rose (S.faults source.old) (S.faults source.new) }
     ensures no_read_fault { result ≢ Status.ReadFault → S.faults source.new ≡ S.faults source.old }
     ensures write_fault { result ≡ Status.WriteFault → Rose (K.faults sink.old) (K.faults sink.new) }
     ensures no_write_fault { result ≢ Status.WriteFault → K.faults sink.new ≡ K.faults sink.old }
     ensures files_fault { result ≡ Status.FilesFault → Rose (F.faults files.old) (F.faults files.new) }
-    ensures no_files_fault { result ≢ Status.FilesFault → F.faults files.new ≡ F.faults files.old }
+    ensures no_files_fault { command_of words.now ≢ Serve → result ≢ Status.FilesFault → F.faults files.new ≡ F.faults files.old }
     ensures unread { command_of words.now ≢ Serve → source.new ≡ source.old }
-    ensures unlisted { F.lists files.new ≡ F.lists files.old }
+    ensures unlisted { command_of words.now ≢ Serve → F.lists files.new ≡ F.lists files.old }
     ensures reads { Reads words.now (F.reads files.old) (F.reads files.new) }
     ensures told { F.told files.new ≡ F.told files.old }
 {

@@ -3,7 +3,8 @@
 ghost use Rattle.std.specs.Prelude.{◌≡◌, ◌≢◌, ℕ, ◌<◌, true, false, nat_lt, List, [], ◌∷◌, ◌++◌, Err, IfOk, IfSome, OnOk, OnErr, length, take};
 ghost use Rattle.fault_io.specs.Bytes.{and_then};
 ghost use Rattle.fault_io.specs.Faults.{Rose, one_more};
-ghost use Rattle.protocol_rules.specs.Turns.{is_library};
+ghost use Rattle.load_files.specs.Paths.{is_library};
+ghost use Rattle.protocol_rules.specs.Files.{no_text};
 ghost use Rattle.check_library.specs.Checked.{IsFaultless};
 ghost use Rattle.check_library.specs.Diagnostics.{diagnostics};
 ghost use Rattle.diagnostics.specs.Rendering.{rows_of, lines_of_rows};
@@ -12,9 +13,8 @@ ghost use Rattle.core_machine.specs.Steps.{Kind};
 ghost use Rattle.core_machine.specs.State.{Wrong, run_of, step_of, told};
 ghost use Rattle.dart_server.specs.Words.{Run};
 ghost use Rattle.dart_server.specs.Output.{MayEnd};
-ghost use Rattle.dart_server.specs.Run.{no_library_line, rows_of_file, Prints, Says, RowsGive, BytesGive, Writes, Counts, status_after, no_text, RunOutput};
+ghost use Rattle.dart_server.specs.Run.{no_library_line, rows_of_file, Prints, Says, RowsGive, BytesGive, Writes, Counts, status_after, RunOutput};
 
-use crate::session::is_dart;
 use crate::status::Status;
 use check_library::{Checked, check};
 use core_check::{Accepted, accept, faults_are_clauses_that_fail};
@@ -26,7 +26,8 @@ use diagnostics::{lines_of, render};
 use elaborate::elaborate;
 use fault_io::{Files, FilesRefusal, Sink, WriteRefusal, write_all_of};
 use judgement::{DiagnosticCode, Fault};
-use protocol_rules::MAX_BYTES;
+use load_files::MAX_BYTES;
+use protocol_rules::{empty_text, is_library};
 use small_tree::Span;
 use std::alloc::{AllocError, Global};
 
@@ -70,18 +71,6 @@ fn report<K: Sink>(
     let rows = render(alloc, file, text, faults)?;
     let lines = lines_of(alloc, rows.as_slice())?;
     say(alloc, sink, lines.as_slice(), Status::Errors)
-}
-
-/// The empty text.
-#[tactic(auto, unfolding(dart_text::specs::Edits::short_text))]
-fn empty_text(alloc: Global) -> Result<Text, AllocError>
-    ensures { IfOk result (λ text. text ≡ []) }
-{
-    match Text::from_str(alloc, "") {
-        Ok(text) => Ok(text),
-        Err(TextRefusal::NotUtf8 | TextRefusal::TooLong { .. }) => unreachable!(),
-        Err(TextRefusal::Memory) => Err(AllocError),
-    }
 }
 
 /// Prints the line of a file that holds no text.
@@ -220,7 +209,7 @@ fn run_bytes<K: Sink>(
 fn is_past_limit(bytes: &[u8]) -> bool
     ensures { result ≡ nat_lt MAX_BYTES (length bytes.now) }
 {
-    bytes.len() > MAX_BYTES
+    bytes.len() as u64 > MAX_BYTES
 }
 
 /// Runs the program of a library, unless its bytes pass the limit on all texts.
@@ -271,7 +260,7 @@ pub fn run<K: Sink, F: Files>(
     ensures not_read { is_library file.now ≡ false → F.reads files.new ≡ F.reads files.old }
     ensures told { F.told files.new ≡ F.told files.old }
 {
-    if !is_dart(file) {
+    if !is_library(file) {
         return status_after(say(alloc, sink, NO_LIBRARY, Status::Refused));
     }
     match files.read(alloc, file) {

@@ -12,6 +12,7 @@ use std::test::Fail;
 
 mod faults;
 mod limits;
+mod roots;
 mod runs;
 mod words;
 

@@ -13,6 +13,8 @@ use std::test::Fail;
 // | `add PATH TEXT` | a text for a file |
 // | `edit PATH EDITS` | these edits of a file's text |
 // | `files FILES` | an update of these files |
+// | `roots PATHS` | these included paths, and none that is excluded |
+// | `again roots` | the files of the roots once more |
 // | `line TEXT` | nothing: the line is this text |
 const SESSIONS: &str =
     r#"-- Lines of 16,777,216 bytes and of one more: requests, and then blanks. A request for errors alone has 68
@@ -103,6 +105,7 @@ fn refused(reply: &str) -> Option<(&'static str, &'static str)> {
             "The change does not fit the overlay.",
         )),
         "not analyzed" => Some(("GET_ERRORS_INVALID_FILE", "The file is not analyzed.")),
+        "failed" => Some(("SERVER_ERROR", "The file store failed.")),
         _ => None,
     }
 }
@@ -142,6 +145,18 @@ fn reply_of(alloc: Global, reply: &str) -> Result<String, Fail> {
         return error(alloc, words, length.parse::<u32>()?, 0);
     }
     match reply {
+        "not UTF-8" => {
+            let words = ("file_not_utf8", "File not utf8.", "COMPILE_TIME_ERROR");
+            error(alloc, words, 0, 0)
+        }
+        "too long" => {
+            let words = (
+                "profile_file_length",
+                "Profile file length.",
+                "COMPILE_TIME_ERROR",
+            );
+            error(alloc, words, 0, 0)
+        }
         "nothing" => Ok(String::new(alloc)),
         "done" => Ok(String::from_str(alloc, "{\"id\":\"1\"}\n")?),
         "clean" => Ok(String::from_str(alloc, "{\"id\":\"1\",\"result\":{\"errors\":[]}}\n")?),
@@ -162,6 +177,10 @@ fn request_of(alloc: Global, word: &str, rest: &str) -> Result<String, Fail> {
     let request = match word {
         "line" => String::from_str(alloc, rest)?,
         "files" => update(alloc, rest)?,
+        "roots" => format!(in alloc;
+            "{{\"id\":\"1\",\"method\":\"analysis.setAnalysisRoots\",\"params\":{{\"included\":[{rest}],\"excluded\":[]}}}}"
+        )?,
+        "again" => String::from_str(alloc, r#"{"id":"1","method":"analysis.reanalyze"}"#)?,
         "get" => format!(in alloc;
             "{{\"id\":\"1\",\"method\":\"analysis.getErrors\",\"params\":{{\"file\":\"{path}\"}}}}{behind}"
         )?,
@@ -184,9 +203,11 @@ fn request_of(alloc: Global, word: &str, rest: &str) -> Result<String, Fail> {
 
 /// What is sent in a session, and what is to come back.
 #[derive(Drop)]
-struct Session {
-    input: Vec<u8>,
-    output: Vec<u8>,
+pub(super) struct Session {
+    /// The lines of the requests.
+    pub(super) input: Vec<u8>,
+    /// The replies to them.
+    pub(super) output: Vec<u8>,
 }
 
 impl Session {
@@ -204,7 +225,7 @@ impl Session {
 }
 
 /// The session of a text.
-fn session_in(alloc: Global, text: &str) -> Result<Session, Fail> {
+pub(super) fn session_in(alloc: Global, text: &str) -> Result<Session, Fail> {
     let mut session = Session {
         input: Vec::new(alloc),
         output: Vec::new(alloc),
