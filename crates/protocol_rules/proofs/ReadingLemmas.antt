@@ -34,24 +34,30 @@ module _ (told : Option Stored) (roots : Roots) (overlays : PathsAndTexts) (old 
   }
 
   pub reading_is : (r : Result Table LoadRefusal) → r ≢ Err Memory → ForSome told (λ stored. Loads r (loaded stored roots (kept_in overlays))) → (r ≡ Err FilesFault → Rose old new) → (r ≢ Err FilesFault → new ≡ old) → IfErr r PassesItsLimit → IfOk r (λ snapshot. AreWithin snapshot overlays) → (mark : Bool) × Tells true mark old new × IsReading told mark roots overlays r
-  reading_is (Ok snapshot) answered exact rose stands passed within =
-      (false, stands (λ is. cc), record {
-        failed = λ z. absurd (false≢true z);
-        marked = λ is. cc;
-        exact = λ _ stored is. sym (exact stored is);
-        within = within;
-        passed = tt;
-        answered = λ is. cc;
-      })
-  reading_is (Err FilesFault) answered exact rose stands passed within =
-      (true, (refl, rose refl), record {
-        failed = λ _. refl;
-        marked = λ _. refl;
-        exact = λ no. absurd (no refl);
-        within = tt;
-        passed = passed;
-        answered = λ is. cc;
-      })
+  reading_is (Ok snapshot) answered exact rose stands passed within = (
+    false,
+    stands (λ is. cc),
+    record {
+      failed = λ z. absurd (false≢true z);
+      marked = λ is. cc;
+      exact = λ _ stored is. sym (exact stored is);
+      within = within;
+      passed = tt;
+      answered = λ is. cc;
+    },
+  )
+  reading_is (Err FilesFault) answered exact rose stands passed within = (
+    true,
+    (refl, rose refl),
+    record {
+      failed = λ _. refl;
+      marked = λ _. refl;
+      exact = λ no. absurd (no refl);
+      within = tt;
+      passed = passed;
+      answered = λ is. cc;
+    },
+  )
   reading_is (Err (TooManyFiles count)) answered exact rose stands passed within = (false, stands (λ is. cc), limit_met (TooManyFiles count) (λ is. cc) (λ is. cc) exact passed)
   reading_is (Err (TooDeep depth)) answered exact rose stands passed within = (false, stands (λ is. cc), limit_met (TooDeep depth) (λ is. cc) (λ is. cc) exact passed)
   reading_is (Err (TooMuch bytes)) answered exact rose stands passed within = (false, stands (λ is. cc), limit_met (TooMuch bytes) (λ is. cc) (λ is. cc) exact passed)

@@ -8,12 +8,12 @@ use Rattle.proto_json.specs.Requests.{Head, head_by, method_named, answer, answe
 use Rattle.proto_json.specs.declared.code.Code.{Code}
 use Rattle.proto_json.specs.declared.code.Code.TheVariants.{InvalidRequest, UnknownRequest, InvalidParameter, InvalidFilePathFormat, InvalidOverlayChange, GetErrorsInvalidFile, ProfileLimit, ServerError}
 use Rattle.proto_json.specs.declared.reply.ErrorRow.{ErrorRow}
-use Rattle.proto_json.specs.declared.reply.ReplyBody.TheVariants.{Plain, Errors, Error}
+use Rattle.proto_json.specs.declared.reply.ReplyBody.TheVariants.{Plain, Errors}
 use Rattle.proto_json.specs.declared.request.Asked.{Asked}
 use Rattle.proto_json.specs.declared.request.Request.{Request}
 use Rattle.proto_json.specs.declared.request.Request.TheVariants.{SetRoots, Reanalyze, Update, GetErrors, GetWork}
 use Rattle.proto_json.specs.declared.request.RequestRefusal.{RequestRefusal}
-use Rattle.proto_json.specs.declared.request.RequestRefusal.TheVariants.{Refused, Memory}
+use Rattle.proto_json.specs.declared.request.RequestRefusal.TheVariants.{Refused}
 use Rattle.load_files.specs.Tables.{Table}
 use Rattle.load_files.specs.declared.refusal.LoadRefusal.{LoadRefusal}
 use Rattle.load_files.specs.declared.refusal.LoadRefusal.TheVariants as load_refusal
@@ -30,7 +30,7 @@ use Rattle.protocol_rules.specs.Limits.{passes_limit, AreWithin}
 use Rattle.protocol_rules.specs.Reading.{IsReading}
 use Rattle.protocol_rules.specs.Skipped.{is_skipped}
 use Rattle.protocol_rules.specs.State.{State}
-use Rattle.protocol_rules.specs.Turns.{Turn, IsTurn, IsLineTurn, IsRequestTurn, IsAskedTurn, IsReadTurn, refused_turn, invalid_turn, overlays_turn, updated_turn, update_turn, errors_turn, read_turn, with_paths}
+use Rattle.protocol_rules.specs.Turns.{Turn, IsTurn, IsLineTurn, IsRequestTurn, IsAskedTurn, refused_turn, invalid_turn, overlays_turn, updated_turn, errors_turn, read_turn, with_paths}
 
 -- a turn with this id refuses, takes overlays or roots within the limits, or lists errors
 pub data Row (mark : Bool) (s : State) (id : List ℕ) (t : Turn) : Type 0 where

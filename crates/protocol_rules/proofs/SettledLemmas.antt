@@ -1,5 +1,5 @@
 -- There is one turn at most.
-use Rattle.std.proofs.Common.{◌≡◌, ◌≢◌, ℕ, List, Bool, true, false, not, ◌&&◌, Option, None, Some, Result, Ok, Err, refl, sym, ap, ◌∙◌}
+use Rattle.std.proofs.Common.{◌≡◌, ℕ, List, Bool, true, false, not, ◌&&◌, Option, None, Some, Result, Ok, Err, refl, sym, ap, ◌∙◌}
 use Rattle.std.proofs.lemmas.Bool.{true≢false, false≢true}
 use Rattle.fault_io.specs.Stored.{Stored}
 use Rattle.serve_loop.specs.Event.{Event, line, too_long}
@@ -11,9 +11,7 @@ use Rattle.proto_json.specs.declared.request.RequestRefusal.{RequestRefusal}
 use Rattle.proto_json.specs.declared.request.RequestRefusal.TheVariants.{Refused, Memory}
 use Rattle.load_files.specs.Tables.{Table}
 use Rattle.load_files.specs.declared.refusal.LoadRefusal.{LoadRefusal}
-use Rattle.load_files.specs.declared.refusal.LoadRefusal.TheVariants.{FilesFault}
 use Rattle.load_files.specs.declared.roots.Roots.{Roots}
-use Rattle.overlays.specs.Tables.{PathsAndTexts}
 use Rattle.protocol_rules.specs.Answers.{uses_store, request_uses_store, reads_store}
 use Rattle.protocol_rules.specs.Reading.{IsReading}
 use Rattle.protocol_rules.specs.Skipped.{is_skipped}

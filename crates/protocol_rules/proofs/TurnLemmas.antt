@@ -1,19 +1,18 @@
 -- What all refusals, all replies and all updates have in common.
-use Rattle.std.proofs.Common.{◌≡◌, ℕ, List, Bool, true, false, not, ◌&&◌, Option, None, Some, Result, Ok, Err, inl, inr, refl, sym, ap, subst, ◌∙◌}
+use Rattle.std.proofs.Common.{◌≡◌, ℕ, List, Bool, true, false, not, ◌&&◌, Option, Some, Result, Ok, Err, inl, inr, refl, sym, ap, subst, ◌∙◌}
 use Rattle.fault_io.specs.Stored.{Stored}
 use Rattle.serve_loop.specs.Event.{Event, line, too_long}
 use Rattle.proto_json.specs.Requests.{head_by, answer}
 use Rattle.proto_json.specs.declared.code.Code.{Code}
 use Rattle.proto_json.specs.declared.code.Code.TheVariants.{ServerError}
 use Rattle.proto_json.specs.declared.overlay.FileOverlay.{FileOverlay}
-use Rattle.proto_json.specs.declared.reply.ReplyBody.TheVariants.{Plain, Error}
+use Rattle.proto_json.specs.declared.reply.ReplyBody.TheVariants.{Error}
 use Rattle.proto_json.specs.declared.request.Asked.{Asked}
 use Rattle.proto_json.specs.declared.request.Request.{Request}
 use Rattle.proto_json.specs.declared.request.Request.TheVariants.{SetRoots, Reanalyze, Update, GetErrors, GetWork}
 use Rattle.proto_json.specs.declared.request.RequestRefusal.{RequestRefusal}
 use Rattle.load_files.specs.Tables.{Table}
 use Rattle.load_files.specs.declared.refusal.LoadRefusal.{LoadRefusal}
-use Rattle.load_files.specs.declared.refusal.LoadRefusal.TheVariants.{FilesFault}
 use Rattle.load_files.specs.declared.roots.Roots.{Roots}
 use Rattle.overlays.specs.Applied.{applied}
 use Rattle.overlays.specs.Tables.{PathsAndTexts}
@@ -26,8 +25,8 @@ use Rattle.protocol_rules.specs.Answers.{uses_store, request_uses_store, reads_s
 use Rattle.protocol_rules.specs.Limits.{passes_limit, AreWithin}
 use Rattle.protocol_rules.specs.Skipped.{is_skipped}
 use Rattle.protocol_rules.specs.State.{State}
-use Rattle.protocol_rules.specs.Turns.{Turn, IsTurn, IsLineTurn, IsRequestTurn, IsAskedTurn, IsReadTurn, refused_turn, overlays_turn, updated_turn, update_turn, read_turn, with_paths}
-use Rattle.protocol_rules.specs.Updates.{TakesNone, TakesAllOrNone}
+use Rattle.protocol_rules.specs.Turns.{Turn, IsTurn, IsLineTurn, IsRequestTurn, IsAskedTurn, IsReadTurn, overlays_turn, updated_turn, read_turn, with_paths}
+use Rattle.protocol_rules.specs.Updates.{TakesAllOrNone}
 
 -- a refusal leaves the state as it was
 row-keeps : (mark : Bool) (s : State) (id : List ℕ) (t : Turn) → Row mark s id t → (code : Code) → t.body ≡ Error code → t.after ≡ s

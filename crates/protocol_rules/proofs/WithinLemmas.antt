@@ -1,7 +1,6 @@
 -- Snapshots and overlays within the limits.
-use Rattle.std.proofs.Common.{◌≡◌, ℕ, ◌+◌, ◌<◌, ◌≤◌, Bool, true, false, ◌&&◌, ◌||◌, List, [], length, nat_le, nat_lt, refl, sym, arith}
+use Rattle.std.proofs.Common.{◌≡◌, ◌≤◌, Bool, true, false, ◌||◌, [], length, refl, arith}
 use Rattle.std.proofs.lemmas.Bool.{ltb-false, le-leb, true≢false}
-use Rattle.load_files.specs.Counts.{path_count, byte_count, IsWithinLimits}
 use Rattle.load_files.specs.Kept.{are_kept, bytes_of}
 use Rattle.load_files.specs.Tables.{Table}
 use Rattle.load_files.specs.declared.loading.TheConstants.{MAX_PATHS, MAX_BYTES}

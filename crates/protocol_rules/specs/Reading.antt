@@ -1,5 +1,5 @@
 -- What the reading of roots may come to.
-use Rattle.std.specs.Prelude.{◌≡◌, ◌≢◌, ℕ, Bool, true, List, Option, Result, Ok, Err, IfOk, IfErr}
+use Rattle.std.specs.Prelude.{◌≡◌, ◌≢◌, Bool, true, Option, Result, Ok, Err, IfOk, IfErr}
 use Rattle.std.specs.Option.{ForSome}
 use Rattle.fault_io.specs.Stored.{Stored}
 use Rattle.load_files.specs.Causes.{PassesItsLimit}

@@ -13,9 +13,7 @@ ghost use Rattle.protocol_rules.specs.State.{State, at_start};
 use crate::files::{CurrentFile, is_library};
 use crate::limits::passes_limit;
 use fault_io::{Files, is_under};
-use load_files::{
-    FileContents, KeptFile, LoadRefusal, Packages, Paths, Roots, Snapshot, snapshot,
-};
+use load_files::{FileContents, KeptFile, LoadRefusal, Packages, Paths, Roots, Snapshot, snapshot};
 use overlays::Overlays;
 use std::alloc::{AllocError, Global};
 use std::marker::Model;
@@ -45,11 +43,8 @@ impl Model for Contents {
 fn is_included(roots: &Roots, path: &str) -> bool
     ensures { result ≡ is_included roots.now path.now }
 {
-    roots
-        .included
-        .as_slice()
-        .iter()
-        .any(|root| path == root.as_str() || is_under(root.as_str(), path))
+    roots.included.as_slice().iter().any(|root| path == root.as_str()
+        || is_under(root.as_str(), path))
 }
 
 /// The overlays as they count in the limits.

@@ -1,4 +1,4 @@
-use Rattle.std.proofs.Common.{◌≡◌, ℕ, ◌+◌, ◌<◌, ◌≤◌, Bool, true, false, List, [], ◌∷◌, ◌++◌, take, drop, Option, Some, unwrap_or, refl, sym, ◌∙◌, ap, arith, append_assoc, inl, inr}
+use Rattle.std.proofs.Common.{◌≡◌, ℕ, ◌+◌, ◌<◌, ◌≤◌, Bool, true, false, List, [], ◌∷◌, ◌++◌, take, drop, Option, Some, refl, sym, ◌∙◌, ap, arith, append_assoc, inl, inr}
 use Rattle.std.proofs.lemmas.List.{append-nil, drop_all, map_push}
 use Rattle.fault_io.specs.Bytes.{and_then}
 use Rattle.fault_io.specs.Lines.{input_lines}
@@ -6,7 +6,7 @@ use Rattle.fault_io.specs.Reading.{Reading}
 use Rattle.fault_io.specs.BytesLaws.{and_then-and_then}
 use Rattle.serve_loop.specs.Event.{Event, event_of_line, event_shown}
 use Rattle.serve_loop.specs.Replies.{Answered, lines_in, bytes_of, replies_in, state_after, AreGiven, UseNothing}
-use Rattle.serve_loop.specs.Turn.{Stands, Step, StopsAt}
+use Rattle.serve_loop.specs.Turn.{Step, StopsAt}
 use Rattle.serve_loop.specs.Parts.{IsReplied, IsPart, PartOfReply}
 use Rattle.serve_loop.specs.Served.{Cut, Served}
 use Rattle.serve_loop.proofs.Progress.{Progress}
@@ -15,7 +15,7 @@ use Rattle.serve_loop.specs.declared.end.ServeEnd.{ServeEnd}
 use Rattle.serve_loop.specs.declared.end.ServeEnd.TheVariants.{Done, InputSpent, ReadFault, WriteFault, Memory, SinkMemory}
 use Rattle.std.proofs.lemmas.Bool.{false≢true}
 use Rattle.std.proofs.Math.Nat.{eq-or-lt_of_le}
-use Rattle.fault_io.specs.Faults.{Rose, last_count}
+use Rattle.fault_io.specs.Faults.{last_count}
 use Rattle.serve_loop.specs.Marks.{AreAllowed, Tells, MayRise, MayRiseOnce, MarksTell, count_marks}
 
 -- a count that doesn't fall, and stands where it may not rise, has some mark
