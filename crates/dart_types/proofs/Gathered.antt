@@ -77,8 +77,8 @@ class_asym c d h = at (class_before d c) refl
     at false k = refl
 
 -- what stands in a relation to all before its place, and those behind it to it, leaves the relation between all
-pairs_insert : (R : Superinterface → Superinterface → Type 0) (xs : List Superinterface) (at : ℕ) (x : Superinterface) → at ≤ length xs → AllWithin (λ (s : Superinterface). R s x) xs 0 at → AllWithin (λ (s : Superinterface). R x s) xs at (length xs) → AllPairs R xs → AllPairs R (insert xs at x)
-pairs_insert R xs at x le low high all i j d lt within =
+pub pairs_insert : {X : Type 0} (R : X → X → Type 0) (xs : List X) (at : ℕ) (x : X) → at ≤ length xs → AllWithin (λ (s : X). R s x) xs 0 at → AllWithin (λ (s : X). R x s) xs at (length xs) → AllPairs R xs → AllPairs R (insert xs at x)
+pairs_insert {X} R xs at x le low high all i j d lt within =
     let size = length-insert xs at x le in
     elim (cases_lt j at) as (λ _. R (get_or (insert xs at x) i d) (get_or (insert xs at x) j d)) [
       | inl below ↦
@@ -95,8 +95,8 @@ pairs_insert R xs at x le low high all i j d lt within =
       ]
     ]
   where
-    moved : {s t s' t' : Superinterface} → s ≡ s' → t ≡ t' → R s t → R s' t'
-    moved {s} {t} {s'} {t'} e f h = subst (λ (y : Superinterface). R s' y) f (subst (λ (y : Superinterface). R y t) e h)
+    moved : {s t s' t' : X} → s ≡ s' → t ≡ t' → R s t → R s' t'
+    moved {s} {t} {s'} {t'} e f h = subst (λ (y : X). R s' y) f (subst (λ (y : X). R y t) e h)
 
     behind : (k : ℕ) → j ≡ k + 1 → at ≤ k → get_or xs k d ≡ get_or (insert xs at x) j d
     behind k e above = subst (λ (m : ℕ). get_or xs k d ≡ get_or (insert xs at x) m d) (sym e) (sym (get_or-insert_above xs at x d k above le))

@@ -1,10 +1,10 @@
 -- What one direct supertype gives a class, from the superinterfaces that are known.
 use Rattle.std.specs.declared.rc.Rc.{Rc}
 use Rattle.std.proofs.Common.{Global, ◌≡◌, ◌<◌, ◌≤◌, List, [], Some, None, refl, sym, ◌∙◌, ap, subst, arith, inl, inr}
-use Rattle.std.specs.Prelude.{◌⊎◌, Contains, find}
+use Rattle.std.specs.Prelude.{◌⊎◌, find, IsSome}
 use Rattle.std.specs.Option.{option_map}
-use Rattle.std.proofs.lemmas.List.Elements.{All-contains, All-nil}
-use Rattle.dart_types.specs.Ty.{Ty, Types, interface, types_of}
+use Rattle.std.proofs.lemmas.List.Elements.{All-nil}
+use Rattle.dart_types.specs.Ty.{Ty, Types, interface}
 use Rattle.dart_types.specs.Same.{same_class}
 use Rattle.dart_types.specs.Sizes.{size_of, held}
 use Rattle.dart_types.specs.Substitution.{put, by_params}
@@ -15,7 +15,7 @@ use Rattle.dart_types.specs.Entries.{table_of}
 use Rattle.dart_types.specs.Superinterfaces.{IsSuperinterface, AreSuperinterfaces, interface_of}
 use Rattle.dart_types.specs.RowsCause.{FitBelow, IsCauseIn}
 use Rattle.dart_types.specs.Replacements.{replaced}
-use Rattle.dart_types.specs.Gathering.{Adds, IsAbove, itself, beyond, IsGivenBy, IsGiven, IsPut, IsCauseAmong, AreKnownBelow}
+use Rattle.dart_types.specs.Gathering.{Adds, IsAbove, itself, beyond, IsGivenBy, IsGiven, IsPut, IsCauseAmong}
 use Rattle.dart_types.specs.Node.{type_of}
 use Rattle.dart_types.specs.declared.ids.ClassId.{ClassId}
 use Rattle.dart_types.specs.declared.ids.VarId.{VarId}
@@ -30,8 +30,7 @@ use Rattle.dart_types.specs.declared.refusal.TheConstants.{NODE_LIMIT}
 use Rattle.dart_types.specs.declared.refusal.RowsRefusal.{RowsRefusal}
 use Rattle.dart_types.specs.declared.refusal.RowsRefusal.TheVariants.{TooLarge, Memory}
 use Rattle.dart_types.proofs.EntryLemmas.{find-map}
-use Rattle.dart_types.proofs.Formed.{found_in, super_depth}
-use Rattle.dart_types.proofs.SameIds.{equal_from_same_class}
+use Rattle.dart_types.proofs.Wider.{some_is}
 use Rattle.dart_types.proofs.NormalPut.{normal-put-normal}
 use Rattle.dart_types.proofs.Replacing.{replaced_nothing}
 use Rattle.dart_types.proofs.Descents.{given, giving}
@@ -93,21 +92,6 @@ module _ (entries : List ClassEntry) (vars : List VarRow) where
   row_of_none class e =
       find-map (λ (x : ClassEntry). x.row) (λ (row : ClassRow). same_class row.id class) entries ∙ ap (option_map (λ (x : ClassEntry). x.row)) (sym e)
 
-  module _ (wf : IsWellFormed (table_of entries vars)) (row : ClassRow) (r : class_of (table_of entries vars) row.id ≡ Some row) (class : ClassId) (ts : List Ty) (i : Contains row.supers (interface class (types_of ts))) (entry : ClassEntry) (found : Some entry ≡ find (λ (e : ClassEntry). same_class e.row.id class) entries) where
-    -- the superinterfaces of a direct supertype's class are known
-    pub known_above : AreKnownBelow row.depth entries vars → AreSuperinterfaces (table_of entries vars) class entry.superinterfaces.items
-    known_above known =
-        let table = table_of entries vars in
-        let above = row_of_found class entry found in
-        let there = found_in (λ (e : ClassEntry). same_class e.row.id class) entries entry (sym found) in
-        let is : entry.row.id ≡ class = equal_from_same_class entry.row.id class there.1 in
-        let falls = super_depth table wf row.id row (interface class (types_of ts)) r i in
-        let here : depth_of table row.id ≡ row.depth = rw r refl in
-        let up : depth_of table class ≡ entry.row.depth = rw above refl in
-        let lt : entry.row.depth < row.depth = omega (arith, falls, here, up) in
-        subst (λ (c : ClassId). AreSuperinterfaces table c entry.superinterfaces.items) is
-        (All-contains (λ (e : ClassEntry). e.row.depth < row.depth → AreSuperinterfaces table e.row.id e.superinterfaces.items) entries entry known there.0 lt)
-
 module _ (table : Table) (wf : IsWellFormed table) (row : ClassRow) (r : class_of table row.id ≡ Some row) where
   -- what all direct supertypes give are the superinterfaces
   pub all_given : (list : List Superinterface) → Adds (IsGiven table row.supers) [] list → AreSuperinterfaces table row.id list
@@ -123,17 +107,18 @@ module _ (table : Table) (wf : IsWellFormed table) (row : ClassRow) (r : class_o
   }
 
   -- and too large is a superinterface
-  pub given_cause : FitBelow table row.depth → (refusal : RowsRefusal) → IsCauseAmong (IsGiven table row.supers) row.id refusal → IsCauseIn table refusal
-  given_cause below (TooLarge class nodes) h =
+  pub given_cause : (own : Table) → class_of own row.id ≡ Some row → FitBelow table own row.depth → (refusal : RowsRefusal) → IsCauseAmong (IsGiven table row.supers) row.id refusal → IsCauseIn table own refusal
+  given_cause own o below (TooLarge class nodes) h =
       let t = h.1.0 in
       let g = h.1.1 in
       let w = g.2.0 in
       let e : t ≡ normal w = g.2.2 in
       let here : depth_of table row.id ≡ row.depth = rw r refl in (
         w,
+        subst (λ (c : ClassId). IsSome (class_of own c)) (sym h.0) (some_is (class_of own row.id) row o),
         subst (λ (c : ClassId). IsSuperinterface table c w) (sym h.0) (giving table wf row r g.1 g.2.1),
         subst (λ (x : Ty). NODE_LIMIT < size_of x) e h.1.2,
         subst (λ (x : Ty). nodes ≡ held (size_of x)) e h.1.3,
-        subst (λ (c : ClassId). FitBelow table (depth_of table c)) (sym h.0) (subst (FitBelow table) (sym here) below),
+        subst (λ (c : ClassId). FitBelow table own (depth_of table c)) (sym h.0) (subst (FitBelow table own) (sym here) below),
       )
-  given_cause below Memory h = tt
+  given_cause own o below Memory h = tt

@@ -36,3 +36,10 @@ pub mod Derives
 pub mod Filled
 pub mod RowTests
 pub mod SeenEquality
+pub mod OverPut
+pub mod Wider
+pub mod Groups
+pub mod Joined
+pub mod Merged
+pub mod Found
+pub mod Extended

@@ -23,14 +23,14 @@ and_both : (a b : Bool) → (a && b) ≡ true → (a ≡ true) × (b ≡ true)
 and_both true b h = (refl, h)
 and_both false b h = cc
 
-before_cases : (a b c d : ℕ) → id_before a b c d ≡ true → (a < c) ⊎ ((a ≡ c) × (b < d))
+pub before_cases : (a b c d : ℕ) → id_before a b c d ≡ true → (a < c) ⊎ ((a ≡ c) × (b < d))
 before_cases a b c d h =
     elim (or_cases (nat_lt a c) (nat_eq a c && nat_lt b d) h) [
       | inl k ↦ inl (grind (arith, nat_tests))
       | inr k ↦ let e = and_both (nat_eq a c) (nat_lt b d) k in inr (grind (arith, nat_tests, e.0), grind (arith, nat_tests, e.1))
     ]
 
-before_from : (a b c d : ℕ) → (a < c) ⊎ ((a ≡ c) × (b < d)) → id_before a b c d ≡ true
+pub before_from : (a b c d : ℕ) → (a < c) ⊎ ((a ≡ c) × (b < d)) → id_before a b c d ≡ true
 before_from a b c d (inl h) = let k : nat_lt a c ≡ true = grind (arith, nat_tests) in rw k refl
 before_from a b c d (inr h) =
     let k : nat_eq a c ≡ true = grind (arith, nat_tests, h.0) in

@@ -6,12 +6,10 @@ use Rattle.dart_types.specs.Substitution.{put, by_params}
 use Rattle.dart_types.specs.Normal.{normal}
 use Rattle.dart_types.specs.Tables.{Table, class_of}
 use Rattle.dart_types.specs.Superinterfaces.{IsSuperinterface, interface_of, AreOrdered, AreSuperinterfaces}
-use Rattle.dart_types.specs.Entries.{table_of}
 use Rattle.dart_types.specs.Replacements.{replaced}
 use Rattle.dart_types.specs.declared.ids.ClassId.{ClassId}
 use Rattle.dart_types.specs.declared.ids.VarId.{VarId}
 use Rattle.dart_types.specs.declared.class_rows.ClassRow.{ClassRow}
-use Rattle.dart_types.specs.declared.class_rows.VarRow.{VarRow}
 use Rattle.dart_types.specs.declared.entries.ClassEntry.{ClassEntry}
 use Rattle.dart_types.specs.declared.replacements.Replacement.{Replacement}
 use Rattle.dart_types.specs.declared.superinterfaces.Superinterface.{Superinterface}
@@ -64,11 +62,11 @@ abbrev pub IsPut : List VarId → Types → List Superinterface → Ty → Type 
 IsPut params args list t = (s : Superinterface) × Contains list s × (t ≡ normal (put (by_params params args) (interface_of s)))
 
 -- beside each class that is less far from Object stand its superinterfaces
-abbrev pub AreKnownBelow : ℕ → List ClassEntry → List VarRow → Type 0
-AreKnownBelow depth entries vars =
-    All (λ entry. entry.row.depth < depth → AreSuperinterfaces (table_of entries vars) entry.row.id entry.superinterfaces.items) entries
+abbrev pub AreKnownBelow : ℕ → Table → List ClassEntry → Type 0
+AreKnownBelow depth table entries =
+    All (λ entry. entry.row.depth < depth → AreSuperinterfaces table entry.row.id entry.superinterfaces.items) entries
 
 -- beside each class that is less far from Object stand its superinterfaces, and beside those of the first entries that are as far
-pub record AreKnownTo (depth i : ℕ) (entries : List ClassEntry) (vars : List VarRow) : Type 0 where
-  pub below : AreKnownBelow depth entries vars
-  pub passed : All (λ (entry : ClassEntry). entry.row.depth ≡ depth → AreSuperinterfaces (table_of entries vars) entry.row.id entry.superinterfaces.items) (take i entries)
+pub record AreKnownTo (depth i : ℕ) (table : Table) (entries : List ClassEntry) : Type 0 where
+  pub below : AreKnownBelow depth table entries
+  pub passed : All (λ (entry : ClassEntry). entry.row.depth ≡ depth → AreSuperinterfaces table entry.row.id entry.superinterfaces.items) (take i entries)

@@ -33,5 +33,11 @@ pub mod BoundVars
 pub mod Marks
 pub mod Replacements
 pub mod Gathering
+pub mod Groups
+pub mod Unions
+pub mod Joined
+pub mod Libraries
+pub mod Others
+pub mod Known
 pub mod Invalid
 pub mod CoreClasses

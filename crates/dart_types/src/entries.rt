@@ -19,24 +19,6 @@ pub(crate) struct ClassEntry {
     pub(crate) superinterfaces: Vec<Superinterface>,
 }
 
-impl ClassEntry {
-    /// A second value of the same row and the same superinterfaces.
-    pub(crate) fn copy(&self, alloc: Global) -> Result<ClassEntry, AllocError>
-        ensures row { IfOk result (λ copied. copied.row ≡ self.now.row) }
-        ensures list { IfOk result (λ copied. copied.superinterfaces.items ≡ self.now.superinterfaces.items) }
-    {
-        let row = self.row.copy(alloc)?;
-        let mut superinterfaces = Vec::new(alloc);
-        for superinterface in &self.superinterfaces {
-            superinterfaces.push(superinterface.copy(alloc)?)?;
-        }
-        Ok(ClassEntry {
-            row,
-            superinterfaces,
-        })
-    }
-}
-
 /// Entries of these rows, with no superinterfaces beside them.
 pub(crate) fn entries_of(alloc: Global, rows: Vec<ClassRow>) -> Result<Vec<ClassEntry>, AllocError>
     ensures { IfOk result (λ entries. map (λ entry. entry.row) entries.items ≡ rows.items) }
@@ -49,32 +31,6 @@ pub(crate) fn entries_of(alloc: Global, rows: Vec<ClassRow>) -> Result<Vec<Class
         })?;
     }
     Ok(entries)
-}
-
-/// Second values of all entries.
-pub(crate) fn copy_entries(
-    alloc: Global,
-    entries: &[ClassEntry],
-) -> Result<Vec<ClassEntry>, AllocError>
-    ensures rows { IfOk result (λ copies. map (λ entry. entry.row) copies.items ≡ map (λ entry. entry.row) entries.now) }
-    ensures lists { IfOk result (λ copies. map (λ entry. entry.superinterfaces.items) copies.items ≡ map (λ entry. entry.superinterfaces.items) entries.now) }
-{
-    let mut copies = Vec::new(alloc);
-    for entry in entries {
-        copies.push(entry.copy(alloc)?)?;
-    }
-    Ok(copies)
-}
-
-/// Second values of the rows of type variables.
-pub(crate) fn copy_vars(alloc: Global, rows: &[VarRow]) -> Result<Vec<VarRow>, AllocError>
-    ensures { IfOk result (λ copies. copies.items ≡ rows.now) }
-{
-    let mut copies = Vec::new(alloc);
-    for row in rows {
-        copies.push(row.copy(alloc)?)?;
-    }
-    Ok(copies)
 }
 
 /// The entry of a class, if it has one.

@@ -1,8 +1,8 @@
-//! The superinterfaces of all classes, formed one distance from `Object` after another.
+//! The superinterfaces of own classes over those below, formed one distance from `Object` after
+//! another.
 
 ghost use Rattle.std.specs.Prelude.{◌≡◌, ◌≤◌, ◌<◌, ◌+◌, IfErr, OnOk, All, length};
-ghost use Rattle.dart_types.specs.WellFormed.{IsWellFormed};
-ghost use Rattle.dart_types.specs.Entries.{table_of, HaveSuperinterfaces};
+ghost use Rattle.dart_types.specs.Entries.{table_of, among, AreAmong, AreBeside};
 ghost use Rattle.dart_types.specs.RowsCause.{IsCauseIn};
 ghost use Rattle.dart_types.specs.Gathering.{AreKnownBelow, AreKnownTo};
 
@@ -10,24 +10,26 @@ use crate::class_rows::VarRow;
 use crate::entries::ClassEntry;
 use crate::hierarchy::superinterfaces_of;
 use crate::refusal::RowsRefusal;
+use crate::rows::Rows;
 use std::alloc::Global;
 
-/// Puts their superinterfaces beside all classes.
+/// Puts their superinterfaces beside all own classes.
 pub(crate) fn fill_all(
     alloc: Global,
+    below: &Rows,
     entries: &mut Vec<ClassEntry>,
     vars: &[VarRow],
 ) -> Result<(), RowsRefusal>
-    requires { IsWellFormed (table_of entries.old.items vars.now) }
+    requires { AreAmong below.now.table (table_of entries.old.items vars.now) }
     ensures rows { OnOk result (table_of entries.new.items vars.now ≡ table_of entries.old.items vars.now) }
-    ensures ok { OnOk result (HaveSuperinterfaces entries.new.items vars.now) }
-    ensures err { IfErr result (IsCauseIn (table_of entries.old.items vars.now)) }
+    ensures ok { OnOk result (AreBeside (among below.now.table entries.old.items vars.now) entries.new.items) }
+    ensures err { IfErr result (IsCauseIn (among below.now.table entries.old.items vars.now) (table_of entries.old.items vars.now)) }
 {
     let top = greatest_depth(entries);
     for depth in 0..top {
-        fill(alloc, depth, entries, vars)?;
+        fill(alloc, depth, below, entries, vars)?;
     }
-    fill(alloc, top, entries, vars)
+    fill(alloc, top, below, entries, vars)
 }
 
 // The greatest distance of a class from `Object`.
@@ -46,17 +48,18 @@ fn greatest_depth(entries: &[ClassEntry]) -> u64
 fn fill(
     alloc: Global,
     depth: u64,
+    below: &Rows,
     entries: &mut Vec<ClassEntry>,
     vars: &[VarRow],
 ) -> Result<(), RowsRefusal>
-    requires formed { IsWellFormed (table_of entries.old.items vars.now) }
-    requires known { AreKnownBelow depth entries.old.items vars.now }
+    requires among { AreAmong below.now.table (table_of entries.old.items vars.now) }
+    requires known { AreKnownBelow depth (among below.now.table entries.old.items vars.now) entries.old.items }
     ensures rows { OnOk result (table_of entries.new.items vars.now ≡ table_of entries.old.items vars.now) }
-    ensures ok { OnOk result (AreKnownBelow (depth + 1) entries.new.items vars.now) }
-    ensures err { IfErr result (IsCauseIn (table_of entries.old.items vars.now)) }
+    ensures ok { OnOk result (AreKnownBelow (depth + 1) (among below.now.table entries.old.items vars.now) entries.new.items) }
+    ensures err { IfErr result (IsCauseIn (among below.now.table entries.old.items vars.now) (table_of entries.old.items vars.now)) }
 {
     for i in 0..entries.len() {
-        fill_at(alloc, depth, i, entries, vars)?;
+        fill_at(alloc, depth, i, below, entries, vars)?;
     }
     Ok(())
 }
@@ -66,20 +69,21 @@ fn fill_at(
     alloc: Global,
     depth: u64,
     i: usize,
+    below: &Rows,
     entries: &mut Vec<ClassEntry>,
     vars: &[VarRow],
 ) -> Result<(), RowsRefusal>
     requires place { i < length entries.old.items }
-    requires formed { IsWellFormed (table_of entries.old.items vars.now) }
-    requires known { AreKnownTo depth i entries.old.items vars.now }
+    requires among { AreAmong below.now.table (table_of entries.old.items vars.now) }
+    requires known { AreKnownTo depth i (among below.now.table entries.old.items vars.now) entries.old.items }
     ensures rows { OnOk result (table_of entries.new.items vars.now ≡ table_of entries.old.items vars.now) }
-    ensures ok { OnOk result (AreKnownTo depth (i + 1) entries.new.items vars.now) }
-    ensures err { IfErr result (IsCauseIn (table_of entries.old.items vars.now)) }
+    ensures ok { OnOk result (AreKnownTo depth (i + 1) (among below.now.table entries.old.items vars.now) entries.new.items) }
+    ensures err { IfErr result (IsCauseIn (among below.now.table entries.old.items vars.now) (table_of entries.old.items vars.now)) }
 {
     if entries[i].row.depth != depth {
         return Ok(());
     }
-    let list = superinterfaces_of(alloc, &entries[i].row, entries, vars)?;
+    let list = superinterfaces_of(alloc, &entries[i].row, below, entries, vars)?;
     entries[i].superinterfaces = list;
     Ok(())
 }

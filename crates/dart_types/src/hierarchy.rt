@@ -3,11 +3,11 @@
 ghost use Rattle.std.specs.Prelude.{◌≡◌, ◌<◌, Some, IfOk, IfErr, OnOk, Contains};
 ghost use Rattle.dart_types.specs.Ty.{interface, types_of};
 ghost use Rattle.dart_types.specs.Tables.{class_of};
-ghost use Rattle.dart_types.specs.WellFormed.{IsWellFormed};
-ghost use Rattle.dart_types.specs.Entries.{table_of};
+ghost use Rattle.dart_types.specs.Entries.{table_of, among, AreAmong};
 ghost use Rattle.dart_types.specs.Superinterfaces.{AreSuperinterfaces, AreOrdered};
 ghost use Rattle.dart_types.specs.RowsCause.{IsCauseIn};
 ghost use Rattle.dart_types.specs.Gathering.{Adds, IsCauseAmong, IsGiven, IsGivenBy, IsPut, AreKnownBelow};
+ghost use Rattle.dart_types.specs.Known.{IsKnown};
 
 use crate::class_rows::{ClassRow, VarRow};
 use crate::entries::{ClassEntry, find_entry};
@@ -15,36 +15,71 @@ use crate::gathering::{add, form, gather};
 use crate::ids::ClassId;
 use crate::pairs::replacements_for;
 use crate::refusal::RowsRefusal;
+use crate::rows::Rows;
 use crate::superinterfaces::Superinterface;
 use crate::types::{DartType, TypeList, TypeNode};
 use std::alloc::Global;
 
 // Puts what a direct supertype, a class with these arguments, gives another class into its list:
-// itself, and the superinterfaces of its class with the arguments put in. Contracts speak of the rows of
-// type variables, so they are handed over.
+// itself, and the superinterfaces of its class with the arguments put in.
 fn gather_interface(
     alloc: Global,
     row: &ClassRow,
     class: ClassId,
     args: &TypeList,
+    below: &Rows,
     entries: &[ClassEntry],
     vars: &[VarRow],
     list: &mut Vec<Superinterface>,
 ) -> Result<(), RowsRefusal>
-    requires formed { IsWellFormed (table_of entries.now vars.now) }
-    requires of_class { class_of (table_of entries.now vars.now) row.now.id ≡ Some row.now }
+    requires among { AreAmong below.now.table (table_of entries.now vars.now) }
+    requires of_class { class_of (among below.now.table entries.now vars.now) row.now.id ≡ Some row.now }
     requires direct { Contains row.now.supers (interface class (types_of args.now)) }
-    requires known { AreKnownBelow row.now.depth entries.now vars.now }
+    requires known { AreKnownBelow row.now.depth (among below.now.table entries.now vars.now) entries.now }
     requires in_order { AreOrdered list.old.items }
-    ensures ok { OnOk result (Adds (IsGivenBy (table_of entries.now vars.now) (interface class (types_of args.now))) list.old.items list.new.items) }
-    ensures err { IfErr result (IsCauseAmong (IsGivenBy (table_of entries.now vars.now) (interface class (types_of args.now))) row.now.id) }
+    ensures ok { OnOk result (Adds (IsGivenBy (among below.now.table entries.now vars.now) (interface class (types_of args.now))) list.old.items list.new.items) }
+    ensures err { IfErr result (IsCauseAmong (IsGivenBy (among below.now.table entries.now vars.now) (interface class (types_of args.now))) row.now.id) }
 {
-    let _vars = vars;
     let own = form(alloc, row.id, class, args, &[])?;
     add(list, own)?;
-    match find_entry(entries, class) {
+    match known_class(below, entries, vars, class, row.depth) {
         None => Ok(()),
-        Some(entry) => gather_above(alloc, row.id, entry, args, list),
+        Some(known) => gather_above(alloc, row.id, &known, args, list),
+    }
+}
+
+// A class, and what is known of its superinterfaces.
+#[derive(Clone, Copy)]
+struct Known<'a> {
+    row: &'a ClassRow,
+    superinterfaces: &'a [Superinterface],
+}
+
+// What is known of a class, where the superinterfaces of those below and of own ones of less depth are
+// known. Contracts speak of the rows of type variables, so they are handed over, and the depth.
+fn known_class<'a>(
+    below: &'a Rows,
+    entries: &'a [ClassEntry],
+    _vars: &[VarRow],
+    class: ClassId,
+    _depth: u64,
+) -> Option<Known<'a>>
+    requires among { AreAmong below.now.table (table_of entries.now _vars.now) }
+    requires known { AreKnownBelow _depth (among below.now.table entries.now _vars.now) entries.now }
+    ensures { IsKnown (among below.now.table entries.now _vars.now) class _depth result }
+{
+    if let Some(entry) = find_entry(entries, class) {
+        return Some(Known {
+            row: &entry.row,
+            superinterfaces: &entry.superinterfaces,
+        });
+    }
+    match below.class(class) {
+        None => None,
+        Some(row) => Some(Known {
+            row,
+            superinterfaces: below.superinterfaces(class),
+        }),
     }
 }
 
@@ -52,16 +87,16 @@ fn gather_interface(
 fn gather_above(
     alloc: Global,
     of: ClassId,
-    entry: &ClassEntry,
+    known: &Known,
     args: &TypeList,
     list: &mut Vec<Superinterface>,
 ) -> Result<(), RowsRefusal>
     requires in_order { AreOrdered list.old.items }
-    ensures ok { OnOk result (Adds (IsPut entry.now.row.params (types_of args.now) entry.now.superinterfaces.items) list.old.items list.new.items) }
-    ensures err { IfErr result (IsCauseAmong (IsPut entry.now.row.params (types_of args.now) entry.now.superinterfaces.items) of) }
+    ensures ok { OnOk result (Adds (IsPut known.now.row.now.params (types_of args.now) known.now.superinterfaces.now) list.old.items list.new.items) }
+    ensures err { IfErr result (IsCauseAmong (IsPut known.now.row.now.params (types_of args.now) known.now.superinterfaces.now) of) }
 {
-    let replacements = replacements_for(alloc, entry.row.params.as_slice(), args.as_slice())?;
-    gather(alloc, of, &entry.superinterfaces, &replacements, list)
+    let replacements = replacements_for(alloc, known.row.params.as_slice(), args.as_slice())?;
+    gather(alloc, of, known.superinterfaces, &replacements, list)
 }
 
 // Puts what a direct supertype of a class gives it into its list.
@@ -69,21 +104,22 @@ fn gather_super(
     alloc: Global,
     row: &ClassRow,
     v: &DartType,
+    below: &Rows,
     entries: &[ClassEntry],
     vars: &[VarRow],
     list: &mut Vec<Superinterface>,
 ) -> Result<(), RowsRefusal>
-    requires formed { IsWellFormed (table_of entries.now vars.now) }
-    requires of_class { class_of (table_of entries.now vars.now) row.now.id ≡ Some row.now }
+    requires among { AreAmong below.now.table (table_of entries.now vars.now) }
+    requires of_class { class_of (among below.now.table entries.now vars.now) row.now.id ≡ Some row.now }
     requires direct { Contains row.now.supers v.now }
-    requires known { AreKnownBelow row.now.depth entries.now vars.now }
+    requires known { AreKnownBelow row.now.depth (among below.now.table entries.now vars.now) entries.now }
     requires in_order { AreOrdered list.old.items }
-    ensures ok { OnOk result (Adds (IsGivenBy (table_of entries.now vars.now) v.now) list.old.items list.new.items) }
-    ensures err { IfErr result (IsCauseAmong (IsGivenBy (table_of entries.now vars.now) v.now) row.now.id) }
+    ensures ok { OnOk result (Adds (IsGivenBy (among below.now.table entries.now vars.now) v.now) list.old.items list.new.items) }
+    ensures err { IfErr result (IsCauseAmong (IsGivenBy (among below.now.table entries.now vars.now) v.now) row.now.id) }
 {
     match &v.node {
         TypeNode::Interface { class, args } => {
-            gather_interface(alloc, row, *class, args, entries, vars, list)
+            gather_interface(alloc, row, *class, args, below, entries, vars, list)
         }
         _ => unreachable!(),
     }
@@ -93,19 +129,20 @@ fn gather_super(
 fn gather_supers(
     alloc: Global,
     row: &ClassRow,
+    below: &Rows,
     entries: &[ClassEntry],
     vars: &[VarRow],
     list: &mut Vec<Superinterface>,
 ) -> Result<(), RowsRefusal>
-    requires formed { IsWellFormed (table_of entries.now vars.now) }
-    requires of_class { class_of (table_of entries.now vars.now) row.now.id ≡ Some row.now }
-    requires known { AreKnownBelow row.now.depth entries.now vars.now }
+    requires among { AreAmong below.now.table (table_of entries.now vars.now) }
+    requires of_class { class_of (among below.now.table entries.now vars.now) row.now.id ≡ Some row.now }
+    requires known { AreKnownBelow row.now.depth (among below.now.table entries.now vars.now) entries.now }
     requires in_order { AreOrdered list.old.items }
-    ensures ok { OnOk result (Adds (IsGiven (table_of entries.now vars.now) row.now.supers) list.old.items list.new.items) }
-    ensures err { IfErr result (IsCauseAmong (IsGiven (table_of entries.now vars.now) row.now.supers) row.now.id) }
+    ensures ok { OnOk result (Adds (IsGiven (among below.now.table entries.now vars.now) row.now.supers) list.old.items list.new.items) }
+    ensures err { IfErr result (IsCauseAmong (IsGiven (among below.now.table entries.now vars.now) row.now.supers) row.now.id) }
 {
     for v in row.supers.as_slice() {
-        gather_super(alloc, row, v, entries, vars, list)?;
+        gather_super(alloc, row, v, below, entries, vars, list)?;
     }
     Ok(())
 }
@@ -114,16 +151,17 @@ fn gather_supers(
 pub(crate) fn superinterfaces_of(
     alloc: Global,
     row: &ClassRow,
+    below: &Rows,
     entries: &[ClassEntry],
     vars: &[VarRow],
 ) -> Result<Vec<Superinterface>, RowsRefusal>
-    requires formed { IsWellFormed (table_of entries.now vars.now) }
+    requires among { AreAmong below.now.table (table_of entries.now vars.now) }
     requires of_class { class_of (table_of entries.now vars.now) row.now.id ≡ Some row.now }
-    requires known { AreKnownBelow row.now.depth entries.now vars.now }
-    ensures ok { IfOk result (λ list. AreSuperinterfaces (table_of entries.now vars.now) row.now.id list.items) }
-    ensures err { IfErr result (IsCauseIn (table_of entries.now vars.now)) }
+    requires known { AreKnownBelow row.now.depth (among below.now.table entries.now vars.now) entries.now }
+    ensures ok { IfOk result (λ list. AreSuperinterfaces (among below.now.table entries.now vars.now) row.now.id list.items) }
+    ensures err { IfErr result (IsCauseIn (among below.now.table entries.now vars.now) (table_of entries.now vars.now)) }
 {
     let mut list = Vec::new(alloc);
-    gather_supers(alloc, row, entries, vars, &mut list)?;
+    gather_supers(alloc, row, below, entries, vars, &mut list)?;
     Ok(list)
 }

@@ -3,14 +3,17 @@
 //! A `DartType` is a type as contracts compare it: two of equal parts are equal (`specs/Ty.antt`).
 //! The rules of subtyping are a relation, one constructor for each (`specs/Sub.antt`), over the rows
 //! of classes and type variables that `Rows` holds; they are well formed by its type
-//! (`specs/WellFormed.antt`), so no call has a condition on them. `Rows::new` forms the
-//! superinterfaces of each class once (`specs/Superinterfaces.antt`), so that no way up to them is
-//! walked; `Rows::are_well_formed` tests what it asks. `is_subtype` decides the relation, and takes no
-//! memory; `substitute` puts arguments in (`specs/Substitution.antt`), as a `Superinterface` takes
-//! those of a class. The crate stands on `plain_text`.
+//! (`specs/WellFormed.antt`), so no call has a condition on them. Rows stand by library, and those of a
+//! library are shared. `Rows::extend` puts own ones over others, and forms the superinterfaces of each
+//! class once (`specs/Superinterfaces.antt`), so that no way up to them is walked; `Rows::takes` tests
+//! what it asks, and `Rows::union` joins rows of several libraries (`specs/Unions.antt`). `is_subtype`
+//! decides the relation, and takes no memory; `substitute` puts arguments in
+//! (`specs/Substitution.antt`), as a `Superinterface` takes those of a class. The crate stands on
+//! `plain_text`.
 #![tactic(auto)]
 
 mod class_arguments;
+mod class_libraries;
 mod class_rows;
 mod copies;
 mod entries;
@@ -29,6 +32,7 @@ mod params;
 mod refusal;
 mod replacements;
 mod row_checks;
+mod row_lookups;
 mod rows;
 mod scopes;
 mod seen_equality;
@@ -38,6 +42,7 @@ mod subtyping;
 mod superinterfaces;
 mod type_checks;
 mod types;
+mod var_libraries;
 
 pub use class_arguments::Arguments;
 pub use class_rows::{ClassRow, VarList, VarRow};
@@ -47,8 +52,8 @@ pub use ids::{
     OBJECT, RANGE_ERROR, STACK_OVERFLOW_ERROR, STACK_TRACE, STATE_ERROR, STRING, TYPE_ERROR, VarId,
 };
 pub use laws::{
-    constants_are_those_of_the_rules, normal_form_laws, substitution_keeps_subtypes, subtype_laws,
-    subtype_test_law,
+    constants_are_those_of_the_rules, more_rows_laws, normal_form_laws,
+    substitution_keeps_subtypes, subtype_laws, subtype_test_law, union_laws, view_law, views_law,
 };
 pub use refusal::{NODE_LIMIT, RowsRefusal, TypeRefusal};
 pub use rows::Rows;

@@ -1,30 +1,65 @@
-//! Whether rows are well formed.
+//! Whether own rows are well formed over those below.
 
 ghost use Rattle.std.specs.Prelude.{◌≡◌, ◌≢◌, ◌↔◌, ◌∷◌, [], All, AllPairs, IsTrue, true};
 ghost use Rattle.dart_types.specs.Heads.{object};
 ghost use Rattle.dart_types.specs.Tables.{depth_of, head_depth, depth_above};
-ghost use Rattle.dart_types.specs.WellFormed.{class_before, var_before, IsFormedClass, IsFormedVar, IsWellFormed};
+ghost use Rattle.dart_types.specs.WellFormed.{class_before, var_before, IsFormedClass, IsFormedVar};
+ghost use Rattle.dart_types.specs.Unions.{beside, IsFormedOver, HasClassOf, HasVarOf};
 ghost use Rattle.dart_types.specs.declared.ids.TheConstants.{OBJECT, FUNCTION};
 
 use crate::class_rows::{ClassRow, VarRow};
-use crate::entries::find_row;
 use crate::ids::{ClassId, FUNCTION, NO_LIBRARY, OBJECT, VarId};
+use crate::row_lookups::row_beside;
+use crate::rows::Rows;
 use crate::types::{DartType, TypeNode};
 
-/// Whether rows of classes and of type variables are well formed. It takes no memory.
-pub(crate) fn are_well_formed(classes: &[ClassRow], vars: &[VarRow]) -> bool
-    ensures { IsTrue result ↔ IsWellFormed (record { classes = classes.now; vars = vars.now }) }
+impl Rows {
+    /// Whether own rows of these classes and type variables are well formed over these, so that
+    /// `extend` takes them. It takes no memory.
+    pub fn takes(&self, classes: &[ClassRow], vars: &[VarRow]) -> bool
+        ensures { IsTrue result ↔ IsFormedOver self.now.table (record { classes = classes.now; vars = vars.now }) }
+    {
+        if !are_classes_in_order(classes) {
+            return false;
+        }
+        if !are_vars_in_order(vars) {
+            return false;
+        }
+        if !are_classes_apart(self, classes) {
+            return false;
+        }
+        if !are_vars_apart(self, vars) {
+            return false;
+        }
+        if !are_formed_classes(self, classes, vars) {
+            return false;
+        }
+        are_formed_vars(self, classes, vars)
+    }
+}
+
+// Whether the libraries of the classes have none below.
+fn are_classes_apart(below: &Rows, classes: &[ClassRow]) -> bool
+    ensures { IsTrue result ↔ All (λ row. HasClassOf below.now.table row.id.lib → ⊥) classes.now }
 {
-    if !are_classes_in_order(classes) {
-        return false;
+    for row in classes {
+        if below.has_classes_of(row.id.lib) {
+            return false;
+        }
     }
-    if !are_vars_in_order(vars) {
-        return false;
+    true
+}
+
+// Whether the libraries of the type variables have none below.
+fn are_vars_apart(below: &Rows, vars: &[VarRow]) -> bool
+    ensures { IsTrue result ↔ All (λ row. HasVarOf below.now.table row.var.lib → ⊥) vars.now }
+{
+    for row in vars {
+        if below.has_vars_of(row.var.lib) {
+            return false;
+        }
     }
-    if !are_formed_classes(classes, vars) {
-        return false;
-    }
-    are_formed_vars(classes, vars)
+    true
 }
 
 // Whether the ids of the classes rise.
@@ -66,13 +101,13 @@ fn is_var_before(x: VarId, y: VarId) -> bool
 }
 
 // Whether the row of each class is well formed among the others.
-fn are_formed_classes(classes: &[ClassRow], vars: &[VarRow]) -> bool
+fn are_formed_classes(below: &Rows, classes: &[ClassRow], vars: &[VarRow]) -> bool
     requires classes_in_order { AllPairs (λ a b. class_before a.id b.id ≡ true) classes.now }
     requires vars_in_order { AllPairs (λ a b. var_before a.var b.var ≡ true) vars.now }
-    ensures { IsTrue result ↔ All (IsFormedClass (record { classes = classes.now; vars = vars.now })) classes.now }
+    ensures { IsTrue result ↔ All (IsFormedClass (beside below.now.table (record { classes = classes.now; vars = vars.now }))) classes.now }
 {
     for row in classes {
-        if !is_formed_class(row, classes, vars) {
+        if !is_formed_class(below, row, classes, vars) {
             return false;
         }
     }
@@ -80,13 +115,13 @@ fn are_formed_classes(classes: &[ClassRow], vars: &[VarRow]) -> bool
 }
 
 // Whether the row of each type variable is well formed among the others.
-fn are_formed_vars(classes: &[ClassRow], vars: &[VarRow]) -> bool
+fn are_formed_vars(below: &Rows, classes: &[ClassRow], vars: &[VarRow]) -> bool
     requires classes_in_order { AllPairs (λ a b. class_before a.id b.id ≡ true) classes.now }
     requires vars_in_order { AllPairs (λ a b. var_before a.var b.var ≡ true) vars.now }
-    ensures { IsTrue result ↔ All (IsFormedVar (record { classes = classes.now; vars = vars.now })) vars.now }
+    ensures { IsTrue result ↔ All (IsFormedVar (beside below.now.table (record { classes = classes.now; vars = vars.now }))) vars.now }
 {
     for row in vars {
-        if !is_formed_var(row, classes, vars) {
+        if !is_formed_var(below, row, classes, vars) {
             return false;
         }
     }
@@ -94,10 +129,10 @@ fn are_formed_vars(classes: &[ClassRow], vars: &[VarRow]) -> bool
 }
 
 // Whether the row of a type variable is well formed among the others.
-fn is_formed_var(row: &VarRow, classes: &[ClassRow], vars: &[VarRow]) -> bool
+fn is_formed_var(below: &Rows, row: &VarRow, classes: &[ClassRow], vars: &[VarRow]) -> bool
     requires classes_in_order { AllPairs (λ a b. class_before a.id b.id ≡ true) classes.now }
     requires vars_in_order { AllPairs (λ a b. var_before a.var b.var ≡ true) vars.now }
-    ensures { IsTrue result ↔ IsFormedVar (record { classes = classes.now; vars = vars.now }) row.now }
+    ensures { IsTrue result ↔ IsFormedVar (beside below.now.table (record { classes = classes.now; vars = vars.now })) row.now }
 {
     if row.var.lib == NO_LIBRARY {
         return false;
@@ -105,14 +140,14 @@ fn is_formed_var(row: &VarRow, classes: &[ClassRow], vars: &[VarRow]) -> bool
     if !row.bound.is_earlier(row.var) {
         return false;
     }
-    row.bound.is_over(classes, vars)
+    row.bound.is_over(below, classes, vars)
 }
 
 // Whether the row of a class is well formed among the others.
-fn is_formed_class(row: &ClassRow, classes: &[ClassRow], vars: &[VarRow]) -> bool
+fn is_formed_class(below: &Rows, row: &ClassRow, classes: &[ClassRow], vars: &[VarRow]) -> bool
     requires classes_in_order { AllPairs (λ a b. class_before a.id b.id ≡ true) classes.now }
     requires vars_in_order { AllPairs (λ a b. var_before a.var b.var ≡ true) vars.now }
-    ensures { IsTrue result ↔ IsFormedClass (record { classes = classes.now; vars = vars.now }) row.now }
+    ensures { IsTrue result ↔ IsFormedClass (beside below.now.table (record { classes = classes.now; vars = vars.now })) row.now }
 {
     if !is_rooted(row) {
         return false;
@@ -123,10 +158,10 @@ fn is_formed_class(row: &ClassRow, classes: &[ClassRow], vars: &[VarRow]) -> boo
     if !row.supers.are_supertypes(row.params.as_slice()) {
         return false;
     }
-    if !row.supers.are_over(classes, vars) {
+    if !row.supers.are_over(below, classes, vars) {
         return false;
     }
-    u128::from(row.depth) == depth_over(classes, row.supers.as_slice())
+    u128::from(row.depth) == depth_over(below, classes, row.supers.as_slice())
 }
 
 // Whether the class is `Object` and has no supertype, or is `Function` and has `Object` alone, or is
@@ -177,24 +212,24 @@ impl DartType {
 }
 
 // The longest way up over one of these direct supertypes.
-fn depth_over(classes: &[ClassRow], supers: &[DartType]) -> u128
+fn depth_over(below: &Rows, classes: &[ClassRow], supers: &[DartType]) -> u128
     requires { AllPairs (λ a b. class_before a.id b.id ≡ true) classes.now }
-    ensures { result ≡ depth_above (record { classes = classes.now; vars = [] }) supers.now }
+    ensures { result ≡ depth_above (beside below.now.table (record { classes = classes.now; vars = [] })) supers.now }
 {
     let mut depth: u128 = 0;
     for v in supers {
-        depth = depth.max(u128::from(depth_from(classes, v)) + 1);
+        depth = depth.max(u128::from(depth_from(below, classes, v)) + 1);
     }
     depth
 }
 
 // The longest way up from a type, as the row of its class says.
-fn depth_from(classes: &[ClassRow], t: &DartType) -> u64
+fn depth_from(below: &Rows, classes: &[ClassRow], t: &DartType) -> u64
     requires { AllPairs (λ a b. class_before a.id b.id ≡ true) classes.now }
-    ensures { result ≡ head_depth (record { classes = classes.now; vars = [] }) t.now }
+    ensures { result ≡ head_depth (beside below.now.table (record { classes = classes.now; vars = [] })) t.now }
 {
     match &t.node {
-        TypeNode::Interface { class, .. } => depth_of_class(classes, *class),
+        TypeNode::Interface { class, .. } => depth_of_class(below, classes, *class),
         TypeNode::Invalid
         | TypeNode::Never
         | TypeNode::Void
@@ -207,11 +242,11 @@ fn depth_from(classes: &[ClassRow], t: &DartType) -> u64
 }
 
 // The longest way up from a class, as its row says; 0 without a row.
-fn depth_of_class(classes: &[ClassRow], class: ClassId) -> u64
+fn depth_of_class(below: &Rows, classes: &[ClassRow], class: ClassId) -> u64
     requires { AllPairs (λ a b. class_before a.id b.id ≡ true) classes.now }
-    ensures { result ≡ depth_of (record { classes = classes.now; vars = [] }) class }
+    ensures { result ≡ depth_of (beside below.now.table (record { classes = classes.now; vars = [] })) class }
 {
-    match find_row(classes, class) {
+    match row_beside(below, classes, class) {
         None => 0,
         Some(row) => row.depth,
     }

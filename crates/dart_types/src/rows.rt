@@ -1,35 +1,43 @@
 //! The rows of classes and type variables.
 
-ghost use Rattle.std.specs.Prelude.{◌≡◌, ◌↔◌, IfOk, IfErr, IsTrue, OnOk, slice_get};
+ghost use Rattle.std.specs.Prelude.{◌≡◌, ◌↔◌, [], None, IfOk, IfErr, OnOk, IsTrue, MatchOption};
 ghost use Rattle.std.specs.Option.{option_copied};
-ghost use Rattle.dart_types.specs.Tables.{class_of, bound_of};
-ghost use Rattle.dart_types.specs.Entries.{table_of};
+ghost use Rattle.dart_types.specs.Tables.{Table, class_of, bound_of};
+ghost use Rattle.dart_types.specs.Joined.{joined};
+ghost use Rattle.dart_types.specs.Entries.{IsEntry};
+ghost use Rattle.dart_types.specs.Libraries.{table_in};
+ghost use Rattle.dart_types.specs.Others.{AreOthers};
 ghost use Rattle.dart_types.specs.WellFormed.{IsWellFormed};
-ghost use Rattle.dart_types.specs.Superinterfaces.{AreSuperinterfaces, AreWithinLimit};
-ghost use Rattle.dart_types.specs.RowsCause.{IsCauseIn};
+ghost use Rattle.dart_types.specs.Superinterfaces.{AreSuperinterfaces};
+ghost use Rattle.dart_types.specs.RowsCause.{IsCauseIn, OwnFit};
 ghost use Rattle.dart_types.specs.FormedProp.{IsWellFormed-prop};
+ghost use Rattle.dart_types.specs.Unions.{IsFormedOver, IsUnion, IsView, AreViewsOfOne, HasClassOf, HasVarOf};
 
+use crate::class_libraries::{
+    SharedClasses, classes_by_library, copy_classes, find_classes, put_all_classes,
+};
 use crate::class_rows::{ClassRow, VarRow};
-use crate::entries::{ClassEntry, copy_entries, copy_vars, entries_of, find_bound, find_entry};
+use crate::entries::{ClassEntry, entries_of, find_bound, find_entry};
 use crate::filling::fill_all;
-use crate::ids::{ClassId, VarId};
+use crate::ids::{ClassId, LibId, VarId};
 use crate::refusal::RowsRefusal;
-use crate::row_checks::are_well_formed;
 use crate::superinterfaces::Superinterface;
 use crate::types::DartType;
+use crate::var_libraries::{SharedVars, copy_vars, find_vars, put_all_vars, vars_by_library};
 use std::alloc::{AllocError, Global};
 use std::marker::Model;
 
-/// Well-formed rows of classes and type variables, in the order of their ids. One is found by a
-/// binary search. Beside its row a class keeps its superinterfaces, so that they aren't looked for
+/// Well-formed rows of classes and type variables, in the order of their ids. Those of each library are
+/// shared, so a copy or a union costs two pointers a library. One is found by binary searches, of the
+/// library and in it. Beside its row a class keeps its superinterfaces, so that they aren't looked for
 /// along the ways that lead up to them.
 ///
 /// Contracts see the rows together with the proof that they are well formed.
 #[derive(Drop)]
 pub struct Rows {
-    classes: Vec<ClassEntry>,
-    vars: Vec<VarRow>,
-    ghost formed: { IsWellFormed (table_of classes.items vars.items) } by { IsWellFormed-prop (table_of classes.items vars.items) },
+    classes: Vec<SharedClasses>,
+    vars: Vec<SharedVars>,
+    ghost formed: { IsWellFormed (table_in classes.items vars.items) } by { IsWellFormed-prop (table_in classes.items vars.items) },
 }
 
 impl Model for Rows {
@@ -39,49 +47,81 @@ impl Model for Rows {
 
     ghost coded = { formed_table_code };
 
-    ghost use Rattle.dart_types.specs.Entries.{table_of, HaveSuperinterfaces};
+    ghost use Rattle.dart_types.specs.Libraries.{table_in, AreKept};
 
-    ghost view = { λ r. record { table = table_of r.classes.items r.vars.items; formed = r.formed } };
+    ghost view = { λ r. record { table = table_in r.classes.items r.vars.items; formed = r.formed } };
 
-    ghost invariant = { λ r. HaveSuperinterfaces r.classes.items r.vars.items };
+    ghost invariant = { λ r. AreKept r.classes.items r.vars.items };
 }
 
 impl Rows {
-    /// Whether rows of these classes and type variables are well formed, so that `new` takes them.
-    /// It takes no memory.
-    pub fn are_well_formed(classes: &[ClassRow], vars: &[VarRow]) -> bool
-        ensures { IsTrue result ↔ IsWellFormed (record { classes = classes.now; vars = vars.now }) }
+    /// No rows. It takes no memory.
+    pub fn none(alloc: Global) -> Rows
+        ensures { result.table ≡ record { classes = []; vars = [] } }
     {
-        are_well_formed(classes, vars)
+        Rows {
+            classes: Vec::new(alloc),
+            vars: Vec::new(alloc),
+        }
     }
 
-    /// The rows of these classes and type variables, with the superinterfaces of each class. Both
-    /// lists are in the order of their ids. `TooLarge` comes exactly where some class has a
-    /// superinterface, in its own parameters, in which more than `NODE_LIMIT` types stand; it names
-    /// one such class of the least depth.
-    pub fn new(
+    /// The rows below with own ones of other libraries, and the superinterfaces of each own class. Both
+    /// lists are in the order of their ids. `TooLarge` comes exactly where some own class has a
+    /// superinterface, in its own parameters, in which more than `NODE_LIMIT` types stand; it names one
+    /// such class of the least depth. The rows below are a view of the result, as `union` wants it.
+    pub fn extend(
         alloc: Global,
+        below: &Rows,
         classes: Vec<ClassRow>,
         vars: Vec<VarRow>,
     ) -> Result<Rows, RowsRefusal>
-        requires { IsWellFormed (record { classes = classes.items; vars = vars.items }) }
-        ensures ok { IfOk result (λ rows. rows.table ≡ record { classes = classes.items; vars = vars.items }) }
-        ensures ok_within_limit { OnOk result (AreWithinLimit (record { classes = classes.items; vars = vars.items })) }
-        ensures err { IfErr result (IsCauseIn (record { classes = classes.items; vars = vars.items })) }
+        requires { IsFormedOver below.now.table (record { classes = classes.items; vars = vars.items }) }
+        ensures ok { IfOk result (λ rows. IsUnion below.now.table (record { classes = classes.items; vars = vars.items }) rows.table) }
+        ensures fit { let own : Table = record { classes = classes.items; vars = vars.items } in OnOk result (OwnFit (joined below.now.table own) own) }
+        ensures view { IfOk result (λ rows. IsView below.now.table rows.table) }
+        ensures err { let own : Table = record { classes = classes.items; vars = vars.items } in IfErr result (IsCauseIn (joined below.now.table own) own) }
     {
         let mut entries = entries_of(alloc, classes)?;
-        fill_all(alloc, &mut entries, &vars)?;
+        fill_all(alloc, below, &mut entries, &vars)?;
+        let own_classes = classes_by_library(alloc, entries)?;
+        let own_vars = vars_by_library(alloc, vars)?;
+        let rows = below.with_libraries(alloc, &own_classes, &own_vars)?;
+        Ok(rows)
+    }
+
+    /// The rows of both. Each library that both have has the same rows in both.
+    pub fn union(&self, alloc: Global, other: &Rows) -> Result<Rows, AllocError>
+        requires { AreViewsOfOne self.now.table other.now.table }
+        ensures { IfOk result (λ rows. IsUnion self.now.table other.now.table rows.table) }
+    {
+        self.with_libraries(alloc, &other.classes, &other.vars)
+    }
+
+    // The rows with those of other libraries.
+    fn with_libraries(
+        &self,
+        alloc: Global,
+        classes: &[SharedClasses],
+        vars: &[SharedVars],
+    ) -> Result<Rows, AllocError>
+        requires { AreOthers self.now.table classes.now vars.now }
+        ensures { IfOk result (λ rows. IsUnion self.now.table (table_in classes.now vars.now) rows.table) }
+    {
+        let mut all_classes = copy_classes(alloc, &self.classes)?;
+        put_all_classes(&mut all_classes, classes)?;
+        let mut all_vars = copy_vars(alloc, &self.vars)?;
+        put_all_vars(&mut all_vars, vars)?;
         Ok(Rows {
-            classes: entries,
-            vars,
+            classes: all_classes,
+            vars: all_vars,
         })
     }
 
-    /// A second value of the same rows.
+    /// A second value of the same rows, which shares them.
     pub fn copy(&self, alloc: Global) -> Result<Rows, AllocError>
         ensures { IfOk result (λ copied. copied ≡ self.now) }
     {
-        let classes = copy_entries(alloc, &self.classes)?;
+        let classes = copy_classes(alloc, &self.classes)?;
         let vars = copy_vars(alloc, &self.vars)?;
         Ok(Rows { classes, vars })
     }
@@ -90,43 +130,59 @@ impl Rows {
     pub fn class(&self, class: ClassId) -> Option<&ClassRow>
         ensures { option_copied result ≡ class_of self.now.table class }
     {
-        match find_entry(&self.classes, class) {
+        match self.entry(class) {
             None => None,
             Some(entry) => Some(&entry.row),
         }
     }
 
-    /// The row of the class at a place, in the order of their ids. It takes no memory.
-    pub fn class_at(&self, place: usize) -> Option<&ClassRow>
-        ensures { option_copied result ≡ slice_get self.now.table.classes place }
+    // The row of a class with its superinterfaces, if it has one.
+    fn entry(&self, class: ClassId) -> Option<&ClassEntry>
+        ensures { MatchOption result (class_of self.now.table class ≡ None) (λ entry. IsEntry self.now.table class entry.now) }
     {
-        if place >= self.classes.len() {
-            return None;
+        match find_classes(&self.classes, class.lib) {
+            None => None,
+            Some(library) => find_entry(&library.entries, class),
         }
-        Some(&self.classes[place].row)
-    }
-
-    /// The rows of the type variables, in the order of their ids. It takes no memory.
-    pub fn vars(&self) -> &[VarRow]
-        ensures { result.now ≡ self.now.table.vars }
-    {
-        &self.vars
     }
 
     /// The bound of a type variable, if it has one. It takes no memory.
     pub fn bound(&self, var: VarId) -> Option<&DartType>
         ensures { option_copied result ≡ bound_of self.now.table var }
     {
-        find_bound(&self.vars, var)
+        match find_vars(&self.vars, var.lib) {
+            None => None,
+            Some(library) => find_bound(&library.rows, var),
+        }
     }
 
     /// The superinterfaces of a class, in the order of their classes. It takes no memory.
     pub fn superinterfaces(&self, class: ClassId) -> &[Superinterface]
         ensures { AreSuperinterfaces self.now.table class result.now }
     {
-        match find_entry(&self.classes, class) {
+        match self.entry(class) {
             None => &[],
             Some(entry) => &entry.superinterfaces,
+        }
+    }
+
+    /// Whether a library has classes here. It takes no memory.
+    pub(crate) fn has_classes_of(&self, lib: LibId) -> bool
+        ensures { IsTrue result ↔ HasClassOf self.now.table lib }
+    {
+        match find_classes(&self.classes, lib) {
+            None => false,
+            Some(_) => true,
+        }
+    }
+
+    /// Whether a library has type variables here. It takes no memory.
+    pub(crate) fn has_vars_of(&self, lib: LibId) -> bool
+        ensures { IsTrue result ↔ HasVarOf self.now.table lib }
+    {
+        match find_vars(&self.vars, lib) {
+            None => false,
+            Some(_) => true,
         }
     }
 }

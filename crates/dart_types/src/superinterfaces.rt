@@ -1,6 +1,6 @@
 //! A superinterface of a class, as its row keeps it.
 
-ghost use Rattle.std.specs.Prelude.{◌≡◌, ◌≤◌, true, false, length, filter, IfOk};
+ghost use Rattle.std.specs.Prelude.{◌≡◌, ◌≤◌, true, false, length, filter};
 ghost use Rattle.std.specs.List.Sorted.{IsPartitionPoint};
 ghost use Rattle.dart_types.specs.Same.{same_class};
 ghost use Rattle.dart_types.specs.WellFormed.{class_before};
@@ -8,7 +8,6 @@ ghost use Rattle.dart_types.specs.Superinterfaces.{AreOrdered};
 
 use crate::ids::ClassId;
 use crate::types::TypeList;
-use std::alloc::{AllocError, Global};
 
 /// A class that another class reaches by its direct supertypes, with its type arguments over the
 /// parameters of that other class, in normal form.
@@ -18,19 +17,6 @@ pub struct Superinterface {
     pub class: ClassId,
     /// Its type arguments.
     pub args: TypeList,
-}
-
-impl Superinterface {
-    /// A second value of the same superinterface.
-    pub(crate) fn copy(&self, alloc: Global) -> Result<Superinterface, AllocError>
-        ensures { IfOk result (λ copied. copied ≡ self.now) }
-    {
-        let args = self.args.copy(alloc)?;
-        Ok(Superinterface {
-            class: self.class,
-            args,
-        })
-    }
 }
 
 /// Of superinterfaces in the order of their classes those of one class, by binary searches.

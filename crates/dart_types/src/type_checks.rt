@@ -4,11 +4,13 @@ ghost use Rattle.std.specs.Prelude.{◌≡◌, ◌↔◌, [], All, AllPairs, IsS
 ghost use Rattle.dart_types.specs.Ty.{types_of};
 ghost use Rattle.dart_types.specs.Node.{function_type};
 ghost use Rattle.dart_types.specs.Tables.{class_of, bound_of};
+ghost use Rattle.dart_types.specs.Unions.{beside};
 ghost use Rattle.dart_types.specs.WellFormed.{is_among, class_before, var_before, IsSimple, IsSupertype, IsEarlierVar, IsEarlier, HasArguments, IsOver};
 
 use crate::class_rows::{ClassRow, VarRow};
-use crate::entries::{find_bound, find_row};
 use crate::ids::{ClassId, VarId};
+use crate::row_lookups::{bound_beside, row_beside};
+use crate::rows::Rows;
 use crate::types::{DartType, FunctionType, NamedTypes, TypeList, TypeNode};
 
 // Whether a variable is one of these.
@@ -34,22 +36,22 @@ fn is_earlier_var(x: VarId, y: VarId) -> bool
 }
 
 // Whether a type variable has a bound.
-fn has_bound(vars: &[VarRow], var: VarId) -> bool
+fn has_bound(below: &Rows, vars: &[VarRow], var: VarId) -> bool
     requires { AllPairs (λ a b. var_before a.var b.var ≡ true) vars.now }
-    ensures { IsTrue result ↔ IsSome (bound_of (record { classes = []; vars = vars.now }) var) }
+    ensures { IsTrue result ↔ IsSome (bound_of (beside below.now.table (record { classes = []; vars = vars.now })) var) }
 {
-    match find_bound(vars, var) {
+    match bound_beside(below, vars, var) {
         None => false,
         Some(_) => true,
     }
 }
 
 // Whether a class has a row with as many parameters as there are arguments.
-fn has_arguments(classes: &[ClassRow], class: ClassId, args: &TypeList) -> bool
+fn has_arguments(below: &Rows, classes: &[ClassRow], class: ClassId, args: &TypeList) -> bool
     requires { AllPairs (λ a b. class_before a.id b.id ≡ true) classes.now }
-    ensures { IsTrue result ↔ HasArguments (class_of (record { classes = classes.now; vars = [] }) class) (types_of args.now) }
+    ensures { IsTrue result ↔ HasArguments (class_of (beside below.now.table (record { classes = classes.now; vars = [] })) class) (types_of args.now) }
 {
-    match find_row(classes, class) {
+    match row_beside(below, classes, class) {
         None => false,
         Some(row) => args.as_slice().len() == row.params.as_slice().len(),
     }
@@ -113,10 +115,10 @@ impl DartType {
     /// Whether each class that the type names has a row with as many parameters as it has arguments
     /// there, and each variable in it has a bound.
     #[cycle(over)]
-    pub(crate) fn is_over(&self, classes: &[ClassRow], vars: &[VarRow]) -> bool
+    pub(crate) fn is_over(&self, below: &Rows, classes: &[ClassRow], vars: &[VarRow]) -> bool
         requires classes_in_order { AllPairs (λ a b. class_before a.id b.id ≡ true) classes.now }
         requires vars_in_order { AllPairs (λ a b. var_before a.var b.var ≡ true) vars.now }
-        ensures { IsTrue result ↔ IsOver (record { classes = classes.now; vars = vars.now }) self.now }
+        ensures { IsTrue result ↔ IsOver (beside below.now.table (record { classes = classes.now; vars = vars.now })) self.now }
     {
         match &self.node {
             TypeNode::Invalid => true,
@@ -124,20 +126,20 @@ impl DartType {
             TypeNode::Void => true,
             TypeNode::Null => true,
             TypeNode::Interface { class, args } => {
-                if !has_arguments(classes, *class, args) {
+                if !has_arguments(below, classes, *class, args) {
                     return false;
                 }
-                args.are_over(classes, vars)
+                args.are_over(below, classes, vars)
             }
-            TypeNode::Function(function) => function.is_over(classes, vars),
-            TypeNode::Var(var) => has_bound(vars, *var),
+            TypeNode::Function(function) => function.is_over(below, classes, vars),
+            TypeNode::Var(var) => has_bound(below, vars, *var),
             TypeNode::Promoted { var, to } => {
-                if !has_bound(vars, *var) {
+                if !has_bound(below, vars, *var) {
                     return false;
                 }
-                to.is_over(classes, vars)
+                to.is_over(below, classes, vars)
             }
-            TypeNode::Nullable(bare) => bare.is_over(classes, vars),
+            TypeNode::Nullable(bare) => bare.is_over(below, classes, vars),
         }
     }
 }
@@ -162,21 +164,21 @@ impl FunctionType {
 
     // Whether each class and each variable in its types has a row that fits.
     #[cycle(over)]
-    fn is_over(&self, classes: &[ClassRow], vars: &[VarRow]) -> bool
+    fn is_over(&self, below: &Rows, classes: &[ClassRow], vars: &[VarRow]) -> bool
         requires classes_in_order { AllPairs (λ a b. class_before a.id b.id ≡ true) classes.now }
         requires vars_in_order { AllPairs (λ a b. var_before a.var b.var ≡ true) vars.now }
-        ensures { IsTrue result ↔ IsOver (record { classes = classes.now; vars = vars.now }) (function_type self.now) }
+        ensures { IsTrue result ↔ IsOver (beside below.now.table (record { classes = classes.now; vars = vars.now })) (function_type self.now) }
     {
-        if !self.required.are_over(classes, vars) {
+        if !self.required.are_over(below, classes, vars) {
             return false;
         }
-        if !self.optional.are_over(classes, vars) {
+        if !self.optional.are_over(below, classes, vars) {
             return false;
         }
-        if !self.named.are_over(classes, vars) {
+        if !self.named.are_over(below, classes, vars) {
             return false;
         }
-        self.result.is_over(classes, vars)
+        self.result.is_over(below, classes, vars)
     }
 }
 
@@ -221,13 +223,13 @@ impl TypeList {
 
     /// Whether each class and each variable in the types has a row that fits.
     #[cycle(over)]
-    pub(crate) fn are_over(&self, classes: &[ClassRow], vars: &[VarRow]) -> bool
+    pub(crate) fn are_over(&self, below: &Rows, classes: &[ClassRow], vars: &[VarRow]) -> bool
         requires classes_in_order { AllPairs (λ a b. class_before a.id b.id ≡ true) classes.now }
         requires vars_in_order { AllPairs (λ a b. var_before a.var b.var ≡ true) vars.now }
-        ensures { IsTrue result ↔ All (IsOver (record { classes = classes.now; vars = vars.now })) self.now }
+        ensures { IsTrue result ↔ All (IsOver (beside below.now.table (record { classes = classes.now; vars = vars.now }))) self.now }
     {
         for item in &self.items {
-            if !item.is_over(classes, vars) {
+            if !item.is_over(below, classes, vars) {
                 return false;
             }
         }
@@ -251,13 +253,13 @@ impl NamedTypes {
 
     // Whether each class and each variable in the types of the parameters has a row that fits.
     #[cycle(over)]
-    fn are_over(&self, classes: &[ClassRow], vars: &[VarRow]) -> bool
+    fn are_over(&self, below: &Rows, classes: &[ClassRow], vars: &[VarRow]) -> bool
         requires classes_in_order { AllPairs (λ a b. class_before a.id b.id ≡ true) classes.now }
         requires vars_in_order { AllPairs (λ a b. var_before a.var b.var ≡ true) vars.now }
-        ensures { IsTrue result ↔ All (λ named. IsOver (record { classes = classes.now; vars = vars.now }) named.ty) self.now }
+        ensures { IsTrue result ↔ All (λ named. IsOver (beside below.now.table (record { classes = classes.now; vars = vars.now })) named.ty) self.now }
     {
         for item in &self.items {
-            if !item.ty.is_over(classes, vars) {
+            if !item.ty.is_over(below, classes, vars) {
                 return false;
             }
         }

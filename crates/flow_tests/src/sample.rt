@@ -74,10 +74,11 @@ pub(crate) fn rows(alloc: Global) -> Result<Rows, Fail> {
         var: var(1),
         bound: class_of(alloc, 1)?,
     })?;
-    if !Rows::are_well_formed(&classes, &vars) {
+    let none = Rows::none(alloc);
+    if !none.takes(&classes, &vars) {
         return Err("rows that aren't well formed".into());
     }
-    let rows = Rows::new(alloc, classes, vars)?;
+    let rows = Rows::extend(alloc, &none, classes, vars)?;
     Ok(rows)
 }
 

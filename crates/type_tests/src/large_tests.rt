@@ -215,10 +215,11 @@ fn doubling(alloc: Global, count: u32) -> Result<Option<RowsRefusal>, Fail> {
         classes.push(doubled(alloc, class.saturating_add(1), class, depth)?)?;
     }
     let vars = params(alloc, count.saturating_add(1))?;
-    if !Rows::are_well_formed(&classes, &vars) {
+    let none = Rows::none(alloc);
+    if !none.takes(&classes, &vars) {
         return Err("rows that aren't well formed".into());
     }
-    match Rows::new(alloc, classes, vars) {
+    match Rows::extend(alloc, &none, classes, vars) {
         Ok(_) => Ok(None),
         Err(why) => Ok(Some(why)),
     }

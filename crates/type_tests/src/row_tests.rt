@@ -1,8 +1,13 @@
 //! Which rows are well formed, and what rows answer.
 
+ghost use Rattle.std.specs.Prelude.{IfOk};
+ghost use Rattle.dart_types.specs.Unions.{IsView};
+
 use crate::notation::type_in;
 use crate::sample_rows::{Class, OTHER, class_row, sample_rows, var, var_row};
-use dart_types::{CORE, ClassId, LibId, NO_LIBRARY, Rows, is_subtype};
+use dart_types::{
+    CORE, ClassId, ClassRow, DartType, LibId, NO_LIBRARY, Rows, VarRow, is_subtype, view_law,
+};
 use std::alloc::Global;
 use std::test::Fail;
 
@@ -48,7 +53,7 @@ fn fits(alloc: Global, class: Class) -> Result<bool, Fail> {
     for index in [4, 6, 8, 18] {
         vars.push(var_row(alloc, CORE, index, "o?")?)?;
     }
-    Ok(Rows::are_well_formed(&classes, &vars))
+    Ok(Rows::none(alloc).takes(&classes, &vars))
 }
 
 // Whether rows of Object with so many parameters are well formed.
@@ -57,7 +62,7 @@ fn object_takes(alloc: Global, params: u32) -> Result<bool, Fail> {
     classes.push(class_row(alloc, (b'o', CORE, 0, params, "", 0))?)?;
     let mut vars = Vec::new(alloc);
     vars.push(var_row(alloc, CORE, 0, "V")?)?;
-    Ok(Rows::are_well_formed(&classes, &vars))
+    Ok(Rows::none(alloc).takes(&classes, &vars))
 }
 
 // Whether rows of Object and of a type variable of this library are well formed.
@@ -66,7 +71,7 @@ fn declares(alloc: Global, lib: LibId) -> Result<bool, Fail> {
     classes.push(class_row(alloc, OBJECT_ROW)?)?;
     let mut vars = Vec::new(alloc);
     vars.push(var_row(alloc, lib, 7, "o?")?)?;
-    Ok(Rows::are_well_formed(&classes, &vars))
+    Ok(Rows::none(alloc).takes(&classes, &vars))
 }
 
 // The first row whose answer is another.
@@ -97,12 +102,54 @@ fn rows(rt: HostRuntime) -> Result<(), Fail> {
     assert!(rt; is_subtype(&copied, &s, &t));
     assert!(rt; copied.class(class(CORE, 8)).is_some());
     assert!(rt; copied.class(class(CORE, 77)).is_none());
-    assert!(rt; copied.class_at(28).is_some());
-    assert!(rt; copied.class_at(29).is_none());
-    assert_eq!(rt; copied.vars().len(), 92);
     assert!(rt; copied.bound(var(15)).is_some());
     assert!(rt; copied.bound(var(16)).is_none());
     assert_eq!(rt; copied.superinterfaces(class(CORE, 4)).len(), 3);
     assert_eq!(rt; copied.superinterfaces(class(OTHER, 4)).len(), 4);
+    Ok(())
+}
+
+// A class of another library, which is a `G` of `num` by a class of the sample rows.
+fn other_class(alloc: Global, lib: LibId) -> Result<Vec<ClassRow>, Fail> {
+    let mut classes = Vec::new(alloc);
+    classes.push(class_row(alloc, (b' ', lib, 0, 0, "nH", 3))?)?;
+    Ok(classes)
+}
+
+// These rows with a class of another library.
+fn with_other(alloc: Global, below: &Rows, lib: LibId) -> Result<Rows, Fail>
+    ensures { IfOk result (λ rows. IsView below.now.table rows.table) }
+{
+    let classes = other_class(alloc, lib)?;
+    let vars: Vec<VarRow> = Vec::new(alloc);
+    if !below.takes(&classes, &vars) {
+        return Err("rows that aren't well formed".into());
+    }
+    let rows = Rows::extend(alloc, below, classes, vars)?;
+    Ok(rows)
+}
+
+#[test]
+fn rows_over_others(rt: HostRuntime) -> Result<(), Fail> {
+    let alloc = rt.alloc();
+    let below = sample_rows(alloc)?;
+    let left = with_other(alloc, &below, LibId(7))?;
+    let again = other_class(alloc, LibId(7))?;
+    let vars: Vec<VarRow> = Vec::new(alloc);
+    assert!(rt; !left.takes(&again, &vars));
+    let right = with_other(alloc, &left, LibId(5))?;
+    view_law(&left, &right);
+    let both = left.union(alloc, &right)?;
+    for lib in [5, 7] {
+        assert!(rt; below.class(class(LibId(lib), 0)).is_none());
+        assert!(rt; both.class(class(LibId(lib), 0)).is_some());
+        assert_eq!(rt; both.superinterfaces(class(LibId(lib), 0)).len(), 3);
+    }
+    assert!(rt; left.class(class(LibId(5), 0)).is_none());
+    assert!(rt; both.class(class(OTHER, 1)).is_some());
+    let s = DartType::class(alloc, class(LibId(5), 0))?;
+    assert!(rt; is_subtype(&both, &s, &type_in(alloc, "nG")?));
+    assert!(rt; !is_subtype(&both, &s, &type_in(alloc, "iG")?));
+    assert!(rt; is_subtype(&both, &type_in(alloc, "Q")?, &type_in(alloc, "nG")?));
     Ok(())
 }

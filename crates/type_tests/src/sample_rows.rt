@@ -178,10 +178,11 @@ pub(crate) fn rows_of(
     classes: Vec<ClassRow>,
     vars: Vec<VarRow>,
 ) -> Result<Rows, Fail> {
-    if !Rows::are_well_formed(&classes, &vars) {
+    let none = Rows::none(alloc);
+    if !none.takes(&classes, &vars) {
         return Err("rows that aren't well formed".into());
     }
-    let rows = Rows::new(alloc, classes, vars)?;
+    let rows = Rows::extend(alloc, &none, classes, vars)?;
     Ok(rows)
 }
 

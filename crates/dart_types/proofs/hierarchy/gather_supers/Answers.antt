@@ -1,7 +1,7 @@
 use Rattle.std.proofs.Common.{◌+◌, List, sym, subst}
 use Rattle.std.specs.Prelude.{Contains}
 use Rattle.dart_types.specs.Ty.{Ty}
-use Rattle.dart_types.specs.Entries.{table_of}
+use Rattle.dart_types.specs.Entries.{among}
 use Rattle.dart_types.specs.Gathering.{Adds, IsGivenBy, IsGiven, IsCauseAmong}
 use Rattle.dart_types.proofs.Gathered.{First, adds_nothing, adds_both, adds_same, cause_among, handed_on, first_none, first_next, next_first, first_all, all_first}
 use Rattle.dart_types.proofs.hierarchy.gather_supers.Goals as goal
@@ -12,12 +12,12 @@ gather_super-requires-clause-direct c =
 
 pub loop-v-init : goal.loop-v-init
 loop-v-init c =
-    let want = IsGivenBy (table_of c.args.entries.now c.args.vars.now) in
+    let want = IsGivenBy (among c.args.below.now.table c.args.entries.now c.args.vars.now) in
     (adds_nothing (First want c.as_slice-v-items.result.now 0) c.args.list.now.items (first_none want c.as_slice-v-items.result.now), c.requires.in_order)
 
 pub loop-v-preserved : goal.loop-v-preserved
 loop-v-preserved c =
-    let want = IsGivenBy (table_of c.args.entries.now c.args.vars.now) in
+    let want = IsGivenBy (among c.args.below.now.table c.args.entries.now c.args.vars.now) in
     let vs = c.as_slice-v-items.result.now in
     let i = c.loop-v.v-index in
     let v = c.v-item.result in
@@ -28,7 +28,7 @@ loop-v-preserved c =
 
 pub returns-in_err-gather_super-clause-err : goal.returns-in_err-gather_super-clause-err
 returns-in_err-gather_super-clause-err c =
-    let table = table_of c.args.entries.now c.args.vars.now in
+    let table = among c.args.below.now.table c.args.entries.now c.args.vars.now in
     let want = IsGivenBy table in
     let vs = c.as_slice-v-items.result.now in
     let i = c.loop-v.v-index in
@@ -38,7 +38,7 @@ returns-in_err-gather_super-clause-err c =
 
 pub returns-clause-ok : goal.returns-clause-ok
 returns-clause-ok c =
-    let table = table_of c.args.entries.now c.args.vars.now in
+    let table = among c.args.below.now.table c.args.entries.now c.args.vars.now in
     let want = IsGivenBy table in
     let vs = c.as_slice-v-items.result.now in
     let i = c.loop-v.v-index in

@@ -1,13 +1,14 @@
 use Rattle.std.proofs.Common.{arith}
 use Rattle.dart_types.specs.WellFormed.{IsFormedClass}
+use Rattle.dart_types.specs.Unions.{beside}
 use Rattle.dart_types.proofs.RowTests.{all_next, all_done}
 use Rattle.dart_types.proofs.Steps.{yes, granted}
 use Rattle.dart_types.proofs.row_checks.are_formed_classes.Goals as goal
 
 pub loop-row-preserved : goal.loop-row-preserved
 loop-row-preserved c =
-    all_next (IsFormedClass (record { classes = c.args.classes.now; vars = c.args.vars.now })) c.args.classes.now c.loop-row.row-index c.row-item.result c.loop-row-test.true c.row-item.is c.loop-row.invariant (granted c.is_formed_class.ensures c.if-not-is_formed_class.false)
+    all_next (IsFormedClass (beside c.args.below.now.table (record { classes = c.args.classes.now; vars = c.args.vars.now }))) c.args.classes.now c.loop-row.row-index c.row-item.result c.loop-row-test.true c.row-item.is c.loop-row.invariant (granted c.is_formed_class.ensures c.if-not-is_formed_class.false)
 
 pub returns : goal.returns
 returns c =
-    yes (all_done (IsFormedClass (record { classes = c.args.classes.now; vars = c.args.vars.now })) c.args.classes.now c.loop-row.row-index (omega arith) c.loop-row.invariant)
+    yes (all_done (IsFormedClass (beside c.args.below.now.table (record { classes = c.args.classes.now; vars = c.args.vars.now }))) c.args.classes.now c.loop-row.row-index (omega arith) c.loop-row.invariant)
