@@ -43,3 +43,4 @@ pub mod Joined
 pub mod Merged
 pub mod Found
 pub mod Extended
+pub mod HeadTests

@@ -4,7 +4,7 @@ use Rattle.std.specs.Prelude.{Contains}
 use Rattle.dart_types.specs.Ty.{Ty, Types, Named, invalid, never, void, null, interface, function, variable, promoted, nullable, no_more, more, no_named, more_named}
 use Rattle.dart_types.specs.Tables.{Table, bound_of}
 use Rattle.dart_types.specs.WellFormed.{IsEarlier, AreEarlier, AreEarlierNamed, IsWellFormed}
-use Rattle.dart_types.specs.Measure.{VarMeasure, weight, weights, weights_named, deep, deeps, heavy, heavies, of_bound, by_bounds, of_var, most_of, deepness_of}
+use Rattle.dart_types.specs.Measure.{VarMeasure, weight, weights, weights_named, deep, deeps, heavy, heavies, of_bound, by_bounds, of_var, most_of, weight_of, deepness_of}
 use Rattle.dart_types.specs.declared.ids.VarId.{VarId}
 use Rattle.dart_types.proofs.Formed.{formed_bound}
 
@@ -106,3 +106,8 @@ module _ (table : Table) (wf : IsWellFormed table) where
   pub bound_deepness : (x : VarId) (b : Ty) → bound_of table x ≡ Some b → deepness_of table b + 1 ≤ deepness_of table (variable x)
   unfolding deepness_of
   bound_deepness x b e = omega (arith, bound_le deep deep_local x b e)
+
+  -- and weighs less
+  pub bound_weight : (x : VarId) (b : Ty) → bound_of table x ≡ Some b → weight_of table b + 1 ≤ weight_of table (variable x)
+  unfolding weight_of
+  bound_weight x b e = omega (arith, bound_le weight weight_local x b e)

@@ -4,14 +4,10 @@ use Rattle.dart_types.specs.Ty.{Ty, Types, Named, interface, function, no_more, 
 use Rattle.dart_types.specs.Tables.{Table}
 use Rattle.dart_types.specs.WellFormed.{IsWellFormed}
 use Rattle.dart_types.specs.Measure.{VarMeasure, weight, weights, weights_named, deep, deeps, heavy, heavies, of_var, weight_of, deepness_of, heaviest_of, measure}
+pub use Rattle.dart_types.specs.Parts.{HasType, at_first, at_later}
 use Rattle.dart_types.specs.Sub.{HasNamed, first, later}
 use Rattle.dart_types.specs.declared.ids.ClassId.{ClassId}
 use Rattle.dart_types.proofs.MeasureFalls.{heaviest_weight, falls_both, falls_swapped}
-
--- the type is one of these
-pub data HasType : Types → Ty → Type 0 where
-  at_first : {t : Ty} {ts : Types} → HasType (more t ts) t
-  at_later : {t u : Ty} {ts : Types} → HasType ts t → HasType (more u ts) t
 
 -- a part measures no more than the whole
 weight_in : (f : VarMeasure) {ts : Types} {t : Ty} → HasType ts t → weight f t ≤ weights f ts

@@ -41,3 +41,4 @@ pub mod Others
 pub mod Known
 pub mod Invalid
 pub mod CoreClasses
+pub mod Parts

@@ -37,8 +37,10 @@ fn gather_interface(
     requires direct { Contains row.now.supers (interface class (types_of args.now)) }
     requires known { AreKnownBelow row.now.depth (among below.now.table entries.now vars.now) entries.now }
     requires in_order { AreOrdered list.old.items }
-    ensures ok { OnOk result (Adds (IsGivenBy (among below.now.table entries.now vars.now) (interface class (types_of args.now))) list.old.items list.new.items) }
-    ensures err { IfErr result (IsCauseAmong (IsGivenBy (among below.now.table entries.now vars.now) (interface class (types_of args.now))) row.now.id) }
+    ensures ok { let given = IsGivenBy (among below.now.table entries.now vars.now) (interface class (types_of args.now)) in
+        OnOk result (Adds given list.old.items list.new.items) }
+    ensures err { let given = IsGivenBy (among below.now.table entries.now vars.now) (interface class (types_of args.now)) in
+        IfErr result (IsCauseAmong given row.now.id) }
 {
     let own = form(alloc, row.id, class, args, &[])?;
     add(list, own)?;

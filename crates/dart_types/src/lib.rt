@@ -52,8 +52,10 @@ pub use ids::{
     OBJECT, RANGE_ERROR, STACK_OVERFLOW_ERROR, STACK_TRACE, STATE_ERROR, STRING, TYPE_ERROR, VarId,
 };
 pub use laws::{
-    constants_are_those_of_the_rules, more_rows_laws, normal_form_laws,
-    substitution_keeps_subtypes, subtype_laws, subtype_test_law, union_laws, view_law, views_law,
+    bound_laws, class_row_laws, constants_are_those_of_the_rules, count_laws, equality_laws,
+    form_laws, measure_laws, more_rows_laws, named_parameter_laws, normal_form_laws, size_laws,
+    substitution_keeps_subtypes, subtype_laws, subtype_test_law, superinterface_laws, union_laws,
+    view_law, views_law,
 };
 pub use refusal::{NODE_LIMIT, RowsRefusal, TypeRefusal};
 pub use rows::Rows;

@@ -167,7 +167,8 @@ fn is_formed_class(below: &Rows, row: &ClassRow, classes: &[ClassRow], vars: &[V
 // Whether the class is `Object` and has no supertype, or is `Function` and has `Object` alone, or is
 // another class and has one at least.
 fn is_rooted(row: &ClassRow) -> bool
-    ensures { let r = row.now in IsTrue result ↔ ((r.id ≡ OBJECT → r.supers ≡ []) × (r.id ≡ FUNCTION → r.supers ≡ object ∷ []) × (r.id ≢ OBJECT → r.supers ≢ [])) }
+    ensures { let r = row.now in IsTrue result
+        ↔ ((r.id ≡ OBJECT → r.supers ≡ []) × (r.id ≡ FUNCTION → r.supers ≡ object ∷ []) × (r.id ≢ OBJECT → r.supers ≢ [])) }
 {
     let supers = row.supers.as_slice();
     if row.id == OBJECT {

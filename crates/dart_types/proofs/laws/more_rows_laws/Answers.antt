@@ -10,10 +10,10 @@ returns c =
     let large = c.args._large.now.table in
     let wf = c.args._small.now.formed in
     let large_wf = c.args._large.now.formed in
-    let wider = wider_from small large c.requires.larger large_wf.classes_in_order large_wf.vars_in_order in
+    let wider = wider_from small large c.requires large_wf.classes_in_order large_wf.vars_in_order in
     record {
-      over = over_wider small large wider c.args._s.now c.requires.left;
-      subtypes = (sub_wider small large wider, sub_back small large wider wf large_wf c.requires.left c.requires.right);
+      over = over_wider small large wider;
+      subtypes = λ s t o p. (sub_wider small large wider, sub_back small large wider wf large_wf o p);
       rows = λ k h. let row = some_of (class_of small k) h in row.1 ∙ sym (wider.classes k row.0 row.1);
       bounds = λ x h. let b = some_of (bound_of small x) h in b.1 ∙ sym (wider.vars x b.0 b.1);
       superinterfaces = λ k v h. let row = some_of (class_of small k) h in (super_wider small large wider, λ s. (super_back small large wider wf row.0 row.1 s).0);

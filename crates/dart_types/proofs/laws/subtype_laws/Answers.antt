@@ -1,9 +1,16 @@
-use Rattle.dart_types.specs.Sub.{reflexivity}
+use Rattle.dart_types.specs.Sub.{reflexivity, left_nullable}
+use Rattle.dart_types.proofs.Above.{nullable_bare, nullable_null}
+use Rattle.dart_types.proofs.Climb.{climb_up}
 use Rattle.dart_types.proofs.Transitive.{trans}
 use Rattle.dart_types.proofs.laws.subtype_laws.Goals as goal
 
-pub returns-clause-reflexive : goal.returns-clause-reflexive
-returns-clause-reflexive c = reflexivity
-
-pub returns-clause-transitive : goal.returns-clause-transitive
-returns-clause-transitive c = trans c.args._rows.now.table c.args._rows.now.formed c.args._t.now c.args._s.now c.args._u.now
+pub returns : goal.returns
+returns c =
+    let table = c.args._rows.now.table in
+    let wf = c.args._rows.now.formed in
+    record {
+      reflexive = λ t. reflexivity;
+      transitive = λ s t u. trans table wf t s u;
+      nullable = λ s t. ((λ a. (nullable_bare table a, nullable_null table a)), (λ p. left_nullable p.0 p.1));
+      superinterfaces = λ k ss row v t r n h a. climb_up table wf k ss row r n h a;
+    }
