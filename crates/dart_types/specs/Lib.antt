@@ -42,3 +42,4 @@ pub mod Known
 pub mod Invalid
 pub mod CoreClasses
 pub mod Parts
+pub mod Laws

@@ -6,6 +6,7 @@ ghost use Rattle.dart_types.specs.Same.{same_class, same_var, same_type, same_ty
 ghost use Rattle.dart_types.specs.Heads.{object, is_object, is_function_class, is_top};
 ghost use Rattle.dart_types.specs.Named.{named_of, names_of, AreInOrder};
 ghost use Rattle.dart_types.specs.Normal.{normal, normal_all, nullable_of};
+ghost use Rattle.dart_types.specs.Laws.{RowLaws, MoreRows};
 ghost use Rattle.dart_types.specs.Marks.{takes_mark};
 ghost use Rattle.dart_types.specs.Sizes.{size_of};
 ghost use Rattle.dart_types.specs.Parts.{HasType};
@@ -175,6 +176,11 @@ pub fn substitution_keeps_subtypes(_rows: &Rows)
         → Sub _rows.now.table s t → Sub _rows.now.table (put σ s) (put σ t) }
 {}
 
+/// The laws of rows as one value, for functions of crates above whose proofs go by several.
+pub fn row_laws(_rows: &Rows)
+    ensures { RowLaws _rows.now.table }
+{}
+
 /// More rows change nothing: types over the smaller rows are over the larger ones too, and there the
 /// same types are their subtypes, the rows of their classes are the same, and so are superinterfaces
 /// and bounds.
@@ -187,6 +193,12 @@ pub fn more_rows_laws(_small: &Rows, _large: &Rows)
     ensures bounds { (x : VarId) → IsSome (bound_of _small.now.table x) → bound_of _small.now.table x ≡ bound_of _large.now.table x }
     ensures superinterfaces { (c : ClassId) (v : Ty) → IsSome (class_of _small.now.table c)
         → IsSuperinterface _small.now.table c v ↔ IsSuperinterface _large.now.table c v }
+{}
+
+/// What larger rows leave as it is, as one value.
+pub fn wider_rows_laws(_small: &Rows, _large: &Rows)
+    requires { Extends _small.now.table _large.now.table }
+    ensures { MoreRows _small.now.table _large.now.table }
 {}
 
 /// A union has the rows of both; and where both are views of one table it is one too, so that it may be
