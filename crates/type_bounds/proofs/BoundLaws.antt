@@ -2,20 +2,19 @@
 use Rattle.std.proofs.Common.{◌≡◌, ℕ, ◌+◌, Bool, true, List, refl, sym, ◌∙◌, ap, subst, arith}
 use Rattle.std.specs.Prelude.{◌&&◌, ◌||◌, nat_eq, bytes_eq, not}
 use Rattle.std.specs.Cmp.Lexicographic.{bytes_decides}
+use Rattle.std.proofs.lemmas.Bool.{and_parts}
 use Rattle.dart_types.specs.Ty.{Ty, Types, Named, invalid, never, void, null, interface, function, variable, promoted, nullable, no_more, more, more_named, count, join}
 use Rattle.dart_types.specs.Named.{has_name}
 use Rattle.dart_types.specs.Normal.{nullable_of}
 use Rattle.dart_types.specs.Tables.{Table}
-use Rattle.dart_types.specs.WellFormed.{IsWellFormed}
 use Rattle.dart_types.specs.Sub.{Sub, Subs, SubParams, SubNamed, HasNamed, first, later, is_required, reflexivity, right_top, left_bottom, left_null, right_object, left_nullable, right_nullable, left_promoted_variable, left_promoted_type, left_variable_bound, interface_arguments, function_class, function_types, none_left, one_left, no_param, one_param, no_name, one_name}
 use Rattle.dart_types.specs.declared.ids.ClassId.{ClassId}
 use Rattle.dart_types.specs.declared.ids.VarId.{VarId}
-use Rattle.dart_types.proofs.SameIds.{both_true, nat_from_test, equal_from_same_class, equal_from_same_var}
-use Rattle.dart_types.proofs.NamedParams.{required_from}
-use Rattle.dart_types.proofs.Transitive.{trans}
+use Rattle.dart_types.specs.Laws.{RowLaws}
 use Rattle.type_bounds.specs.Signatures.{required_are_in, some_type, some_named, have_upper}
 use Rattle.type_bounds.specs.Bounds.{bare_of, Upper, right_above, left_above, upper_apart, UpperApart, null_left, null_right, marked_either, promoted_twice, variable_left, promoted_left, variable_right, promoted_right, upper_functions, upper_of_others, function_and_class, class_and_function, one_class, two_classes, unbound_left, unbound_right, invalid_left, invalid_right, other_arguments, unknown_class, Uppers, no_upper, one_upper, UpperNamed, no_upper_name, upper_name, Lower, left_below, right_below, lower_apart, LowerApart, marked_both, marked_once, lower_functions, lower_of_others, nothing_below, LowerParams, left_ends, right_ends, one_lower, LowerNamed, no_lower_name, lower_name, other_name}
 use Rattle.type_bounds.specs.Valid.{IsValid, AreValid, AreValidNamed}
+use Rattle.type_bounds.proofs.General.{nat_from_test, equal_from_same_class, equal_from_same_var}
 use Rattle.type_bounds.proofs.NamedBounds.{or_true, or_left, or_right, type_is_named, not_named, required_is_named, required_in_other, required_here, when_true}
 use Rattle.type_bounds.proofs.Supers.{is_above}
 use Rattle.type_bounds.proofs.ValidRows.{valid_unmarked}
@@ -95,12 +94,12 @@ module _ (table : Table) where
   lower_requires_left no_lower_name h m k = cc
   lower_requires_left (lower_name {n = n} {r = r} {ns = ns} {ms = ms} {us = us} e a rest) h m k =
       or_true (bytes_eq n m && r) (is_required ns m) k
-      (λ here. let parts = both_true (bytes_eq n m) r here in required_here n m (r || is_required ms n) (is_required us m) parts.0 (or_left r (is_required ms n) parts.1))
-      (λ behind. or_right (bytes_eq n m && (r || is_required ms n)) (is_required us m) (lower_requires_left rest (both_true _ (required_are_in ns ms) h).1 m behind))
+      (λ here. let parts = and_parts (bytes_eq n m) r here in required_here n m (r || is_required ms n) (is_required us m) parts.0 (or_left r (is_required ms n) parts.1))
+      (λ behind. or_right (bytes_eq n m && (r || is_required ms n)) (is_required us m) (lower_requires_left rest (and_parts _ (required_are_in ns ms) h).1 m behind))
   lower_requires_left (other_name {n = n} {r = r} {ns = ns} {ms = ms} {us = us} e rest) h m k =
       or_true (bytes_eq n m && r) (is_required ns m) k
-      (λ here. absurd (not_named ms n e (when_true r (both_true (bytes_eq n m) r here).1 (both_true _ (required_are_in ns ms) h).0)))
-      (λ behind. lower_requires_left rest (both_true _ (required_are_in ns ms) h).1 m behind)
+      (λ here. absurd (not_named ms n e (when_true r (and_parts (bytes_eq n m) r here).1 (and_parts _ (required_are_in ns ms) h).0)))
+      (λ behind. lower_requires_left rest (and_parts _ (required_are_in ns ms) h).1 m behind)
 
   -- and so is what the second requires, where the first has the name
   lower_requires_right : {ns ms us : Named} → LowerNamed table ns ms us → (m : List ℕ) → is_required ms m ≡ true → has_name ns m ≡ true → is_required us m ≡ true
@@ -124,8 +123,8 @@ module _ (table : Table) where
   upper_requires (upper_name {n = n} {m = n'} {r = r} {q = q} {ns = ns} {ms = ms} {us = us} h a rest) m k =
       or_true (bytes_eq n m && (r && q)) (is_required us m) k
       (λ here.
-      let parts = both_true (bytes_eq n m) (r && q) here in
-      let flags = both_true r q parts.1 in
+      let parts = and_parts (bytes_eq n m) (r && q) here in
+      let flags = and_parts r q parts.1 in
       (required_here n m r (is_required ns m) parts.0 flags.0, required_here n' m q (is_required ms m) (subst (λ (l : List ℕ). bytes_eq l m ≡ true) ((bytes_decides n n').0 h) parts.0) flags.1))
       (λ behind.
       let both = upper_requires rest m behind in
@@ -134,13 +133,13 @@ module _ (table : Table) where
   -- what two signatures with an upper bound agree on
   upper_counts : (r o : Types) (n : Named) (r' o' : Types) (n' : Named) → have_upper r o n r' o' n' ≡ true → (count r ≡ count r') × ((required_are_in n n' ≡ true) × (required_are_in n' n ≡ true))
   upper_counts r o n r' o' n' h =
-      let a = both_true (nat_eq (count r) (count r') && (required_are_in n n' && required_are_in n' n)) (not ((some_type o && some_named n') || (some_type o' && some_named n))) h in
-      let b = both_true (nat_eq (count r) (count r')) (required_are_in n n' && required_are_in n' n) a.0 in
-      (nat_from_test (count r) (count r') b.0, both_true (required_are_in n n') (required_are_in n' n) b.1)
+      let a = and_parts (nat_eq (count r) (count r') && (required_are_in n n' && required_are_in n' n)) (not ((some_type o && some_named n') || (some_type o' && some_named n))) h in
+      let b = and_parts (nat_eq (count r) (count r')) (required_are_in n n' && required_are_in n' n) a.0 in
+      (nat_from_test (count r) (count r') b.0, and_parts (required_are_in n n') (required_are_in n' n) b.1)
 
-  module _ (wf : IsWellFormed table) where
+  module _ (laws : RowLaws table) where
     go : {s t u : Ty} → Sub table s t → Sub table t u → Sub table s u
-    go {s} {t} {u} a b = trans table wf t s u a b
+    go {s} {t} {u} a b = laws.sub_transitive s t u a b
 
     -- a type is below the upper bound of its bare type with `?`
     marked_over : (s u : Ty) → Sub table (bare_of s) u → Sub table s (nullable_of u)
@@ -177,8 +176,8 @@ module _ (table : Table) where
           let op = lower_params os v.1 in
           let np = lower_named ns v.2 in
           let size = count_lower rs counts.0 in (
-            function_types (omega (arith, size)) (joined size rp.0 op.0) np.0 (required_from n n'' (lower_requires_left ns counts.1.0)) k.0,
-            function_types (omega (arith, size, counts.0)) (joined (size ∙ counts.0) rp.1 op.1) np.1 (required_from n' n'' (λ m q. lower_requires_right ns m q (required_in_other n' n m counts.1.1 q))) k.1,
+            function_types (omega (arith, size)) (joined size rp.0 op.0) np.0 (laws.types.required_from n n'' (lower_requires_left ns counts.1.0)) k.0,
+            function_types (omega (arith, size, counts.0)) (joined (size ∙ counts.0) rp.1 op.1) np.1 (laws.types.required_from n' n'' (λ m q. lower_requires_right ns m q (required_in_other n' n m counts.1.1 q))) k.1,
           )
       apart_above (upper_of_others h) v = (function_class refl, function_class refl)
       apart_above function_and_class v = (right_object refl refl, right_object refl refl)
@@ -186,7 +185,7 @@ module _ (table : Table) where
       apart_above (one_class {c = c} {d = d} {ts = ts} {us = us} h a) v =
           let k = uppers_above a v in
           (interface_arguments k.0, subst (λ (e : ClassId). Sub table (interface e ts) (interface c us)) (equal_from_same_class c d h) (interface_arguments k.1))
-      apart_above (two_classes {c = c} {d = d} {ss = ss} {ts = ts} {u = u} h a) v = (is_above table wf c ss u a.common.0, is_above table wf d ts u a.common.1)
+      apart_above (two_classes {c = c} {d = d} {ss = ss} {ts = ts} {u = u} h a) v = (is_above table laws c ss u a.common.0, is_above table laws d ts u a.common.1)
       apart_above (unbound_left h e) v = absurd v
       apart_above (unbound_right h e) v = absurd v
       apart_above (invalid_left h) v = absurd v
@@ -219,8 +218,8 @@ module _ (table : Table) where
           let rp = uppers_above rs v.0 in
           let op = uppers_above os v.1 in
           let np = upper_named ns v.2 in (
-            function_types (omega (arith, count_subs rp.0)) (joined (count_subs rp.0) (params_from rp.0) (params_from op.0)) np.0 (required_from n'' n (λ m q. (upper_requires ns m q).0)) k.0,
-            function_types (omega (arith, count_subs rp.1)) (joined (count_subs rp.1) (params_from rp.1) (params_from op.1)) np.1 (required_from n'' n' (λ m q. (upper_requires ns m q).1)) k.1,
+            function_types (omega (arith, count_subs rp.0)) (joined (count_subs rp.0) (params_from rp.0) (params_from op.0)) np.0 (laws.types.required_from n'' n (λ m q. (upper_requires ns m q).0)) k.0,
+            function_types (omega (arith, count_subs rp.1)) (joined (count_subs rp.1) (params_from rp.1) (params_from op.1)) np.1 (laws.types.required_from n'' n' (λ m q. (upper_requires ns m q).1)) k.1,
           )
       apart_below (lower_of_others h) v = (left_bottom, left_bottom)
       apart_below (nothing_below p q) v = (left_bottom, left_bottom)

@@ -2,6 +2,7 @@
 use Rattle.std.proofs.Common.{◌≡◌, ℕ, zero, suc, ◌+◌, ◌<◌, ◌≤◌, Bool, true, false, Option, Some, None, refl, sym, subst, cond, arith}
 use Rattle.std.specs.Prelude.{◌&&◌, ◌||◌, nat_eq, bytes_eq, unwrap_or}
 use Rattle.std.specs.Option.{option_map_or}
+use Rattle.std.proofs.lemmas.Bool.{and_parts}
 use Rattle.dart_types.specs.Ty.{Ty, Types, Named, invalid, never, void, null, interface, function, variable, promoted, nullable, no_more, more, no_named, more_named, count}
 use Rattle.dart_types.specs.Named.{type_named}
 use Rattle.dart_types.specs.Marks.{is_marked}
@@ -11,15 +12,14 @@ use Rattle.dart_types.specs.Same.{same_class}
 use Rattle.dart_types.specs.Sub.{Sub, is_required, right_top, left_bottom}
 use Rattle.dart_types.specs.SubTest.{sub, is_null}
 use Rattle.dart_types.specs.Tables.{Table, bound_of}
-use Rattle.dart_types.specs.WellFormed.{IsWellFormed}
 use Rattle.dart_types.specs.declared.ids.ClassId.{ClassId}
 use Rattle.dart_types.specs.declared.ids.TheConstants.{FUNCTION}
-use Rattle.dart_types.proofs.Derives.{sub_sound, sub_complete}
-use Rattle.dart_types.proofs.SameIds.{both_true, nat_from_test, nat_eq-refl}
+use Rattle.dart_types.specs.Laws.{RowLaws}
 use Rattle.type_bounds.specs.Bounds.{AreApart, bare_of, is_bare, is_promoted_from, is_settled, Upper, right_above, left_above, upper_apart, UpperApart, marked_either, variable_left, promoted_left, variable_right, promoted_right, upper_functions, upper_of_others, function_and_class, class_and_function, one_class, two_classes, unbound_left, unbound_right, invalid_left, invalid_right, other_arguments, unknown_class, Uppers, no_upper, one_upper, UpperNamed, no_upper_name, upper_name, Lower, left_below, right_below, lower_apart, LowerApart, marked_once, lower_functions, lower_of_others, nothing_below, LowerParams, left_ends, right_ends, one_lower, LowerNamed, no_lower_name, lower_name, other_name}
 use Rattle.type_bounds.specs.BoundsOf.{each_bound, each_name, common_names, upper_of_classes, upper_of_functions, upper_of_class, upper_of_function, upper_of_settled, upper_by_right, upper_by_left, upper_of_apart, upper_row, lower_of_functions, lower_of_function, lower_of_unmarked, lower_of_apart, lower_row, upper_within, lower_within, upper_of, lower_of}
 use Rattle.type_bounds.specs.CommonOf.{deepest_of}
 use Rattle.type_bounds.specs.Signatures.{have_upper, have_lower, same_names}
+use Rattle.type_bounds.proofs.General.{nat_from_test, nat_eq-refl}
 use Rattle.type_bounds.proofs.BoundFalls.{weights_of, named_weights_of, weights-same, named_weights-same, arguments_weigh, marked_fall, name_weighs}
 use Rattle.type_bounds.proofs.DeepestOf.{deepest_sound, some_deepest}
 use Rattle.type_bounds.proofs.LowerSteps.{at_both_marks}
@@ -28,7 +28,7 @@ use Rattle.type_bounds.proofs.NonNulls.{some_weight, promoted_weighs, bound_weig
 use Rattle.type_bounds.proofs.OneBound.{clash, one_upper_bound, one_lower_bound}
 use Rattle.type_bounds.proofs.UpperSteps.{at_null_left, at_null_right, at_promoted_twice}
 
-module _ (table : Table) (wf : IsWellFormed table) where
+module _ (table : Table) (laws : RowLaws table) where
   -- a function type weighs more than its parts
   function_weighs : (r o : Types) (n : Named) (e : Ty) → weights_of table r + (weights_of table o + (named_weights_of table n + weight_of table e)) < weight_of table (function r o n e)
   unfolding weight_of
@@ -36,7 +36,7 @@ module _ (table : Table) (wf : IsWellFormed table) where
 
   -- what the test of subtyping says
   not_sub : (s t : Ty) → sub table s t ≡ false → Sub table s t → ⊥
-  not_sub s t e a = clash (sub table s t) (sub_complete table wf s t a) e
+  not_sub s t e a = clash (sub table s t) (laws.sub_complete s t a) e
 
   -- one row from the bounds of types that weigh less than n
   module _ (up low : Ty → Ty → Ty) (n : ℕ) (is_upper : (a b : Ty) → weight_of table a + weight_of table b < n → Upper table a b (up a b)) (is_lower : (a b : Ty) → weight_of table a + weight_of table b < n → Lower table a b (low a b)) where
@@ -56,7 +56,7 @@ module _ (table : Table) (wf : IsWellFormed table) where
     upper_names no_named (more_named m q t ms) e lt = cc
     upper_names (more_named l r s ns) no_named e lt = cc
     upper_names (more_named l r s ns) (more_named m q t ms) e lt =
-        let both = both_true (bytes_eq l m) (same_names ns ms) e in
+        let both = and_parts (bytes_eq l m) (same_names ns ms) e in
         upper_name both.0 (is_upper s t (omega (arith, lt))) (upper_names ns ms both.1 (omega (arith, lt)))
 
     lower_names : (ns ms : Named) → named_weights_of table ns + named_weights_of table ms < n → LowerNamed table ns ms (common_names low ns ms)
@@ -78,8 +78,8 @@ module _ (table : Table) (wf : IsWellFormed table) where
             other_arguments k (λ same. clash (nat_eq (count ss) (count ts)) (subst (λ (m : ℕ). nat_eq (count ss) m ≡ true) same (nat_eq-refl (count ss))) e)
 
         deepest : same_class c d ≡ false → (o : Option Ty) → deepest_of table c ss d ts ≡ o → UpperApart table (interface c ss) (interface d ts) (unwrap_or o invalid)
-        deepest k None e = unknown_class k (λ left right. some_deepest table wf c ss d ts left right apart e)
-        deepest k (Some u) e = two_classes k (deepest_sound table wf c ss d ts u e)
+        deepest k None e = unknown_class k (λ left right. some_deepest table laws c ss d ts left right apart e)
+        deepest k (Some u) e = two_classes k (deepest_sound table laws c ss d ts u e)
 
         at : (b : Bool) → same_class c d ≡ b →
             UpperApart table (interface c ss) (interface d ts) (cond b (cond (nat_eq (count ss) (count ts)) (interface c (each_bound up ss ts)) invalid) (unwrap_or (deepest_of table c ss d ts) invalid))
@@ -108,8 +108,8 @@ module _ (table : Table) (wf : IsWellFormed table) where
         where
           at : (b : Bool) → have_lower r o l r' o' l' ≡ b → LowerApart table (function r o l e) (function r' o' l' e') (cond b (function (each_bound up r r') (each_bound up o o') (each_name up l l') (low e e')) never)
           at true k =
-              let first = both_true (nat_eq (count r) (count r')) (nat_eq (count o) (count o') && same_names l l') k in
-              let second = both_true (nat_eq (count o) (count o')) (same_names l l') first.1 in
+              let first = and_parts (nat_eq (count r) (count r')) (nat_eq (count o) (count o') && same_names l l') k in
+              let second = and_parts (nat_eq (count o) (count o')) (same_names l l') first.1 in
               lower_functions k
               (uppers r r' (nat_from_test (count r) (count r') first.0) (omega (arith, le, function_weighs r o l e, function_weighs r' o' l' e')))
               (uppers o o' (nat_from_test (count o) (count o') second.0) (omega (arith, le, function_weighs r o l e, function_weighs r' o' l' e')))
@@ -163,7 +163,7 @@ module _ (table : Table) (wf : IsWellFormed table) where
       where
         at : (o : Option Ty) → bound_of table y ≡ o → UpperApart table s (variable y) (option_map_or (up s) o invalid)
         at None e = unbound_right h e
-        at (Some b) e = variable_right h e (is_upper s b (omega (arith, le, bound_weighs table wf y b e)))
+        at (Some b) e = variable_right h e (is_upper s b (omega (arith, le, bound_weighs table laws y b e)))
     by_right s (promoted y v) h k apart le = promoted_right h (is_upper s v (omega (arith, le, promoted_weighs table y v)))
     by_right s (nullable t) h k apart le = cc
 
@@ -178,7 +178,7 @@ module _ (table : Table) (wf : IsWellFormed table) where
       where
         at : (o : Option Ty) → bound_of table x ≡ o → UpperApart table (variable x) t (option_map_or (λ b. up b t) o invalid)
         at None e = unbound_left k e
-        at (Some b) e = variable_left k e (is_upper b t (omega (arith, le, bound_weighs table wf x b e)))
+        at (Some b) e = variable_left k e (is_upper b t (omega (arith, le, bound_weighs table laws x b e)))
     by_left (promoted x v) t h k apart le = at (is_promoted_from x t) refl
       where
         at : (b : Bool) → is_promoted_from x t ≡ b → UpperApart table (promoted x v) t (cond b (variable x) (up v t))
@@ -206,11 +206,11 @@ module _ (table : Table) (wf : IsWellFormed table) where
     upper_row_is s t le = at (sub table s t) refl
       where
         other : sub table s t ≡ false → (b : Bool) → sub table t s ≡ b → Upper table s t (cond b s (upper_of_apart table up low s t))
-        other h true k = left_above (not_sub s t h) (sub_sound table t s k)
+        other h true k = left_above (not_sub s t h) (laws.sub_sound t s k)
         other h false k = let apart : AreApart table s t = (not_sub s t h, not_sub t s k) in upper_apart apart (of_apart s t apart le)
 
         at : (b : Bool) → sub table s t ≡ b → Upper table s t (cond b t (cond (sub table t s) s (upper_of_apart table up low s t)))
-        at true h = right_above (sub_sound table s t h)
+        at true h = right_above (laws.sub_sound s t h)
         at false h = other h (sub table t s) refl
 
     -- the rows of the table of lower bounds
@@ -252,7 +252,7 @@ module _ (table : Table) (wf : IsWellFormed table) where
 
         at : (b : Bool) → (is_marked s && is_marked t) ≡ b → LowerApart table s t (cond b (nullable_of (low (bare_of s) (bare_of t))) (cond (is_marked s || is_marked t) (low (bare_of s) (bare_of t)) (lower_of_unmarked table up low s t)))
         at true h =
-            let both = both_true (is_marked s) (is_marked t) h in
+            let both = and_parts (is_marked s) (is_marked t) h in
             at_both_marks table s t (low (bare_of s) (bare_of t)) both.0 both.1 (fall (either_of_both (is_marked s) (is_marked t) h))
         at false h = once h (is_marked s || is_marked t) refl
 
@@ -260,11 +260,11 @@ module _ (table : Table) (wf : IsWellFormed table) where
     lower_row_is s t le = at (sub table s t) refl
       where
         other : sub table s t ≡ false → (b : Bool) → sub table t s ≡ b → Lower table s t (cond b t (lower_of_apart table up low s t))
-        other h true k = right_below (not_sub s t h) (sub_sound table t s k)
+        other h true k = right_below (not_sub s t h) (laws.sub_sound t s k)
         other h false k = lower_apart (not_sub s t h, not_sub t s k) (lower_apart_is s t le)
 
         at : (b : Bool) → sub table s t ≡ b → Lower table s t (cond b s (cond (sub table t s) t (lower_of_apart table up low s t)))
-        at true h = left_below (sub_sound table s t h)
+        at true h = left_below (laws.sub_sound s t h)
         at false h = other h (sub table t s) refl
 
   -- as many rows as both types weigh are enough

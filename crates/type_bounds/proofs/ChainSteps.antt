@@ -13,9 +13,8 @@ use Rattle.dart_types.specs.Measure.{deepness_of, weight_of}
 use Rattle.dart_types.specs.Sub.{Sub, left_variable_bound, right_nullable}
 use Rattle.dart_types.specs.SubTest.{is_null}
 use Rattle.dart_types.specs.Tables.{Table}
-use Rattle.dart_types.specs.WellFormed.{IsWellFormed}
-use Rattle.dart_types.proofs.MeasureBounds.{bound_deepness}
 use Rattle.dart_types.specs.Marks.{is_marked}
+use Rattle.dart_types.specs.Laws.{RowLaws}
 use Rattle.type_bounds.specs.Bounds.{AreApart, is_bare, is_settled, bare_of, upper_apart, Upper, UpperApart, marked_either, variable_left, variable_right}
 use Rattle.type_bounds.specs.Chains.{LeadsTo, ends, goes_on, goes_on_marked, IsNext, marked_by}
 use Rattle.type_bounds.proofs.NonNulls.{bound_weighs, bare_weighs}
@@ -100,9 +99,9 @@ module _ (table : Table) where
   bare_deepness (promoted x t) = omega arith
   bare_deepness (nullable t) = omega arith
 
-  pub next_falls : IsWellFormed table → (s bound next : Ty) → IsNext table s bound → next ≡ bare_of bound → deepness_of table next < deepness_of table s
-  next_falls wf s bound next n is =
-      let fall = bound_deepness table wf n.0 bound n.3 in
+  pub next_falls : RowLaws table → (s bound next : Ty) → IsNext table s bound → next ≡ bare_of bound → deepness_of table next < deepness_of table s
+  next_falls laws s bound next n is =
+      let fall = laws.bound_deepness n.0 bound n.3 in
       let e = ap (deepness_of table) n.2 in
       let f = ap (deepness_of table) is in
       omega (arith, fall, bare_deepness bound, e, f)
@@ -138,11 +137,11 @@ module _ (table : Table) where
   last_apart (goes_on {y = y} e not rest) a = last_apart rest (λ b. a.0 (left_variable_bound (variable y) e b), not)
   last_apart (goes_on_marked e not below rest) a = last_apart rest (below, λ b. not (right_nullable b))
 
-  pub last_no_heavier : IsWellFormed table → {t s last : Ty} {m : Bool} → LeadsTo table t s m last → weight_of table last ≤ weight_of table s
-  last_no_heavier wf ends = omega arith
-  last_no_heavier wf (goes_on {x = x} {y = y} e not rest) = omega (arith, last_no_heavier wf rest, bound_weighs table wf x (variable y) e)
-  last_no_heavier wf (goes_on_marked {x = x} {y = y} e not below rest) =
-      omega (arith, last_no_heavier wf rest, bare_weighs table (variable y), bound_weighs table wf x (nullable (variable y)) e)
+  pub last_no_heavier : RowLaws table → {t s last : Ty} {m : Bool} → LeadsTo table t s m last → weight_of table last ≤ weight_of table s
+  last_no_heavier laws ends = omega arith
+  last_no_heavier laws (goes_on {x = x} {y = y} e not rest) = omega (arith, last_no_heavier laws rest, bound_weighs table laws x (variable y) e)
+  last_no_heavier laws (goes_on_marked {x = x} {y = y} e not below rest) =
+      omega (arith, last_no_heavier laws rest, bare_weighs table (variable y), bound_weighs table laws x (nullable (variable y)) e)
 
   pub last_bare : {t s last : Ty} {m : Bool} → LeadsTo table t s m last → is_bare s ≡ true → is_bare last ≡ true
   last_bare ends h = h

@@ -12,8 +12,8 @@ use Rattle.dart_types.specs.declared.ids.ClassId.{ClassId}
 use Rattle.dart_types.specs.declared.ids.VarId.{VarId}
 use Rattle.dart_types.specs.declared.ids.TheConstants.{OBJECT}
 use Rattle.dart_types.specs.declared.class_rows.ClassRow.{ClassRow}
-use Rattle.dart_types.proofs.Above.{class_of_object}
 use Rattle.type_bounds.specs.Common.{IsAbove}
+use Rattle.type_bounds.proofs.General.{class_of_object}
 
 -- the type is a class of the set
 abbrev pub IsIn : (ClassId → Type 0) → Ty → Type 0

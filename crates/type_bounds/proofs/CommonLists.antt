@@ -4,19 +4,20 @@ use Rattle.std.specs.Prelude.{◌⊎◌, ◌&&◌, Contains, flat_map, nat_eq}
 use Rattle.std.specs.List.{list_all}
 use Rattle.std.specs.Option.{option_map_or}
 use Rattle.std.proofs.lemmas.List.Elements.{Contains-append_left, Contains-append_right, Contains-append_cases}
+use Rattle.std.proofs.lemmas.Bool.{and_parts}
 use Rattle.dart_types.specs.Ty.{Ty, Types, invalid, never, void, null, interface, function, variable, promoted, nullable, count}
 use Rattle.dart_types.specs.Normal.{normal}
 use Rattle.dart_types.specs.Substitution.{put, by_params}
 use Rattle.dart_types.specs.Superinterfaces.{IsSuperinterface, direct, further}
 use Rattle.dart_types.specs.Tables.{Table, class_of, depth_of, head_depth}
-use Rattle.dart_types.specs.WellFormed.{IsSupertype, HasArguments, IsWellFormed}
+use Rattle.dart_types.specs.WellFormed.{IsSupertype, HasArguments}
 use Rattle.dart_types.specs.declared.ids.ClassId.{ClassId}
 use Rattle.dart_types.specs.declared.ids.VarId.{VarId}
 use Rattle.dart_types.specs.declared.class_rows.ClassRow.{ClassRow}
-use Rattle.dart_types.proofs.Formed.{formed_super, super_depth}
-use Rattle.dart_types.proofs.SameIds.{both_true, nat_from_test, nat_eq-refl}
+use Rattle.dart_types.specs.Laws.{RowLaws}
 use Rattle.type_bounds.specs.Common.{IsAbove}
 use Rattle.type_bounds.specs.CommonOf.{supers_of, climbed, superinterfaces_of, above_of}
+use Rattle.type_bounds.proofs.General.{nat_from_test, nat_eq-refl}
 
 module _ {X : Type 0} where
   -- what is in a list is the first or behind it
@@ -34,7 +35,7 @@ module _ {X : Type 0} where
   pub all_pass : (p : X → Bool) (xs : List X) → list_all p xs ≡ true → (y : X) → Contains xs y → p y ≡ true
   all_pass p [] h y i = absurd (omega (arith, i.1))
   all_pass p (x ∷ xs) h y i =
-      let both = both_true (p x) (list_all p xs) h in
+      let both = and_parts (p x) (list_all p xs) h in
       elim (first_or_later x xs y i) as (λ _. p y ≡ true) [
         | inl e ↦ subst (λ (z : X). p z ≡ true) e both.0
         | inr j ↦ all_pass p xs both.1 y j
@@ -162,18 +163,18 @@ module _ (table : Table) where
   put_deep ps σ (promoted x t) s = absurd s
   put_deep ps σ (nullable t) s = absurd s
 
-  module _ (wf : IsWellFormed table) where
+  module _ (laws : RowLaws table) where
     -- each superinterface is at a level that is no farther up than its class is from Object
     abbrev AtLevel : ClassId → ClassRow → Ty → Type 0
     AtLevel c row v = (k : ℕ) × (head_depth table v + k + 1 ≤ depth_of table c) × Contains (level k row.supers) v
 
     at_level : {c : ClassId} {v : Ty} → IsSuperinterface table c v → (row : ClassRow) → class_of table c ≡ Some row → AtLevel c row v
     at_level {c} (direct {row = r} {v = v} e i) row f =
-        (0, omega (arith, super_depth table wf c r v e i), subst (λ (x : ClassRow). Contains x.supers v) (one_row c r row e f) i)
+        (0, omega (arith, laws.super_depth c r v e i), subst (λ (x : ClassRow). Contains x.supers v) (one_row c r row e f) i)
     at_level {c} (further {d = d} {ts = ts} {row = r} {v = v} h e i) row f =
         let p = at_level h row f in
-        let up = super_depth table wf d r v e i in
-        let same = put_deep r.params (by_params r.params ts) v (formed_super table wf d r v e i).0 in
+        let up = laws.super_depth d r v e i in
+        let same = put_deep r.params (by_params r.params ts) v (laws.formed_super d r v e i).0 in
         (suc p.0, omega (arith, p.1, up, same), next_level p.0 row.supers (interface d ts) (put (by_params r.params ts) v) p.2 (supers_in d ts r v e i))
 
     pub superinterfaces_complete : (c : ClassId) (v : Ty) → IsSuperinterface table c v → Contains (superinterfaces_of table c) v

@@ -3,9 +3,9 @@ use Rattle.std.proofs.Common.{◌≡◌, ℕ, ◌+◌, ◌-◌, ◌^◌, min, tr
 use Rattle.dart_types.specs.Ty.{Ty}
 use Rattle.dart_types.specs.Normal.{nullable_of}
 use Rattle.dart_types.specs.Sizes.{size_of, held}
-use Rattle.dart_types.proofs.Replacing.{size_marked, size_unmarked}
 use Rattle.type_bounds.specs.Counts.{Counts}
 use Rattle.type_bounds.specs.declared.counts.Count.{Count}
+use Rattle.type_bounds.proofs.General.{size_marked, size_unmarked}
 
 held_next : (n m k : ℕ) → n ≡ held m → k ≡ m + 1 → min (n + 1) (2 ^ 64 - 1) ≡ held k
 held_next n m k e f = omega arith

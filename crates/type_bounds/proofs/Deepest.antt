@@ -9,22 +9,21 @@ use Rattle.dart_types.specs.Normal.{normal}
 use Rattle.dart_types.specs.Substitution.{put, by_params}
 use Rattle.dart_types.specs.Superinterfaces.{interface_of}
 use Rattle.dart_types.specs.Tables.{Table, class_of, head_depth}
-use Rattle.dart_types.specs.WellFormed.{IsWellFormed}
 use Rattle.dart_types.specs.declared.ids.ClassId.{ClassId}
 use Rattle.dart_types.specs.declared.ids.VarId.{VarId}
 use Rattle.dart_types.specs.declared.ids.TheConstants.{OBJECT}
 use Rattle.dart_types.specs.declared.class_rows.ClassRow.{ClassRow}
 use Rattle.dart_types.specs.declared.superinterfaces.Superinterface.{Superinterface}
-use Rattle.dart_types.proofs.Gathered.{all_from}
-use Rattle.dart_types.proofs.NormalPut.{normal-put-normal}
+use Rattle.dart_types.specs.Laws.{RowLaws}
 use Rattle.type_bounds.specs.Above.{type_above, depth_in, AgreesWith, AreOf, IsIn, IsShared, IsAloneIn, HasNoneUnder, IsTopUnder, HasNoneAlone, IsDeepestIn}
 use Rattle.type_bounds.specs.Common.{IsAbove, IsCommon, IsAlone, IsDeepest}
 use Rattle.type_bounds.specs.declared.superclasses.Above.{Above}
 use Rattle.type_bounds.specs.declared.superclasses.Pair.{Pair}
+use Rattle.type_bounds.proofs.General.{all_from}
 use Rattle.type_bounds.proofs.Rooted.{object_above, object_alone, root_depth, reaches}
 
 -- an entry of the list stands for what is above the class
-module _ (table : Table) (c : ClassId) (ts : List Ty) (a : Above) (f : AreOf table c ts a) where
+module _ (table : Table) (laws : RowLaws table) (c : ClassId) (ts : List Ty) (a : Above) (f : AreOf table c ts a) where
   same_put : (v : Ty) → normal (put (by_params a.arguments.params.now (types_of a.arguments.args.now)) v) ≡ normal (put (by_params f.row.params (types_of ts)) v)
   same_put v =
       ap (λ (ps : List VarId). normal (put (by_params ps (types_of a.arguments.args.now)) v)) f.params
@@ -33,7 +32,7 @@ module _ (table : Table) (c : ClassId) (ts : List Ty) (a : Above) (f : AreOf tab
   type_of : (s : Superinterface) (v : Ty) → interface_of s ≡ normal v → type_above a s ≡ normal (put (by_params f.row.params (types_of ts)) v)
   type_of s v e =
       let σ = by_params f.row.params (types_of ts) in
-      same_put (interface_of s) ∙ (ap (λ (w : Ty). normal (put σ w)) e ∙ normal-put-normal σ v)
+      same_put (interface_of s) ∙ (ap (λ (w : Ty). normal (put σ w)) e ∙ laws.types.normal-put-normal σ v)
 
   entry_above : (s : Superinterface) → Contains a.superinterfaces.now s → IsAbove table c (types_of ts) (type_above a s)
   entry_above s i =
@@ -59,7 +58,7 @@ module _ (table : Table) (c : ClassId) (ts : List Ty) (a : Above) (f : AreOf tab
       same_row : (o : _) (x y : ClassRow) → o ≡ Some x → o ≡ Some y → x ≡ y
       same_row o x y e g = cc
 
-module _ (p : Pair) (c d : ClassId) (ss ts : List Ty) (l : AreOf p.rows.now.table c ss p.left) (r : AreOf p.rows.now.table d ts p.right) where
+module _ (p : Pair) (laws : RowLaws p.rows.now.table) (c d : ClassId) (ss ts : List Ty) (l : AreOf p.rows.now.table c ss p.left) (r : AreOf p.rows.now.table d ts p.right) where
   abbrev table : Table
   table = p.rows.now.table
 
@@ -70,13 +69,13 @@ module _ (p : Pair) (c d : ClassId) (ss ts : List Ty) (l : AreOf p.rows.now.tabl
   Alone u = IsAlone table c (types_of ss) d (types_of ts) u
 
   shared_common : (s : Superinterface) → Contains p.left.superinterfaces.now s → IsShared p s → Common (type_above p.left s)
-  shared_common s i h = (entry_above table c ss p.left l s i, in_above table d ts p.right r (type_above p.left s) h)
+  shared_common s i h = (entry_above table laws c ss p.left l s i, in_above table laws d ts p.right r (type_above p.left s) h)
 
   -- a superinterface of both stands in the left list
   common_shared : (u : Ty) → Common u → (s : Superinterface) × Contains p.left.superinterfaces.now s × IsShared p s × (type_above p.left s ≡ u)
   common_shared u h =
-      let s = above_in table c ss p.left l u h.0 in
-      (s.0, s.1, subst (λ (v : Ty). IsIn p.right v) (sym s.2) (above_in table d ts p.right r u h.1), s.2)
+      let s = above_in table laws c ss p.left l u h.0 in
+      (s.0, s.1, subst (λ (v : Ty). IsIn p.right v) (sym s.2) (above_in table laws d ts p.right r u h.1), s.2)
 
   alone_in : (s : Superinterface) → Alone (type_above p.left s) → IsAloneIn p s
   alone_in s h = all_from (AgreesWith p s) p.left.superinterfaces.now (λ t i shared e. h (type_above p.left t) (shared_common t i shared) e)
@@ -94,13 +93,13 @@ module _ (p : Pair) (c d : ClassId) (ss ts : List Ty) (l : AreOf p.rows.now.tabl
   }
 
   -- where Object has no parameters, there is one, as neither class is Object
-  pub some_alone : IsWellFormed table → ((row : ClassRow) → class_of table OBJECT ≡ Some row → row.params ≡ []) → (c ≡ OBJECT → ⊥) → (d ≡ OBJECT → ⊥) → HasNoneAlone p → ⊥
-  some_alone wf bare left right none =
-      let above = object_above table wf bare c (types_of ss) l.row l.row_is l.counted left in
-      let common : Common object = (above, object_above table wf bare d (types_of ts) r.row r.row_is r.counted right) in
-      let root = reaches table wf c l.row l.row_is left in
-      let deep = root_depth table wf root.2.0 root.2.1 in
-      let one : Alone object = λ v k e. object_alone table wf bare c (types_of ss) v k.0 (e ∙ deep) in
+  pub some_alone : ((row : ClassRow) → class_of table OBJECT ≡ Some row → row.params ≡ []) → (c ≡ OBJECT → ⊥) → (d ≡ OBJECT → ⊥) → HasNoneAlone p → ⊥
+  some_alone bare left right none =
+      let above = object_above table laws bare c (types_of ss) l.row l.row_is l.counted left in
+      let common : Common object = (above, object_above table laws bare d (types_of ts) r.row r.row_is r.counted right) in
+      let root = reaches table laws c l.row l.row_is left in
+      let deep = root_depth table laws root.2.0 root.2.1 in
+      let one : Alone object = λ v k e. object_alone table laws bare c (types_of ss) v k.0 (e ∙ deep) in
       let t = common_shared object common in
       All-contains (λ (x : Superinterface). IsShared p x → IsAloneIn p x → ⊥) p.left.superinterfaces.now t.0 none t.1 t.2 (alone_in t.0 (subst Alone (sym t.3) one))
 

@@ -9,29 +9,27 @@ use Rattle.dart_types.specs.Ty.{Ty, Types, interface}
 use Rattle.dart_types.specs.Heads.{object}
 use Rattle.dart_types.specs.Same.{same_type}
 use Rattle.dart_types.specs.Tables.{Table, class_of, head_depth}
-use Rattle.dart_types.specs.WellFormed.{HasArguments, IsWellFormed}
+use Rattle.dart_types.specs.WellFormed.{HasArguments}
 use Rattle.dart_types.specs.declared.ids.ClassId.{ClassId}
 use Rattle.dart_types.specs.declared.ids.TheConstants.{OBJECT}
 use Rattle.dart_types.specs.declared.class_rows.ClassRow.{ClassRow}
-use Rattle.dart_types.proofs.ClassSteps.{contains_passed, passed_contains}
-use Rattle.dart_types.proofs.Formed.{row_id, formed_class}
-use Rattle.dart_types.proofs.SameIds.{nat_from_test, nat_eq-refl}
-use Rattle.dart_types.proofs.SameType.{same_type-refl, equal_from_same_type}
+use Rattle.dart_types.specs.Laws.{TypeLaws, RowLaws}
 use Rattle.type_bounds.specs.Bounds.{AreApart}
 use Rattle.type_bounds.specs.Common.{IsCommon, IsAlone, IsDeepest}
 use Rattle.type_bounds.specs.CommonOf.{above_of, in_both, is_alone, farther, farthest, deepest_of}
+use Rattle.type_bounds.proofs.General.{contains_passed, passed_contains, nat_from_test, nat_eq-refl}
 use Rattle.type_bounds.proofs.CommonLists.{first_or_later, is_first, is_later, all_pass, pass_all, row_with, above_sound, above_complete}
 use Rattle.type_bounds.proofs.Rooted.{object_above, object_alone, not_object, reaches, root_depth}
 
 -- the types of both lists
-both_from : (us vs : List Ty) (u : Ty) → Contains (in_both us vs) u → Contains us u × Contains vs u
-both_from us vs u i =
+both_from : TypeLaws → (us vs : List Ty) (u : Ty) → Contains (in_both us vs) u → Contains us u × Contains vs u
+both_from laws us vs u i =
     let h = contains_passed (λ w. list_any (same_type w) vs) us u i in
-    (h.0, Contains-from_any {eq = same_type} equal_from_same_type u vs h.1)
+    (h.0, Contains-from_any {eq = same_type} laws.equal_from_same_type u vs h.1)
 
-from_both : (us vs : List Ty) (u : Ty) → Contains us u → Contains vs u → Contains (in_both us vs) u
-from_both us vs u i j =
-    let same : same_type u (get_or vs j.0 u) ≡ true = subst (λ (w : Ty). same_type u w ≡ true) (sym j.2) (same_type-refl u) in
+from_both : TypeLaws → (us vs : List Ty) (u : Ty) → Contains us u → Contains vs u → Contains (in_both us vs) u
+from_both laws us vs u i j =
+    let same : same_type u (get_or vs j.0 u) ≡ true = subst (λ (w : Ty). same_type u w ≡ true) (sym j.2) (laws.same_type-refl u) in
     passed_contains (λ w. list_any (same_type w) vs) us u i (list_any_at (same_type u) vs j.0 u j.1 same)
 
 -- one of two where the first isn't so
@@ -87,7 +85,7 @@ module _ (table : Table) where
       )
       at (Some w) h = farther_stands x xs w h (nat_lt (deep x) (deep w)) refl
 
-  module _ (wf : IsWellFormed table) (c : ClassId) (ss : Types) (d : ClassId) (ts : Types) where
+  module _ (laws : RowLaws table) (c : ClassId) (ss : Types) (d : ClassId) (ts : Types) where
     abbrev Common : Ty → Type 0
     Common u = IsCommon table c ss d ts u
 
@@ -98,23 +96,23 @@ module _ (table : Table) where
     commons = in_both (above_of table c ss) (above_of table d ts)
 
     common_from : (u : Ty) → Contains commons u → Common u
-    common_from u i = let h = both_from (above_of table c ss) (above_of table d ts) u i in (above_sound table wf c ss u h.0, above_sound table wf d ts u h.1)
+    common_from u i = let h = both_from laws.types (above_of table c ss) (above_of table d ts) u i in (above_sound table laws c ss u h.0, above_sound table laws d ts u h.1)
 
     from_common : (u : Ty) → Common u → Contains commons u
-    from_common u h = from_both (above_of table c ss) (above_of table d ts) u (above_complete table wf c ss u h.0) (above_complete table wf d ts u h.1)
+    from_common u h = from_both laws.types (above_of table c ss) (above_of table d ts) u (above_complete table laws c ss u h.0) (above_complete table laws d ts u h.1)
 
     alone_from : (u : Ty) → is_alone table commons u ≡ true → Alone u
     alone_from u h v k e =
         let test = all_pass (λ w. same_type w u || not (nat_eq (deep w) (deep u))) commons h v (from_common v k) in
         let same : nat_eq (deep v) (deep u) ≡ true = subst (λ (n : ℕ). nat_eq (deep v) n ≡ true) e (nat_eq-refl (deep v)) in
-        equal_from_same_type v u (second_of (same_type v u) (nat_eq (deep v) (deep u)) test same)
+        laws.types.equal_from_same_type v u (second_of (same_type v u) (nat_eq (deep v) (deep u)) test same)
 
     from_alone : (u : Ty) → Alone u → is_alone table commons u ≡ true
     from_alone u h =
         pass_all (λ w. same_type w u || not (nat_eq (deep w) (deep u))) commons
         (λ v i. either_of (same_type v u) (nat_eq (deep v) (deep u)) (λ e.
         let is : v ≡ u = h v (common_from v i) (nat_from_test (deep v) (deep u) e) in
-        subst (λ (w : Ty). same_type v w ≡ true) is (same_type-refl v)))
+        subst (λ (w : Ty). same_type v w ≡ true) is (laws.types.same_type-refl v)))
 
     abbrev lone : List Ty
     lone = filter (is_alone table commons) commons
@@ -135,15 +133,15 @@ module _ (table : Table) where
     -- two classes that aren't subtypes of each other have one, as Object is above both
     pub some_deepest : HasArguments (class_of table c) ss → HasArguments (class_of table d) ts → AreApart table (interface c ss) (interface d ts) → deepest_of table c ss d ts ≡ None → ⊥
     some_deepest left right apart e =
-        let bare : (row : ClassRow) → class_of table OBJECT ≡ Some row → row.params ≡ [] = λ row r. (formed_class table wf OBJECT row r).object_bare (row_id table wf OBJECT row r) in
+        let bare : (row : ClassRow) → class_of table OBJECT ≡ Some row → row.params ≡ [] = λ row r. (laws.formed_class OBJECT row r).object_bare (laws.row_id OBJECT row r) in
         let l = row_with table c ss left in
         let r = row_with table d ts right in
-        let not_left = not_object table wf bare c ss l.0 l.1 l.2 (interface d ts) refl apart.1 in
-        let not_right = not_object table wf bare d ts r.0 r.1 r.2 (interface c ss) refl apart.0 in
-        let common : Common object = (object_above table wf bare c ss l.0 l.1 l.2 not_left, object_above table wf bare d ts r.0 r.1 r.2 not_right) in
-        let root = reaches table wf c l.0 l.1 not_left in
-        let at_root = root_depth table wf root.2.0 root.2.1 in
-        let one : Alone object = λ v k f. object_alone table wf bare c ss v k.0 (f ∙ at_root) in
+        let not_left = not_object table laws bare c ss l.0 l.1 l.2 (interface d ts) refl apart.1 in
+        let not_right = not_object table laws bare d ts r.0 r.1 r.2 (interface c ss) refl apart.0 in
+        let common : Common object = (object_above table laws bare c ss l.0 l.1 l.2 not_left, object_above table laws bare d ts r.0 r.1 r.2 not_right) in
+        let root = reaches table laws c l.0 l.1 not_left in
+        let at_root = root_depth table laws root.2.0 root.2.1 in
+        let one : Alone object = λ v k f. object_alone table laws bare c ss v k.0 (f ∙ at_root) in
         let empty : lone ≡ [] = subst (IsFarthest lone) e (farthest_is lone) in
         let none : Contains [] object = subst (λ (us : List Ty). Contains us object) empty (in_lone object common one) in
         absurd (omega (arith, none.1))

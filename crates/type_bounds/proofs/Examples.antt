@@ -7,7 +7,7 @@ use Rattle.dart_types.specs.Heads.{object}
 use Rattle.dart_types.specs.Normal.{normal}
 use Rattle.dart_types.specs.Tables.{Table, class_of, depth_of, head_depth}
 use Rattle.dart_types.specs.WellFormed.{IsOver}
-use Rattle.dart_types.specs.Sub.{Sub, Subs, SubParams, reflexivity, right_top, right_object, right_nullable, left_variable_bound, super_interface, function_class, function_types, one_left, one_param}
+use Rattle.dart_types.specs.Sub.{Sub, Subs, SubParams, reflexivity, right_top, right_object, right_nullable, left_variable_bound, super_interface, function_class, function_types, one_left, one_param, left_null, left_nullable, right_promoted}
 use Rattle.dart_types.specs.SubTest.{sub}
 use Rattle.dart_types.specs.Superinterfaces.{IsSuperinterface, direct, further}
 use Rattle.dart_types.specs.Measure.{measure, weight_of, deepness_of, heaviest_of, step_of, ranks_of}
@@ -15,7 +15,6 @@ use Rattle.dart_types.specs.declared.ids.ClassId.{ClassId}
 use Rattle.dart_types.specs.declared.ids.VarId.{VarId}
 use Rattle.dart_types.specs.declared.ids.TheConstants.{CORE, OBJECT, FUNCTION}
 use Rattle.dart_types.specs.declared.class_rows.ClassRow.{ClassRow}
-use Rattle.dart_types.proofs.Above.{nullable_null}
 use Rattle.type_bounds.specs.NonNull.{non_null_of}
 use Rattle.type_bounds.specs.Factor.{factor_of}
 use Rattle.type_bounds.specs.BoundsOf.{upper_of, lower_of}
@@ -191,6 +190,15 @@ lists_apart {s = s} {t = t} n a = at (below_by_arguments (class_at 6) (more s no
   where
     at : Subs core (more s no_more) (more t no_more) → ⊥
     at (one_left b rest) = n b
+
+-- null is below what a nullable type is below
+nullable_null : (table : Table) {v t : Ty} → Sub table (nullable v) t → Sub table null t
+nullable_null table reflexivity = left_null
+nullable_null table (right_top e) = right_top e
+nullable_null table (right_object e p) = cc
+nullable_null table (left_nullable a b) = b
+nullable_null table (right_nullable a) = right_nullable (nullable_null table a)
+nullable_null table (right_promoted a b) = right_promoted (nullable_null table a) (nullable_null table b)
 
 -- the lower bound of `int?` and int is int
 lower_of_int : Lower core (nullable int) int int

@@ -1,3 +1,4 @@
+pub mod General
 pub mod Counted
 pub mod Leaves
 pub mod NonNulls
@@ -31,3 +32,4 @@ pub mod CommonLists
 pub mod DeepestOf
 pub mod BoundsHold
 pub mod NonNullLaws
+pub mod MoreRows

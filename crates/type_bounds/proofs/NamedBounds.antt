@@ -2,10 +2,10 @@
 use Rattle.std.proofs.Common.{◌≡◌, ℕ, Bool, true, false, Some, None, List, refl, subst, cond}
 use Rattle.std.specs.Prelude.{◌&&◌, ◌||◌, bytes_eq}
 use Rattle.std.specs.Cmp.Lexicographic.{bytes_decides}
+use Rattle.std.proofs.lemmas.Bool.{and_parts}
 use Rattle.dart_types.specs.Ty.{Ty, Named, no_named, more_named}
 use Rattle.dart_types.specs.Named.{has_name, type_named}
 use Rattle.dart_types.specs.Sub.{HasNamed, first, later, is_required}
-use Rattle.dart_types.proofs.SameIds.{both_true}
 use Rattle.type_bounds.specs.Signatures.{required_are_in}
 
 pub or_true : (a b : Bool) {A : Type 0} → (a || b) ≡ true → (a ≡ true → A) → (b ≡ true → A) → A
@@ -45,7 +45,7 @@ not_named (more_named n r u ns) m e h = at (bytes_eq n m) e h (λ k l. not_named
 pub required_is_named : (ns : Named) (m : List ℕ) → is_required ns m ≡ true → has_name ns m ≡ true
 required_is_named no_named m h = cc
 required_is_named (more_named n r u ns) m h =
-    or_true (bytes_eq n m && r) (is_required ns m) h (λ here. or_left (bytes_eq n m) (has_name ns m) (both_true (bytes_eq n m) r here).0)
+    or_true (bytes_eq n m && r) (is_required ns m) h (λ here. or_left (bytes_eq n m) (has_name ns m) (and_parts (bytes_eq n m) r here).0)
     (λ behind. or_right (bytes_eq n m) (has_name ns m) (required_is_named ns m behind))
 
 pub when_true : (r : Bool) {x : Bool} → r ≡ true → cond r x true ≡ true → x ≡ true
@@ -56,10 +56,10 @@ when_true false e h = cc
 pub required_in_other : (ns ms : Named) (m : List ℕ) → required_are_in ns ms ≡ true → is_required ns m ≡ true → has_name ms m ≡ true
 required_in_other no_named ms m h k = cc
 required_in_other (more_named n r t ns) ms m h k =
-    let both = both_true (cond r (has_name ms n) true) (required_are_in ns ms) h in
+    let both = and_parts (cond r (has_name ms n) true) (required_are_in ns ms) h in
     or_true (bytes_eq n m && r) (is_required ns m) k
     (λ here.
-    let parts = both_true (bytes_eq n m) r here in
+    let parts = and_parts (bytes_eq n m) r here in
     let is : n ≡ m = (bytes_decides n m).0 parts.0 in
     subst (λ (l : List ℕ). has_name ms l ≡ true) is (when_true r parts.1 both.0))
     (λ behind. required_in_other ns ms m both.1 behind)

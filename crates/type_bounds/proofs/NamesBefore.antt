@@ -6,8 +6,8 @@ use Rattle.std.specs.Prelude.{All, AllPairs}
 use Rattle.dart_types.specs.Ty.{Ty, Named, no_named, more_named}
 use Rattle.dart_types.specs.Named.{named_of, names_of, IsNameBefore, AreInOrder}
 use Rattle.dart_types.specs.declared.types.NamedType.{NamedType}
-use Rattle.dart_types.proofs.EntryLemmas.{AllPairs-map}
 use Rattle.type_bounds.specs.NamedView.{AreNamedFormed, AreBefore, join_named}
+use Rattle.type_bounds.proofs.General.{AllPairs-map}
 use Rattle.type_bounds.proofs.Rests.{CompletesNamed}
 
 -- each name of these parameters comes before this one

@@ -8,8 +8,8 @@ use Rattle.dart_types.specs.Normal.{nullable_of, normal}
 use Rattle.dart_types.specs.Sub.{Sub, right_top, right_object, right_promoted}
 use Rattle.dart_types.specs.SubTest.{sub, is_null}
 use Rattle.dart_types.specs.Tables.{Table, bound_of}
-use Rattle.dart_types.specs.WellFormed.{IsWellFormed}
 use Rattle.dart_types.specs.Measure.{weight_of}
+use Rattle.dart_types.specs.Laws.{RowLaws}
 use Rattle.type_bounds.specs.NonNull.{non_null_of, variable_without_null, without_null}
 use Rattle.type_bounds.proofs.NonNulls.{bare_weighs, some_weight, non_null_step}
 
@@ -64,7 +64,7 @@ module _ (table : Table) where
   other : (w t : Ty) → is_null w ≡ false → is_marked w ≡ false → (w ≡ void → ⊥) → (normal t ≡ void → ⊥) → IsFree w t
   other w t h k n m = record { no_null = h; unmarked = k; from_void = λ e. absurd (m e); to_void = λ e. absurd (n e) }
 
-  module _ (wf : IsWellFormed table) where
+  module _ (laws : RowLaws table) where
     -- by one step from lighter types
     free_step : (t : Ty) → ((u : Ty) → weight_of table u < weight_of table t → IsFree (non_null_of table u) u) → IsFree (without_null table (non_null_of table) t) t
     free_step invalid h = other invalid invalid refl refl (λ e. cc) (λ e. cc)
@@ -89,7 +89,7 @@ module _ (table : Table) where
 
     free : (n : ℕ) (t : Ty) → weight_of table t ≤ n → IsFree (non_null_of table t) t
     free zero t le = absurd (omega (arith, some_weight table t, le))
-    free (suc n) t le = subst (λ (w : Ty). IsFree w t) (sym (non_null_step table wf t)) (free_step t (λ u lt. free n u (omega (arith, lt, le))))
+    free (suc n) t le = subst (λ (w : Ty). IsFree w t) (sym (non_null_step table laws t)) (free_step t (λ u lt. free n u (omega (arith, lt, le))))
 
     pub null_without_null : (t : Ty) → Sub table null (non_null_of table t) ↔ (normal t ≡ void)
     null_without_null t =

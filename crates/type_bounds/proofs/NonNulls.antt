@@ -3,13 +3,12 @@ use Rattle.std.proofs.Common.{◌≡◌, ℕ, zero, suc, ◌<◌, ◌≤◌, Boo
 use Rattle.dart_types.specs.Ty.{Ty, Types, Named, invalid, never, void, null, interface, function, variable, promoted, nullable}
 use Rattle.dart_types.specs.Heads.{object}
 use Rattle.dart_types.specs.Tables.{Table, bound_of}
-use Rattle.dart_types.specs.WellFormed.{IsWellFormed}
 use Rattle.dart_types.specs.Sub.{Sub, reflexivity, left_bottom, right_nullable, left_promoted_variable, left_promoted_type, right_promoted}
 use Rattle.dart_types.specs.SubTest.{sub}
-use Rattle.dart_types.specs.Measure.{weight, weight_of}
+use Rattle.dart_types.specs.Measure.{weight_of}
 use Rattle.dart_types.specs.declared.ids.ClassId.{ClassId}
 use Rattle.dart_types.specs.declared.ids.VarId.{VarId}
-use Rattle.dart_types.proofs.MeasureBounds.{bound_le, weight_local}
+use Rattle.dart_types.specs.Laws.{RowLaws}
 use Rattle.type_bounds.specs.NonNull.{variable_without_null, without_null, non_null_within, non_null_of}
 
 module _ (table : Table) where
@@ -63,10 +62,10 @@ module _ (table : Table) where
   unfolding non_null_of
   non_null_below t = within_below (weight_of table t) t
 
-  module _ (wf : IsWellFormed table) where
+  module _ (laws : RowLaws table) where
     pub bound_weighs : (x : VarId) (b : Ty) → bound_of table x ≡ Some b → weight_of table b < weight_of table (variable x)
     unfolding weight_of
-    bound_weighs x b e = omega (arith, bound_le table wf weight weight_local x b e)
+    bound_weighs x b e = omega (arith, laws.bound_weight x b e)
 
     -- one step asks for lighter types alone
     step_same : (f g : Ty → Ty) (t : Ty) → ((u : Ty) → weight_of table u < weight_of table t → f u ≡ g u) → without_null table f t ≡ without_null table g t

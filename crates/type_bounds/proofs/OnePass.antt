@@ -4,11 +4,9 @@ use Rattle.std.specs.Prelude.{All, Contains, MatchOption, IsTrue, ◌↔◌}
 use Rattle.std.proofs.lemmas.Bool.{cases_lt}
 use Rattle.std.proofs.lemmas.List.Elements.{All-contains}
 use Rattle.dart_types.specs.declared.superinterfaces.Superinterface.{Superinterface}
-use Rattle.dart_types.proofs.Gathered.{all_from}
-use Rattle.dart_types.proofs.RowTests.{all_next}
-use Rattle.dart_types.proofs.Steps.{refused}
 use Rattle.type_bounds.specs.Above.{depth_in, IsShared, IsUnder, HasNoneUnder, IsTopUnder}
 use Rattle.type_bounds.specs.declared.superclasses.Pair.{Pair}
+use Rattle.type_bounds.proofs.General.{all_from, all_next, refused}
 
 module _ (p : Pair) (limit : Option ℕ) where
   -- a superinterface of both under the limit is below the floor

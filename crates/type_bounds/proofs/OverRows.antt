@@ -9,16 +9,15 @@ use Rattle.dart_types.specs.Substitution.{put, put_all, put_named, argument_of, 
 use Rattle.dart_types.specs.Sub.{HasNamed, first, later}
 use Rattle.dart_types.specs.Superinterfaces.{IsSuperinterface, direct, further}
 use Rattle.dart_types.specs.Tables.{Table, class_of}
-use Rattle.dart_types.specs.WellFormed.{HasArguments, IsOver, AreOver, AreOverNamed, IsWellFormed}
+use Rattle.dart_types.specs.WellFormed.{HasArguments, IsOver, AreOver, AreOverNamed}
 use Rattle.dart_types.specs.declared.ids.ClassId.{ClassId}
 use Rattle.dart_types.specs.declared.ids.VarId.{VarId}
 use Rattle.dart_types.specs.declared.ids.TheConstants.{FUNCTION}
 use Rattle.dart_types.specs.declared.class_rows.ClassRow.{ClassRow}
-use Rattle.dart_types.proofs.Formed.{row_id, formed_class, formed_super}
-use Rattle.dart_types.proofs.NormalForms.{count-normal_all}
-use Rattle.dart_types.proofs.Substitutes.{count-put_all}
+use Rattle.dart_types.specs.Laws.{RowLaws}
 use Rattle.type_bounds.specs.Bounds.{bare_of}
 use Rattle.type_bounds.specs.Common.{IsAbove}
+use Rattle.type_bounds.proofs.General.{count-normal_all, count-put_all}
 
 -- a class that has as many parameters as one list has arguments has as many as another that is as long
 pub same_arguments : (o : Option ClassRow) (ss ts : Types) → count ss ≡ count ts → HasArguments o ts → HasArguments o ss
@@ -53,7 +52,7 @@ module _ (table : Table) where
   over_named o (later h) = over_named o.1 h
 
   mutual
-    over_normal : (t : Ty) → IsOver table t → IsOver table (normal t)
+    pub over_normal : (t : Ty) → IsOver table t → IsOver table (normal t)
     over_normal invalid o = o
     over_normal never o = o
     over_normal void o = o
@@ -82,37 +81,37 @@ module _ (table : Table) where
       at true o = f.0
       at false o = o
 
-  module _ (ps : List VarId) (ss : Types) (f : AreOver table ss) where
+  module _ (σ : VarId → Ty) (f : (x : VarId) → IsOver table (variable x) → IsOver table (σ x)) where
     mutual
-      over_put : (t : Ty) → IsOver table t → IsOver table (put (by_params ps ss) t)
+      pub over_put : (t : Ty) → IsOver table t → IsOver table (put σ t)
       over_put invalid o = o
       over_put never o = o
       over_put void o = o
       over_put null o = o
-      over_put (interface c ts) o = (same_arguments (class_of table c) (put_all (by_params ps ss) ts) ts (count-put_all (by_params ps ss) ts) o.0, over_put_all ts o.1)
+      over_put (interface c ts) o = (same_arguments (class_of table c) (put_all σ ts) ts (count-put_all σ ts) o.0, over_put_all ts o.1)
       over_put (function r p n e) o = (over_put_all r o.0, over_put_all p o.1, over_put_named n o.2, over_put e o.3)
-      over_put (variable x) o = over_argument ps ss x f o
+      over_put (variable x) o = f x o
       over_put (promoted x t) o = (o.0, over_put t o.1)
       over_put (nullable t) o = over_put t o
 
-      over_put_all : (ts : Types) → AreOver table ts → AreOver table (put_all (by_params ps ss) ts)
+      over_put_all : (ts : Types) → AreOver table ts → AreOver table (put_all σ ts)
       over_put_all no_more o = o
       over_put_all (more t ts) o = (over_put t o.0, over_put_all ts o.1)
 
-      over_put_named : (ns : Named) → AreOverNamed table ns → AreOverNamed table (put_named (by_params ps ss) ns)
+      over_put_named : (ns : Named) → AreOverNamed table ns → AreOverNamed table (put_named σ ns)
       over_put_named no_named o = o
       over_put_named (more_named n r t ts) o = (over_put t o.0, over_put_named ts o.1)
 
-  module _ (wf : IsWellFormed table) where
+  module _ (laws : RowLaws table) where
     over_super : {c : ClassId} {v : Ty} → IsSuperinterface table c v → IsOver table v
-    over_super {c = c} (direct {row = row} {v = v} r i) = (formed_super table wf c row v r i).1
-    over_super (further {d = d} {ts = ts} {row = row} {v = v} h r i) = over_put row.params ts (over_super h).1 v (formed_super table wf d row v r i).1
+    over_super {c = c} (direct {row = row} {v = v} r i) = (laws.formed_super c row v r i).1
+    over_super (further {d = d} {ts = ts} {row = row} {v = v} h r i) = over_put (by_params row.params ts) (λ x o. over_argument row.params ts x (over_super h).1 o) v (laws.formed_super d row v r i).1
 
     -- a superinterface of a class with arguments that are over rows is over them
     pub over_above : {c : ClassId} {ts : Types} {u : Ty} → AreOver table ts → IsAbove table c ts u → IsOver table u
     over_above {ts = ts} f a =
         let σ = by_params a.row.params ts in
-        subst (IsOver table) (sym a.is) (over_normal (put σ a.over) (over_put a.row.params ts f a.over (over_super a.superinterface)))
+        subst (IsOver table) (sym a.is) (over_normal (put σ a.over) (over_put σ (λ x o. over_argument a.row.params ts x f o) a.over (over_super a.superinterface)))
 
     -- where rows have `Function` without parameters, they have `Object` so too
     pub object_over : IsOver table (interface FUNCTION no_more) → IsOver table object
@@ -121,6 +120,6 @@ module _ (table : Table) where
         at : (o : Option ClassRow) → class_of table FUNCTION ≡ o → HasArguments o no_more → IsOver table object
         at None r h = absurd h
         at (Some row) r h =
-            let one : row.supers ≡ object ∷ [] = (formed_class table wf FUNCTION row r).function_alone (row_id table wf FUNCTION row r) in
+            let one : row.supers ≡ object ∷ [] = (laws.formed_class FUNCTION row r).function_alone (laws.row_id FUNCTION row r) in
             let i : Contains row.supers object = subst (λ (vs : List Ty). Contains vs object) (sym one) (0, omega arith, refl) in
-            (formed_super table wf FUNCTION row object r i).1
+            (laws.formed_super FUNCTION row object r i).1

@@ -8,16 +8,15 @@ use Rattle.dart_types.specs.Normal.{normal}
 use Rattle.dart_types.specs.Substitution.{put, put_all, by_params}
 use Rattle.dart_types.specs.Superinterfaces.{IsSuperinterface, direct, further}
 use Rattle.dart_types.specs.Tables.{Table, class_of, depth_of, depth_above, head_depth}
-use Rattle.dart_types.specs.WellFormed.{IsSupertype, HasArguments, IsOver, IsWellFormed}
+use Rattle.dart_types.specs.WellFormed.{IsSupertype, HasArguments, IsOver}
 use Rattle.dart_types.specs.Sub.{Sub, right_object}
 use Rattle.dart_types.specs.declared.ids.ClassId.{ClassId}
 use Rattle.dart_types.specs.declared.ids.VarId.{VarId}
 use Rattle.dart_types.specs.declared.ids.TheConstants.{OBJECT}
 use Rattle.dart_types.specs.declared.class_rows.ClassRow.{ClassRow}
-use Rattle.dart_types.proofs.Climb.{counted, superinterface_trans}
-use Rattle.dart_types.proofs.Formed.{row_id, formed_class, formed_super, super_depth}
-use Rattle.dart_types.proofs.SameIds.{equal_from_same_class, same_class-refl}
+use Rattle.dart_types.specs.Laws.{RowLaws}
 use Rattle.type_bounds.specs.Common.{IsAbove}
+use Rattle.type_bounds.proofs.General.{equal_from_same_class, same_class-refl}
 
 -- the type is an interface of a class that has a row
 abbrev pub HasRow : Table → Ty → Type 0
@@ -49,7 +48,7 @@ same_or_other {A} c d same other = at (same_class c d) refl
     at true e = same (equal_from_same_class c d e)
     at false e = other (clash e)
 
-module _ (table : Table) (wf : IsWellFormed table) where
+module _ (table : Table) (laws : RowLaws table) where
   over_row : (v : Ty) (ps : List VarId) → IsSupertype ps v → IsOver table v → HasRow table v
   over_row invalid ps i o = absurd i
   over_row never ps i o = absurd i
@@ -78,9 +77,9 @@ module _ (table : Table) (wf : IsWellFormed table) where
 
   -- a superinterface is of a class that has a row
   pub superinterface_row : {c : ClassId} {v : Ty} → IsSuperinterface table c v → HasRow table v
-  superinterface_row {c} (direct {row = row} {v = v} r i) = let f = formed_super table wf c row v r i in over_row v row.params f.0 f.1
+  superinterface_row {c} (direct {row = row} {v = v} r i) = let f = laws.formed_super c row v r i in over_row v row.params f.0 f.1
   superinterface_row (further {d = d} {ts = ts} {row = row} {v = v} h r i) =
-      let f = formed_super table wf d row v r i in
+      let f = laws.formed_super d row v r i in
       put_row (by_params row.params ts) v (over_row v row.params f.0 f.1)
 
   row_depth : (c : ClassId) (row : ClassRow) → class_of table c ≡ Some row → depth_of table c ≡ row.depth
@@ -89,15 +88,15 @@ module _ (table : Table) (wf : IsWellFormed table) where
   -- a class at depth 0 is Object, and has no supertype
   at_root : (c : ClassId) (row : ClassRow) → class_of table c ≡ Some row → depth_of table c ≡ 0 → c ≡ OBJECT
   at_root c row r root =
-      let f = formed_class table wf c row r in
+      let f = laws.formed_class c row r in
       let e : depth_above table row.supers ≡ 0 = sym f.depth ∙ (sym (row_depth c row r) ∙ root) in
       let none = no_supers table row.supers e in
-      same_or_other c OBJECT (λ is. is) (λ other. absurd (f.rooted (λ is. other (sym (row_id table wf c row r) ∙ is)) none))
+      same_or_other c OBJECT (λ is. is) (λ other. absurd (f.rooted (λ is. other (sym (laws.row_id c row r) ∙ is)) none))
 
   pub root_depth : (row : ClassRow) → class_of table OBJECT ≡ Some row → depth_of table OBJECT ≡ 0
   root_depth row r =
-      let f = formed_class table wf OBJECT row r in
-      let none : row.supers ≡ [] = f.object_alone (row_id table wf OBJECT row r) in
+      let f = laws.formed_class OBJECT row r in
+      let none : row.supers ≡ [] = f.object_alone (laws.row_id OBJECT row r) in
       row_depth OBJECT row r ∙ (f.depth ∙ ap (depth_above table) none)
 
   -- the class reaches Object
@@ -112,12 +111,12 @@ module _ (table : Table) (wf : IsWellFormed table) where
   by_super n go c row r le null i s o = absurd s
   by_super n go c row r le (interface d ts) i s o =
       let w : HasRow table (interface d ts) = over_row (interface d ts) row.params s o in
-      let up : depth_of table d + 1 ≤ depth_of table c = super_depth table wf c row (interface d ts) r i in
+      let up : depth_of table d + 1 ≤ depth_of table c = laws.super_depth c row (interface d ts) r i in
       same_or_other d OBJECT
       (λ is. (ts, subst (λ (x : ClassId). IsSuperinterface table c (interface x ts)) is (direct r i), subst (λ (x : ClassId). HasRow table (interface x ts)) is w))
       (λ other.
       let h : Reaches d = go d w.0 w.1 other (omega (arith, up, le)) in
-      (put_all (by_params w.0.params ts) h.0, superinterface_trans table wf (direct r i) w.0 w.1 h.1, h.2))
+      (put_all (by_params w.0.params ts) h.0, laws.superinterface_further c d ts w.0 (interface OBJECT h.0) w.1 (direct r i) h.1, h.2))
   by_super n go c row r le (function f o' m e) i s o = absurd s
   by_super n go c row r le (variable x) i s o = absurd s
   by_super n go c row r le (promoted x t) i s o = absurd s
@@ -130,9 +129,9 @@ module _ (table : Table) (wf : IsWellFormed table) where
   reaches_within : (n : ℕ) (c : ClassId) (row : ClassRow) → class_of table c ≡ Some row → (c ≡ OBJECT → ⊥) → depth_of table c ≤ n → Reaches c
   reaches_within zero c row r other le = absurd (other (at_root c row r (omega (arith, le))))
   reaches_within (suc n) c row r other le =
-      let f = formed_class table wf c row r in
-      let v = some_super row.supers (f.rooted (λ is. other (sym (row_id table wf c row r) ∙ is))) in
-      let g = formed_super table wf c row v.0 r v.1 in
+      let f = laws.formed_class c row r in
+      let v = some_super row.supers (f.rooted (λ is. other (sym (laws.row_id c row r) ∙ is))) in
+      let g = laws.formed_super c row v.0 r v.1 in
       by_super n (reaches_within n) c row r (omega (arith, le)) v.0 v.1 g.0 g.1
 
   pub reaches : (c : ClassId) (row : ClassRow) → class_of table c ≡ Some row → (c ≡ OBJECT → ⊥) → Reaches c
@@ -141,7 +140,7 @@ module _ (table : Table) (wf : IsWellFormed table) where
   -- where Object has no parameters, it is a superinterface of every other class, and alone at depth 0
   module _ (bare : (row : ClassRow) → class_of table OBJECT ≡ Some row → row.params ≡ []) where
     bare_arguments : {c : ClassId} {us : Types} → IsSuperinterface table c (interface OBJECT us) → (row : ClassRow) → class_of table OBJECT ≡ Some row → us ≡ no_more
-    bare_arguments {us = us} h row r = no_types us (counted table wf h row r ∙ ap length (bare row r))
+    bare_arguments {c = c} {us = us} h row r = no_types us (laws.superinterface_counted c OBJECT us row r h ∙ ap length (bare row r))
 
     pub object_above : (c : ClassId) (ss : Types) (row : ClassRow) → class_of table c ≡ Some row → count ss ≡ length row.params → (c ≡ OBJECT → ⊥) → IsAbove table c ss object
     object_above c ss row r k other =

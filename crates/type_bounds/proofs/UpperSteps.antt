@@ -18,9 +18,9 @@ use Rattle.dart_types.specs.declared.types.FunctionType.{FunctionType}
 use Rattle.dart_types.specs.declared.types.TypeList.{TypeList}
 use Rattle.dart_types.specs.declared.types.TypeNode.{TypeNode}
 use Rattle.dart_types.specs.declared.types.TypeNode.TheVariants.{Invalid, Never, Void, Null, Interface, Function, Var, Promoted, Nullable}
-use Rattle.dart_types.proofs.RowTests.{count-types_of}
 use Rattle.type_bounds.specs.Signatures.{have_upper}
 use Rattle.type_bounds.specs.Bounds.{AreApart, is_bare, is_promoted_from, is_settled, Upper, UpperApart, null_left, null_right, promoted_twice, variable_left, promoted_left, variable_right, promoted_right, upper_of_others, function_and_class, class_and_function, one_class, unbound_left, unbound_right, invalid_left, invalid_right, other_arguments, Uppers}
+use Rattle.type_bounds.proofs.General.{count-types_of}
 
 pub from_not : {b : Bool} → false ≡ not b → b ≡ true
 from_not {b = true} e = refl

@@ -3,14 +3,14 @@ use Rattle.std.proofs.Common.{◌≡◌, true, Option, Some, None, sym, ◌∙�
 use Rattle.dart_types.specs.Ty.{Ty, Types, Named, interface, variable, count}
 use Rattle.dart_types.specs.Same.{same_class}
 use Rattle.dart_types.specs.Tables.{Table, class_of, bound_of}
-use Rattle.dart_types.specs.WellFormed.{HasArguments, IsOver, AreOver, AreOverNamed, IsWellFormed}
+use Rattle.dart_types.specs.WellFormed.{HasArguments, IsOver, AreOver, AreOverNamed}
 use Rattle.dart_types.specs.declared.ids.ClassId.{ClassId}
 use Rattle.dart_types.specs.declared.ids.VarId.{VarId}
 use Rattle.dart_types.specs.declared.class_rows.ClassRow.{ClassRow}
-use Rattle.dart_types.proofs.Formed.{formed_bound}
-use Rattle.dart_types.proofs.SameIds.{equal_from_same_class}
+use Rattle.dart_types.specs.Laws.{RowLaws}
 use Rattle.type_bounds.specs.Bounds.{bare_of, Upper, right_above, left_above, upper_apart, UpperApart, null_left, null_right, marked_either, promoted_twice, variable_left, promoted_left, variable_right, promoted_right, upper_functions, upper_of_others, function_and_class, class_and_function, one_class, two_classes, unbound_left, unbound_right, invalid_left, invalid_right, other_arguments, unknown_class, Uppers, no_upper, one_upper, UpperNamed, no_upper_name, upper_name, Lower, left_below, right_below, lower_apart, LowerApart, marked_both, marked_once, lower_functions, lower_of_others, nothing_below, LowerParams, left_ends, right_ends, one_lower, LowerNamed, no_lower_name, lower_name, other_name}
 use Rattle.type_bounds.specs.Valid.{IsValid, AreValid, AreValidNamed, HasValidRows}
+use Rattle.type_bounds.proofs.General.{equal_from_same_class}
 use Rattle.type_bounds.proofs.NamedBounds.{type_is_named}
 use Rattle.type_bounds.proofs.OverRows.{over_bare, over_named}
 use Rattle.type_bounds.proofs.ValidRows.{valid_bare, valid_marked, valid_named, valid_bound, valid_above}
@@ -40,12 +40,12 @@ module _ (table : Table) where
   counted c d ss ts h o p =
       one_count (class_of table d) ss ts (subst (λ (k : ClassId). HasArguments (class_of table k) ss) (equal_from_same_class c d h) o.0) p.0
 
-  module _ (wf : IsWellFormed table) (rows : HasValidRows table) where
+  module _ (laws : RowLaws table) (rows : HasValidRows table) where
     sound_bare : (t : Ty) → IsSound table t → IsSound table (bare_of t)
     sound_bare t k = (over_bare table t k.0, valid_bare t k.1)
 
     sound_bound : (x : VarId) (b : Ty) → bound_of table x ≡ Some b → IsSound table b
-    sound_bound x b e = ((formed_bound table wf x b e).1, valid_bound table rows x b e)
+    sound_bound x b e = ((laws.formed_bound x b e).1, valid_bound table rows x b e)
 
     mutual
       pub upper_valid : {s t u : Ty} → Upper table s t u → IsSound table s → IsSound table t → IsValid u

@@ -13,10 +13,10 @@ use Rattle.dart_types.specs.declared.ids.ClassId.{ClassId}
 use Rattle.dart_types.specs.declared.ids.VarId.{VarId}
 use Rattle.dart_types.specs.declared.class_rows.ClassRow.{ClassRow}
 use Rattle.dart_types.specs.declared.class_rows.VarRow.{VarRow}
-use Rattle.dart_types.proofs.Formed.{found_in, from_mapped}
 use Rattle.type_bounds.specs.Bounds.{bare_of}
 use Rattle.type_bounds.specs.Common.{IsAbove}
 use Rattle.type_bounds.specs.Valid.{IsValid, AreValid, AreValidNamed, HasValidRows}
+use Rattle.type_bounds.proofs.General.{found_in, from_mapped}
 
 pub valid_bare : (t : Ty) → IsValid t → IsValid (bare_of t)
 valid_bare invalid v = v

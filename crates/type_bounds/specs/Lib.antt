@@ -14,3 +14,4 @@ pub mod Valid
 pub mod Above
 pub mod Chains
 pub mod Meetings
+pub mod Laws

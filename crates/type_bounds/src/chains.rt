@@ -4,7 +4,7 @@ ghost use Rattle.std.specs.Prelude.{MatchOption};
 ghost use Rattle.type_bounds.specs.Chains.{LeadsTo, IsNext};
 
 use crate::type_forms::{bare, is_marked};
-use dart_types::{DartType, Rows, TypeNode, is_subtype};
+use dart_types::{DartType, Rows, TypeNode, is_subtype, row_laws};
 
 /// Where a chain of variables leads.
 #[derive(Drop)]
@@ -21,6 +21,7 @@ pub(crate) struct Chain<'a> {
 pub(crate) fn chain_from<'a>(rows: &'a Rows, first: &'a DartType, other: &DartType) -> Chain<'a>
     ensures { LeadsTo rows.now.table other.now first.now result.marked result.last.now }
 {
+    row_laws(rows);
     let mut last = first;
     let mut marked = false;
     while let Some(bound) = variable_bound(rows, last) {

@@ -24,8 +24,9 @@ mod uppers;
 
 pub use factors::factor;
 pub use laws::{
-    bounds_are_bounds, bounds_are_over_rows, bounds_are_those_of_the_tables, bounds_are_unique,
-    bounds_are_valid, bounds_go_row_by_row, non_null_laws, superinterfaces_are_those_of_the_rules,
+    bound_table_laws, bounds_are_bounds, bounds_are_over_rows, bounds_are_those_of_the_tables,
+    bounds_are_unique, bounds_are_valid, bounds_go_row_by_row, more_rows_laws, non_null_laws,
+    superinterfaces_are_those_of_the_rules, wider_bounds_laws,
 };
 pub use non_nulls::non_null;
 pub use uppers::{lower, upper};

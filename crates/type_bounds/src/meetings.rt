@@ -7,7 +7,7 @@ ghost use Rattle.type_bounds.specs.Meetings.{Meets, IsNext, IsStep};
 
 use crate::chains::chain_from;
 use crate::type_forms::{bare, is_marked, is_null, is_promoted_from};
-use dart_types::{DartType, Rows, TypeNode, VarId, is_subtype};
+use dart_types::{DartType, Rows, TypeNode, VarId, is_subtype, row_laws};
 
 /// What the upper bound of two types comes to.
 #[derive(Clone, Copy)]
@@ -95,6 +95,7 @@ fn step_apart<'a>(rows: &'a Rows, s: &'a DartType, t: &'a DartType) -> Step<'a>
     requires apart { AreApart rows.now.table s.now t.now }
     ensures { IsStep rows.now.table (weight_of rows.now.table s.now + weight_of rows.now.table t.now) (UpperApart rows.now.table s.now t.now) result }
 {
+    row_laws(rows);
     if is_null(s) {
         return Step {
             next: Next::Ends(End::At(t)),
@@ -128,6 +129,7 @@ fn step_left<'a>(rows: &'a Rows, s: &'a DartType, t: &'a DartType) -> Step<'a>
     requires right { is_bare t.now ≡ true }
     ensures { IsStep rows.now.table (weight_of rows.now.table s.now + weight_of rows.now.table t.now) (UpperApart rows.now.table s.now t.now) result }
 {
+    row_laws(rows);
     match &s.node {
         TypeNode::Var(var) => match rows.bound(*var) {
             None => Step {
@@ -168,6 +170,7 @@ fn next_right<'a>(rows: &'a Rows, s: &'a DartType, t: &'a DartType) -> Next<'a>
     requires right { is_bare t.now ≡ true }
     ensures { IsNext rows.now.table (weight_of rows.now.table s.now + weight_of rows.now.table t.now) (UpperApart rows.now.table s.now t.now) result }
 {
+    row_laws(rows);
     match &t.node {
         TypeNode::Var(var) => match rows.bound(*var) {
             None => Next::Ends(End::Nowhere),

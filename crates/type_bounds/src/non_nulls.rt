@@ -9,7 +9,7 @@ ghost use Rattle.type_bounds.specs.NonNull.{non_null_of};
 ghost use Rattle.type_bounds.specs.NonNullSteps.{IsWithoutNull};
 
 use dart_types::{
-    DartType, NODE_LIMIT, Rows, TypeNode, TypeRefusal, VarId, is_subtype_of_object, size,
+    DartType, NODE_LIMIT, Rows, TypeNode, TypeRefusal, VarId, is_subtype_of_object, row_laws, size,
 };
 use std::alloc::{AllocError, Global};
 
@@ -45,6 +45,7 @@ enum WithoutNull<'a> {
 fn without_null<'a>(rows: &'a Rows, t: &'a DartType) -> WithoutNull<'a>
     ensures { IsWithoutNull rows.now.table t.now result }
 {
+    row_laws(rows);
     match &t.node {
         TypeNode::Null => WithoutNull::Nothing,
         TypeNode::Nullable(bare) => WithoutNull::Bare(bare),
@@ -62,6 +63,7 @@ fn without_null<'a>(rows: &'a Rows, t: &'a DartType) -> WithoutNull<'a>
 fn var_without_null<'a>(rows: &'a Rows, var: VarId) -> WithoutNull<'a>
     ensures { IsWithoutNull rows.now.table (variable var) result }
 {
+    row_laws(rows);
     match rows.bound(var) {
         None => WithoutNull::Itself,
         Some(bound) => {

@@ -15,7 +15,7 @@ ghost use Rattle.type_bounds.specs.PartsView.{IsPart, IsSomePart};
 use crate::counts::Count;
 use crate::parts::Part;
 use dart_types::{
-    Arguments, ClassId, DartType, Rows, Superinterface, TypeList, TypeRefusal,
+    Arguments, ClassId, DartType, Rows, Superinterface, TypeList, TypeRefusal, row_laws,
     superinterfaces_of_class,
 };
 use std::alloc::{AllocError, Global};
@@ -49,6 +49,7 @@ pub(crate) fn upper_of_classes(
     requires apart { AreApart rows.now.table (interface class (types_of args.now)) (interface other (types_of others.now)) }
     ensures { IfOk result (IsSomePart (UpperApart rows.now.table (interface class (types_of args.now)) (interface other (types_of others.now)))) }
 {
+    row_laws(rows);
     let left = match above_class(rows, class, args) {
         None => return Ok(Part::invalid()),
         Some(left) => left,

@@ -26,7 +26,7 @@ use crate::superclasses::upper_of_classes;
 use crate::type_forms::{bare, is_marked};
 use dart_types::{
     ClassId, DartType, FUNCTION, FunctionType, NamedType, NamedTypes, OBJECT, Rows, TypeList,
-    TypeNode, TypeRefusal, is_subtype,
+    TypeNode, TypeRefusal, is_subtype, named_parameter_laws, row_laws,
 };
 use std::alloc::{AllocError, Global};
 
@@ -42,6 +42,7 @@ pub fn upper(
     ensures forms { Forms result (upper_of rows.now.table s.now t.now) }
     ensures above { IfOk result (λ bound. IsValid bound → Sub rows.now.table s.now bound × Sub rows.now.table t.now bound) }
 {
+    row_laws(rows);
     let part = upper_part(alloc, rows, s, t)?;
     part.finish()
 }
@@ -57,6 +58,7 @@ pub fn lower(
     ensures forms { Forms result (lower_of rows.now.table s.now t.now) }
     ensures below { IfOk result (λ bound. IsValid bound → Sub rows.now.table bound s.now × Sub rows.now.table bound t.now) }
 {
+    row_laws(rows);
     let part = lower_part(alloc, rows, s, t)?;
     part.finish()
 }
@@ -228,6 +230,7 @@ fn lower_named(
     requires { AreInOrder (names_of named.now) }
     ensures { IfOk result (AreSomeNamed (LowerNamed rows.now.table (named_of named.now) (named_of others.now))) }
 {
+    named_parameter_laws();
     let mut lowers = NamedParts::new(alloc);
     for i in 0..named.len() {
         let own = &named[i];

@@ -1,6 +1,6 @@
 use Rattle.std.proofs.Common.{false, sym, ◌∙◌}
-use Rattle.dart_types.proofs.Steps.{refused}
 use Rattle.type_bounds.specs.Chains.{ends}
+use Rattle.type_bounds.proofs.General.{refused}
 use Rattle.type_bounds.proofs.ChainSteps.{next_falls, next_leads, whole_way, unmarked_step, marked_step}
 use Rattle.type_bounds.proofs.chains.chain_from.Goals as goal
 
@@ -15,7 +15,7 @@ returns-then-is_subtype-2 c = whole_way c.args.rows.now.table c.args.other.now c
 
 -- past a bound with a mark
 pub loop-bound-smaller-else-is_subtype-2 : goal.loop-bound-smaller-else-is_subtype-2
-loop-bound-smaller-else-is_subtype-2 c = next_falls c.args.rows.now.table c.args.rows.now.formed c.loop-bound.last.now c.in-Some.bound.now c.bare-next.result.now c.in-Some.ensures c.bare-next.ensures
+loop-bound-smaller-else-is_subtype-2 c = next_falls c.args.rows.now.table c.row_laws.ensures c.loop-bound.last.now c.in-Some.bound.now c.bare-next.result.now c.in-Some.ensures c.bare-next.ensures
 
 pub loop-bound-preserved-else-is_subtype-2 : goal.loop-bound-preserved-else-is_subtype-2
 loop-bound-preserved-else-is_subtype-2 c =
@@ -29,7 +29,7 @@ loop-bound-preserved-else-is_subtype-2 c =
 
 -- past one without
 pub loop-bound-smaller : goal.loop-bound-smaller
-loop-bound-smaller c = next_falls c.args.rows.now.table c.args.rows.now.formed c.loop-bound.last.now c.in-Some.bound.now c.bare-next.result.now c.in-Some.ensures c.bare-next.ensures
+loop-bound-smaller c = next_falls c.args.rows.now.table c.row_laws.ensures c.loop-bound.last.now c.in-Some.bound.now c.bare-next.result.now c.in-Some.ensures c.bare-next.ensures
 
 pub loop-bound-preserved : goal.loop-bound-preserved
 loop-bound-preserved c =

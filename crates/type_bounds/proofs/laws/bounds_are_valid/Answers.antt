@@ -5,11 +5,11 @@ use Rattle.type_bounds.proofs.laws.bounds_are_valid.Goals as goal
 pub returns-clause-upper : goal.returns-clause-upper
 returns-clause-upper c =
     let table = c.args._rows.now.table in
-    let wf = c.args._rows.now.formed in
-    upper_valid table wf c.requires.rows (upper_holds table wf c.args._s.now c.args._t.now) c.requires.left c.requires.right
+    let laws = c.row_laws.ensures in
+    upper_valid table laws c.requires.rows (upper_holds table laws c.args._s.now c.args._t.now) c.requires.left c.requires.right
 
 pub returns-clause-lower : goal.returns-clause-lower
 returns-clause-lower c =
     let table = c.args._rows.now.table in
-    let wf = c.args._rows.now.formed in
-    lower_valid table wf c.requires.rows (lower_holds table wf c.args._s.now c.args._t.now) c.requires.left c.requires.right
+    let laws = c.row_laws.ensures in
+    lower_valid table laws c.requires.rows (lower_holds table laws c.args._s.now c.args._t.now) c.requires.left c.requires.right

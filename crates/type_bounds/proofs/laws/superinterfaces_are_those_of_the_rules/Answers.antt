@@ -4,10 +4,10 @@ use Rattle.type_bounds.proofs.laws.superinterfaces_are_those_of_the_rules.Goals 
 pub returns-clause-over_parameters : goal.returns-clause-over_parameters
 returns-clause-over_parameters c = λ d v.
     let table = c.args._rows.now.table in
-    (superinterfaces_complete table c.args._rows.now.formed d v, superinterfaces_sound table d v)
+    (superinterfaces_complete table c.row_laws.ensures d v, superinterfaces_sound table d v)
 
 pub returns-clause-with_arguments : goal.returns-clause-with_arguments
 returns-clause-with_arguments c = λ d ts u.
     let table = c.args._rows.now.table in
-    let wf = c.args._rows.now.formed in
-    (above_complete table wf d ts u, above_sound table wf d ts u)
+    let laws = c.row_laws.ensures in
+    (above_complete table laws d ts u, above_sound table laws d ts u)

@@ -19,7 +19,7 @@ pub returns-in-Some : goal.returns-in-Some
 returns-in-Some c =
     let table = c.args.rows.now.table in
     let is : c.args.t.now ≡ variable c.in-Var.var = sym c.t.view_is ∙ ap type_of c.in-Var.is in
-    let fall = bound_weighs table c.args.rows.now.formed c.in-Var.var c.in-Some.bound.now (sym c.in-Some.ensures) in
+    let fall = bound_weighs table c.row_laws.ensures c.in-Var.var c.in-Some.bound.now (sym c.in-Some.ensures) in
     (omega (arith, fall, ap (weight_of table) is), λ u a. at_variable_right table c.in-Var.var is c.requires.left (sym c.in-Some.ensures) a)
 
 pub returns-in-Promoted : goal.returns-in-Promoted

@@ -60,7 +60,7 @@ returns c =
     let chain = c.chain_from-chain.ensures in
     let unmarked = sym c.is_marked-2.ensures ∙ second_false c.is_marked.result c.is_marked-2.result c.if-is_marked.false in
     let bare = bare_by c.args.t.now (sym c.is_null-2.ensures ∙ c.if-is_null-2.false) unmarked in
-    let least : weight_of table c.chain_from-chain.result.last.now + weight_of table c.args.t.now ≤ weight_of table c.args.s.now + weight_of table c.args.t.now = omega (arith, last_no_heavier table c.args.rows.now.formed chain) in
+    let least : weight_of table c.chain_from-chain.result.last.now + weight_of table c.args.t.now ≤ weight_of table c.args.s.now + weight_of table c.args.t.now = omega (arith, last_no_heavier table c.row_laws.ensures chain) in
     step_over table (weight_of table c.chain_from-chain.result.last.now + weight_of table c.args.t.now) (weight_of table c.args.s.now + weight_of table c.args.t.now)
     (UpperApart table c.chain_from-chain.result.last.now c.args.t.now) (UpperApart table c.args.s.now c.args.t.now) c.step_left-step.result.next c.step_left-step.result.marked c.chain_from-chain.result.marked least
     (λ u a. chain_left table chain c.requires.apart bare a) c.step_left-step.ensures

@@ -22,7 +22,7 @@ pub returns-in-Some : goal.returns-in-Some
 returns-in-Some c =
     let table = c.args.rows.now.table in
     let is : c.args.s.now ≡ variable c.in-Var.var = sym c.s.view_is ∙ ap type_of c.in-Var.is in
-    let fall = bound_weighs table c.args.rows.now.formed c.in-Var.var c.in-Some.bound.now (sym c.in-Some.ensures) in
+    let fall = bound_weighs table c.row_laws.ensures c.in-Var.var c.in-Some.bound.now (sym c.in-Some.ensures) in
     (omega (arith, fall, ap (weight_of table) is), λ u a. at_variable_left table c.in-Var.var is c.requires.right (sym c.in-Some.ensures) a)
 
 pub returns-then-is_promoted_from : goal.returns-then-is_promoted_from
@@ -56,7 +56,7 @@ returns-in_default c =
     let table = c.args.rows.now.table in
     let chain = c.chain_from-chain.ensures in
     let settled = settled_node c.s.inside.node c.s.view_is c.in_default.not-Var c.in_default.not-Promoted c.requires.left in
-    let least : weight_of table c.args.s.now + weight_of table c.chain_from-chain.result.last.now ≤ weight_of table c.args.s.now + weight_of table c.args.t.now = omega (arith, last_no_heavier table c.args.rows.now.formed chain) in
+    let least : weight_of table c.args.s.now + weight_of table c.chain_from-chain.result.last.now ≤ weight_of table c.args.s.now + weight_of table c.args.t.now = omega (arith, last_no_heavier table c.row_laws.ensures chain) in
     next_over table (weight_of table c.args.s.now + weight_of table c.chain_from-chain.result.last.now) (weight_of table c.args.s.now + weight_of table c.args.t.now)
     (UpperApart table c.args.s.now c.chain_from-chain.result.last.now) (λ u. UpperApart table c.args.s.now c.args.t.now (marked_by c.chain_from-chain.result.marked u)) c.next_right.result least
     (λ u a. chain_right table chain c.requires.apart settled a) c.next_right.ensures

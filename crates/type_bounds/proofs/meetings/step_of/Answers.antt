@@ -1,9 +1,9 @@
 use Rattle.std.proofs.Common.{◌+◌, sym, subst, arith}
 use Rattle.dart_types.specs.Ty.{Ty}
 use Rattle.dart_types.specs.Measure.{weight_of}
-use Rattle.dart_types.proofs.Steps.{granted, refused}
 use Rattle.type_bounds.specs.Bounds.{Upper, right_above, left_above, upper_apart, UpperApart}
 use Rattle.type_bounds.specs.Chains.{marked_by}
+use Rattle.type_bounds.proofs.General.{granted, refused}
 use Rattle.type_bounds.proofs.MeetingSteps.{next_over}
 use Rattle.type_bounds.proofs.meetings.step_of.Goals as goal
 

@@ -1,8 +1,8 @@
 use Rattle.std.proofs.Common.{◌≡◌, true, length, sym, ap, ◌∙◌}
 use Rattle.std.specs.Prelude.{◌&&◌, ◌||◌, not}
+use Rattle.std.proofs.lemmas.Bool.{and_from}
 use Rattle.dart_types.specs.Ty.{types_of}
 use Rattle.dart_types.specs.Named.{named_of}
-use Rattle.dart_types.proofs.NamedParams.{and_true}
 use Rattle.type_bounds.specs.Signatures.{required_are_in, some_type, some_named}
 use Rattle.type_bounds.proofs.SignatureTests.{counts_same, counts_differ, and_first, and_second}
 use Rattle.type_bounds.proofs.signatures.have_upper.Goals as goal
@@ -30,4 +30,4 @@ returns c =
     let j = c.some_named-2.ensures in
     cc
     in
-    last ∙ and_second _ _ (and_true _ _ required (and_true _ _ there back))
+    last ∙ and_second _ _ (and_from _ _ required (and_from _ _ there back))

@@ -2,7 +2,7 @@ use Rattle.std.proofs.Common.{◌≡◌, length, Option, refl, sym, ◌∙◌, a
 use Rattle.dart_types.specs.Ty.{types_of, count}
 use Rattle.dart_types.specs.WellFormed.{HasArguments}
 use Rattle.dart_types.specs.declared.class_rows.ClassRow.{ClassRow}
-use Rattle.dart_types.proofs.RowTests.{count-types_of}
+use Rattle.type_bounds.proofs.General.{count-types_of}
 use Rattle.type_bounds.proofs.superclasses.above_class.Goals as goal
 
 -- another number of parameters

@@ -1,6 +1,7 @@
 use Rattle.std.proofs.Common.{◌≡◌, ◌+◌, ◌<◌, true, false, length, drop, get_or, refl, sym, ◌∙◌, ap, subst, arith}
 use Rattle.std.specs.Prelude.{◌&&◌, ◌||◌, bytes_eq}
 use Rattle.std.proofs.lemmas.List.{get_or_default}
+use Rattle.std.proofs.lemmas.Bool.{and_parts}
 use Rattle.dart_types.specs.Ty.{invalid, never, interface, variable, no_more, more, no_named, more_named, types_of, join}
 use Rattle.dart_types.specs.Heads.{object}
 use Rattle.dart_types.specs.Named.{named_of}
@@ -8,9 +9,6 @@ use Rattle.dart_types.specs.Node.{type_of, function_type}
 use Rattle.dart_types.specs.Measure.{weight_of}
 use Rattle.dart_types.specs.declared.types.NamedType.{NamedType}
 use Rattle.dart_types.specs.declared.ids.TheConstants.{FUNCTION}
-use Rattle.dart_types.proofs.SameIds.{both_true}
-use Rattle.dart_types.proofs.Steps.{granted, refused}
-use Rattle.dart_types.proofs.NamesFound.{required_found}
 use Rattle.dart_types.specs.Marks.{is_marked}
 use Rattle.type_bounds.specs.Bounds.{Upper, UpperApart, upper_functions, Uppers, UpperNamed, Lower, left_below, right_below, lower_apart, LowerApart, marked_once, lower_functions, LowerParams, LowerNamed}
 use Rattle.type_bounds.specs.Meetings.{ComesTo, IsWithin}
@@ -18,6 +16,7 @@ use Rattle.type_bounds.specs.PartsView.{IsSomePart}
 use Rattle.type_bounds.specs.declared.meetings.End.{End}
 use Rattle.type_bounds.specs.declared.meetings.End.TheVariants.{At, Var, Nowhere, Apart}
 use Rattle.type_bounds.specs.NamedView.{join_named, AreSomeNamed}
+use Rattle.type_bounds.proofs.General.{granted, refused}
 use Rattle.type_bounds.proofs.BoundFalls.{arguments_fall, required_fall, optional_fall, named_fall, results_fall, marked_fall, type_weighs, param_weighs, name_weighs}
 use Rattle.type_bounds.proofs.SomeParts.{some_type, some_interface, some_by, some_marked, some_marked_by, some_function, moved, moved_types, moved_named}
 use Rattle.type_bounds.proofs.Rests.{completed, completed_named, one_more, one_more_named, uppers_end, lowers_end, lowers_end_right, uppers_step, lowers_step, upper_names_end, lower_names_end, upper_names_step, lower_names_step, other_names_step}
@@ -289,7 +288,7 @@ lower_named-loop-i-preserved t c =
           let other = w.in-Some.other.now in
           let found = sym w.in-Some.ensures.found in
           let required = own.required || other.required in
-          let flag = required_found c.args.others.now w.in-Some.ensures.in_order own.name other found in
+          let flag = c.named_parameter_laws.ensures.found c.args.others.now own.name other w.in-Some.ensures.in_order found in
           subst (AreSomeNamed so) (sym w.lowers-is) (
             join_named so_far.0 (more_named own.name required next.0 no_named),
             (
@@ -351,7 +350,7 @@ lower_apart-lower_part-requires t c =
 pub lower_apart-returns-then-is_marked : goal.lower_apart-returns-then-is_marked
 lower_apart-returns-then-is_marked t c =
     let marked : (is_marked c.args.s.now && is_marked c.args.t.now) ≡ true = let e = c.is_marked.ensures in let f = c.is_marked-2.ensures in let g = c.if-is_marked.true in cc in
-    let both = both_true (is_marked c.args.s.now) (is_marked c.args.t.now) marked in
+    let both = and_parts (is_marked c.args.s.now) (is_marked c.args.t.now) marked in
     some_marked (LowerApart c.args.rows.now.table c.args.s.now c.args.t.now) c.nullable.result (Lower c.args.rows.now.table c.bare.result.now c.bare-then-is_marked.result.now) c.in_ok-lower_part.field-0
     (λ u a. at_both_marks c.args.rows.now.table c.args.s.now c.args.t.now u both.0 both.1 (moved (Lower c.args.rows.now.table) c.bare.ensures c.bare-then-is_marked.ensures a))
     c.in_ok-lower_part.ensures

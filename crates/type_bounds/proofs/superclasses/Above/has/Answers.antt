@@ -5,12 +5,9 @@ use Rattle.dart_types.specs.Ty.{Ty, Types, interface}
 use Rattle.dart_types.specs.Same.{same_class}
 use Rattle.dart_types.specs.declared.ids.ClassId.{ClassId}
 use Rattle.dart_types.specs.declared.superinterfaces.Superinterface.{Superinterface}
-use Rattle.dart_types.proofs.ClassSteps.{contains_passed, passed_contains}
-use Rattle.dart_types.proofs.RowTests.{all_next, all_done}
-use Rattle.dart_types.proofs.SameIds.{same_class-refl}
-use Rattle.dart_types.proofs.Steps.{yes, no, granted, refused}
 use Rattle.type_bounds.specs.Above.{type_above}
 use Rattle.type_bounds.specs.declared.superclasses.Above.{Above}
+use Rattle.type_bounds.proofs.General.{contains_passed, passed_contains, all_next, all_done, yes, no, granted, refused, same_class-refl}
 use Rattle.type_bounds.proofs.superclasses.Above.has.Goals as goal
 
 -- an entry is another type

@@ -1,6 +1,6 @@
 use Rattle.std.proofs.Common.{Some, subst}
-use Rattle.dart_types.proofs.Steps.{refused}
 use Rattle.type_bounds.specs.Above.{depth_in, HasNoneUnder, IsTopUnder}
+use Rattle.type_bounds.proofs.General.{refused}
 use Rattle.type_bounds.proofs.Deepest.{none_left, next_above}
 use Rattle.type_bounds.proofs.superclasses.Pair.deepest.Goals as goal
 

@@ -1,9 +1,8 @@
 use Rattle.std.proofs.Common.{List, subst, arith}
 use Rattle.std.specs.Prelude.{All}
 use Rattle.dart_types.specs.declared.superinterfaces.Superinterface.{Superinterface}
-use Rattle.dart_types.proofs.RowTests.{all_next, all_done}
-use Rattle.dart_types.proofs.Steps.{yes, granted}
 use Rattle.type_bounds.specs.Above.{AgreesWith}
+use Rattle.type_bounds.proofs.General.{all_next, all_done, yes, granted}
 use Rattle.type_bounds.proofs.superclasses.Pair.is_alone.Goals as goal
 
 pub loop-s-preserved : goal.loop-s-preserved

@@ -1,9 +1,8 @@
 use Rattle.std.proofs.Common.{◌≡◌, ◌+◌, List, take, sym, ◌∙◌, ap, subst}
 use Rattle.std.specs.Prelude.{All, Contains}
 use Rattle.dart_types.specs.declared.superinterfaces.Superinterface.{Superinterface}
-use Rattle.dart_types.proofs.RowTests.{all_done}
-use Rattle.dart_types.proofs.Steps.{granted}
 use Rattle.type_bounds.specs.Above.{depth_in}
+use Rattle.type_bounds.proofs.General.{all_done, granted}
 use Rattle.type_bounds.proofs.OnePass.{IsBelow, IsFloorOver, IsNext, one_passed, one_taken, all_passed}
 use Rattle.type_bounds.proofs.superclasses.Pair.top_under.Goals as goal
 use Rattle.type_bounds.proofs.superclasses.Pair.top_under.Goals.{then-is_between, else-is_between}
