@@ -4,11 +4,9 @@ use Rattle.std.specs.Option.{option_map}
 use Rattle.dart_types.specs.Ty.{Ty}
 use Rattle.dart_types.specs.Same.{same_type}
 use Rattle.dart_types.specs.Tables.{Table}
-use Rattle.dart_types.specs.WellFormed.{IsWellFormed}
 use Rattle.dart_types.specs.Sub.{Sub, reflexivity}
-use Rattle.dart_types.proofs.SameType.{same_type-refl, equal_from_same_type}
-use Rattle.dart_types.proofs.Transitive.{trans}
 use Rattle.type_bounds.specs.NonNull.{non_null_of}
+use Rattle.type_bounds.specs.Laws.{BoundLaws}
 use Rattle.flow_model.specs.TypeTests.{proper_sub, is_formed, is_in}
 use Rattle.flow_model.specs.Flow.{FlowModel, facts_of, last_or, current_of, current_in}
 use Rattle.flow_model.specs.Promote.{promoted_facts, tested_as, promote_facts, without_null_of, non_null_facts, below_current, append_facts}
@@ -17,6 +15,7 @@ use Rattle.flow_model.specs.Chains.{Descends}
 use Rattle.flow_model.specs.Order.{kept_in, tested_in}
 use Rattle.flow_model.specs.declared.locals.LocalId.{LocalId}
 use Rattle.flow_model.specs.declared.locals.Facts.{Facts}
+use Rattle.flow_model.proofs.SameTypes.{same_type-refl, equal_from_same_type}
 use Rattle.flow_model.proofs.JoinLaws.{is_in-union}
 use Rattle.flow_model.proofs.SaysMore.{right_true}
 use Rattle.flow_model.proofs.Descents.{tested_below, without_null_below, known_below}
@@ -83,11 +82,11 @@ module _ (table : Table) where
   pub non_null_promotes : (l : Facts) → l.captured ≡ false → is_formed (non_null_of table (current_of l)) ≡ true → current_of (non_null_facts table l) ≡ non_null_of table (current_of l)
   non_null_promotes l = without_null_at l (same_type (non_null_of table (current_of l)) (current_of l)) refl
 
-  module _ (wf : IsWellFormed table) where
+  module _ (laws : BoundLaws table) where
     -- the last of types that descend is below
     last_below : (t : Ty) (us : List Ty) → Descends table t us → Sub table (last_or t us) t
     last_below t [] down = reflexivity
-    last_below t (u ∷ us) down = trans table wf u (last_or u us) t (last_below u us down.1) down.0
+    last_below t (u ∷ us) down = laws.rows.sub_transitive (last_or u us) u t (last_below u us down.1) down.0
 
     -- the last of types that stand only where a local isn't captured
     last_below_if : (t : Ty) (us : List Ty) (captured : Bool) → Descends table t us → Sub table (last_or t (if captured then [] else us)) t
@@ -102,14 +101,14 @@ module _ (table : Table) where
     -- a test
     pub test_narrows : (to : Ty) (l : Facts) → Sub table (current_of (promote_facts table to l)) (current_of l)
     test_narrows to l =
-        promoted_narrows (tested_as table to (current_of l)) l (tested_below table to (current_of l))
+        promoted_narrows (tested_as table to (current_of l)) l (tested_below table laws to (current_of l))
 
     -- that it isn't null
     pub non_null_narrows : (l : Facts) → Sub table (current_of (non_null_facts table l)) (current_of l)
     non_null_narrows l =
-        promoted_narrows (without_null_of table (current_of l)) l (without_null_below table (current_of l))
+        promoted_narrows (without_null_of table (current_of l)) l (without_null_below table laws (current_of l))
 
     -- that it has a type
     pub append_narrows : (to : Ty) (l : Facts) → Sub table (current_of (append_facts table to l)) (current_of l)
     append_narrows to l =
-        promoted_narrows (below_current table to (current_of l)) l (known_below table to (current_of l))
+        promoted_narrows (below_current table to (current_of l)) l (known_below table laws to (current_of l))

@@ -1,9 +1,9 @@
 -- Which models imply which where two meet.
 use Rattle.std.proofs.Common.{◌≡◌, Bool, true, false, nat_eq, map, List, [], ◌∷◌, if◌then◌else◌, Some, IsTrue, refl, sym, ap, subst, ◌∙◌}
 use Rattle.std.specs.Prelude.{find}
+use Rattle.std.proofs.lemmas.Bool.{and_parts}
 use Rattle.dart_types.specs.Ty.{Ty}
 use Rattle.dart_types.specs.Tables.{Table}
-use Rattle.dart_types.proofs.SameIds.{both_true}
 use Rattle.flow_model.specs.Flow.{FlowModel, is_of, facts_of, at_local, current_of, IsUnpromotedIfCaptured, PromotesNoCaptured}
 use Rattle.flow_model.specs.Assign.{assign_facts}
 use Rattle.flow_model.specs.Steps.{conservative_facts, conservative_of}
@@ -156,9 +156,9 @@ module _ (table : Table) (written captured : List LocalId) where
     -- the model behind a body and a block implies what both do, around the block
     pub restrict_implies : (k : FlowModel) → PromotesNoCaptured k → Implies a k → Implies b (conservative_of k written captured) → Implies (restrict_of table a b written captured) (conservative_of k written captured)
     restrict_implies k free first second = record {
-      reached = λ h. first.reached (both_true a.reachable b.reachable h).0;
+      reached = λ h. first.reached (and_parts a.reachable b.reachable h).0;
       locals = λ h v m is.
-          let reached = both_true a.reachable b.reachable h in
+          let reached = and_parts a.reachable b.reachable h in
           let before = found_before (conservative_facts written captured) (facts_of k v) m (sym (found-map (conservative_facts written captured) (numbers_stay written captured) k.locals v) ∙ is) in
           let one = first.locals reached.0 v before.before before.is in
           let other = second.locals reached.1 v m is in
@@ -174,9 +174,9 @@ module _ (table : Table) (written captured : List LocalId) where
     -- behind bodies that leave the same current types it keeps which model implies which
     pub restrict_keeps_order : (c d : FlowModel) → HaveSameScope c d → ((v : LocalId) (l m : Facts) → facts_of a v ≡ Some l → facts_of c v ≡ Some m → current_of l ≡ current_of m) → Implies a c → Implies b d → Implies (restrict_of table a b written captured) (restrict_of table c d written captured)
     restrict_keeps_order c d same_too currents first second = record {
-      reached = λ h. let reached = both_true a.reachable b.reachable h in and_true c.reachable d.reachable (first.reached reached.0) (second.reached reached.1);
+      reached = λ h. let reached = and_parts a.reachable b.reachable h in and_true c.reachable d.reachable (first.reached reached.0) (second.reached reached.1);
       locals = λ h v m is.
-          let reached = both_true a.reachable b.reachable h in
+          let reached = and_parts a.reachable b.reachable h in
           let found = paired_found change (λ x y. refl) v c.locals d.locals same_too m is in
           let one = first.locals reached.0 v found.one found.one_is in
           let other = second.locals reached.1 v found.other found.other_is in

@@ -9,7 +9,7 @@ use Rattle.flow_model.specs.Flow.{FlowModel, IsUnpromotedIfCaptured, PromotesNoC
 use Rattle.flow_model.specs.TypeTests.{is_in, common_of, union_of}
 use Rattle.flow_model.specs.Join.{HaveSameScope, scope_of, join_facts, join_locals, join_of}
 use Rattle.flow_model.specs.declared.locals.Facts.{Facts}
-use Rattle.dart_types.proofs.SameType.{same_type-refl, equal_from_same_type}
+use Rattle.flow_model.proofs.SameTypes.{same_type-refl, equal_from_same_type}
 use Rattle.flow_model.proofs.ListTests.{filter_all, filter_none}
 use Rattle.flow_model.proofs.Scopes.{with_locals}
 use Rattle.flow_model.proofs.SameScope.{length_from_scope}

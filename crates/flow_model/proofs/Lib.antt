@@ -1,3 +1,4 @@
+pub mod SameTypes
 pub mod LastType
 pub mod ListTests
 pub mod Places

@@ -4,21 +4,20 @@ use Rattle.std.specs.Prelude.{◌||◌, All}
 use Rattle.std.specs.List.{list_all}
 use Rattle.std.specs.Option.{option_map_or}
 use Rattle.std.proofs.lemmas.List.Elements.{All-nil, All-cons, All-weaker, filter_passes}
+use Rattle.std.proofs.lemmas.Bool.{and_parts}
 use Rattle.dart_types.specs.Ty.{Ty, invalid, never, void, null, interface, function, variable, promoted, nullable}
 use Rattle.dart_types.specs.Same.{same_type}
 use Rattle.dart_types.specs.Tables.{Table, bound_of}
 use Rattle.dart_types.specs.Sub.{reflexivity, left_promoted_variable, left_promoted_type, right_promoted}
 use Rattle.dart_types.specs.SubTest.{sub}
 use Rattle.dart_types.specs.declared.ids.VarId.{VarId}
-use Rattle.dart_types.proofs.SameIds.{both_true}
-use Rattle.dart_types.proofs.SameType.{same_type-refl}
-use Rattle.dart_types.proofs.Derives.{sub_sound}
 use Rattle.type_bounds.specs.NonNull.{non_null_of}
-use Rattle.type_bounds.proofs.NonNulls.{non_null_below}
+use Rattle.type_bounds.specs.Laws.{BoundLaws}
 use Rattle.flow_model.specs.TypeTests.{proper_sub, is_formed, is_in}
 use Rattle.flow_model.specs.Promote.{narrowed_variable, by_variable, tested_as, without_null_of, below_current}
 use Rattle.flow_model.specs.Assign.{between_of, least_of, appended_of}
 use Rattle.flow_model.specs.Chains.{IsProperSubtype}
+use Rattle.flow_model.proofs.SameTypes.{same_type-refl}
 use Rattle.flow_model.proofs.WrittenTypes.{All-found}
 
 -- types that the test tells apart are different
@@ -38,12 +37,12 @@ neither : (a b : Bool) → (a || b) ≡ false → a ≡ false
 neither true b h = cc
 neither false b h = refl
 
-module _ (table : Table) where
+module _ (table : Table) (laws : BoundLaws table) where
   -- a type that passes the test is a proper subtype
   proper_from_test : (s t : Ty) → proper_sub table s t ≡ true → IsProperSubtype table t s
   proper_from_test s t h =
-      let both = both_true (sub table s t) (not (same_type s t)) h in
-      record { subtype = sub_sound table s t both.0; other = apart s t (from_not (same_type s t) both.1) }
+      let both = and_parts (sub table s t) (not (same_type s t)) h in
+      record { subtype = laws.rows.sub_sound s t both.0; other = apart s t (from_not (same_type s t) both.1) }
 
   -- all types of a list are proper subtypes of one
   abbrev pub AreProper : Ty → List Ty → Type 0
@@ -68,7 +67,7 @@ module _ (table : Table) where
   variable_proper : (x : VarId) (to known t : Ty) → (IsProperSubtype table known to → IsProperSubtype table t (promoted x to)) → AreProper t (narrowed_variable table (promoted x to) to known)
   variable_proper x to known t by_known =
       one_if (promoted x to) t (proper_sub table to known && is_formed (promoted x to))
-      (λ h. by_known (proper_from_test to known (both_true (proper_sub table to known) (is_formed (promoted x to)) h).0))
+      (λ h. by_known (proper_from_test to known (and_parts (proper_sub table to known) (is_formed (promoted x to)) h).0))
 
   -- `X & T` is a proper subtype of X
   below_variable : (x : VarId) (to : Ty) → IsProperSubtype table (variable x) (promoted x to)
@@ -110,7 +109,7 @@ module _ (table : Table) where
   without_null_proper t =
       let bare = non_null_of table t in
       one_unless bare t (same_type bare t || not (is_formed bare))
-      (λ h. record { subtype = non_null_below table t; other = apart bare t (neither (same_type bare t) (not (is_formed bare)) h) })
+      (λ h. record { subtype = laws.non_null_below t; other = apart bare t (neither (same_type bare t) (not (is_formed bare)) h) })
 
   -- a type that is known without a test
   pub known_proper : (to t : Ty) → AreProper t (below_current table to t)
@@ -122,8 +121,8 @@ module _ (table : Table) where
       let between = between_of table written t interest in
       let passes = filter_passes (λ u. sub table written u && proper_sub table u t) interest in
       either_proper t (written ∷ []) (least_of table between) (is_in interest written && proper_sub table written t)
-      (λ h. All-cons (IsProperSubtype table t) written [] (proper_from_test written t (both_true (is_in interest written) (proper_sub table written t) h).1) (All-nil (IsProperSubtype table t)))
+      (λ h. All-cons (IsProperSubtype table t) written [] (proper_from_test written t (and_parts (is_in interest written) (proper_sub table written t) h).1) (All-nil (IsProperSubtype table t)))
       (All-found (IsProperSubtype table t) (λ u. list_all (sub table u) between) between
       (All-weaker (λ u. (sub table written u && proper_sub table u t) ≡ true) (IsProperSubtype table t)
-      (λ u h. proper_from_test u t (both_true (sub table written u) (proper_sub table u t) h).1)
+      (λ u h. proper_from_test u t (and_parts (sub table written u) (proper_sub table u t) h).1)
       between passes))

@@ -1,10 +1,10 @@
 -- Which facts of a local say more.
 use Rattle.std.proofs.Common.{◌≡◌, Bool, true, false, ◌&&◌, map, List, [], ◌∷◌, ◌++◌, if◌then◌else◌, refl, sym, ap, subst, ◌∙◌}
 use Rattle.std.specs.Prelude.{◌||◌, filter}
+use Rattle.std.proofs.lemmas.Bool.{and_parts}
 use Rattle.dart_types.specs.Ty.{Ty}
 use Rattle.dart_types.specs.Tables.{Table}
 use Rattle.dart_types.specs.SubTest.{sub}
-use Rattle.dart_types.proofs.SameIds.{both_true}
 use Rattle.type_bounds.specs.NonNull.{non_null_of}
 use Rattle.flow_model.specs.TypeTests.{proper_sub, is_formed, is_in, common_of}
 use Rattle.flow_model.specs.Flow.{last_or, current_of, is_listed, IsUnpromotedIfCaptured}
@@ -69,19 +69,19 @@ includes-append ss ts us vs first second = record {
 
 -- a list includes what a test keeps of it
 includes-filter : (p : Ty → Bool) (ss : List Ty) → Includes ss (filter p ss)
-includes-filter p ss = record { each = λ t h. (both_true (is_in ss t) (p t) (sym (is_in-filter p t ss) ∙ h)).0 }
+includes-filter p ss = record { each = λ t h. (and_parts (is_in ss t) (p t) (sym (is_in-filter p t ss) ∙ h)).0 }
 
 -- what a test keeps of two lists
 includes-filters : (p : Ty → Bool) (ss ts : List Ty) → Includes ss ts → Includes (filter p ss) (filter p ts)
 includes-filters p ss ts more = record {
   each = λ t h.
-      let both = both_true (is_in ts t) (p t) (sym (is_in-filter p t ts) ∙ h) in
+      let both = and_parts (is_in ts t) (p t) (sym (is_in-filter p t ts) ∙ h) in
       is_in-filter p t ss ∙ and_true (is_in ss t) (p t) (more.each t both.0) both.1;
 }
 
 -- both lists include what they have in common
 includes-common : (ss ts : List Ty) → Includes ts (common_of ss ts)
-includes-common ss ts = record { each = λ t h. (both_true (is_in ss t) (is_in ts t) (sym (is_in-filter (is_in ts) t ss) ∙ h)).1 }
+includes-common ss ts = record { each = λ t h. (and_parts (is_in ss t) (is_in ts t) (sym (is_in-filter (is_in ts) t ss) ∙ h)).1 }
 
 -- and that includes each list which both include
 common-includes : (ss ts us : List Ty) → Includes ss us → Includes ts us → Includes (common_of ss ts) us
@@ -272,8 +272,8 @@ pub first_says_more : (l m : Facts) → SaysMore l (join_facts l m)
 first_says_more l m = record {
   declared = refl;
   chain = includes-trans l.chain (common_of l.chain m.chain) (join_facts l m).chain (includes-filter (is_in m.chain) l.chain) (includes-some (common_of l.chain m.chain) (l.captured || m.captured));
-  assigned = λ h. (both_true l.assigned m.assigned h).0;
-  unassigned = λ h. (both_true l.unassigned m.unassigned h).0;
+  assigned = λ h. (and_parts l.assigned m.assigned h).0;
+  unassigned = λ h. (and_parts l.unassigned m.unassigned h).0;
   captured = λ h. left_true l.captured m.captured h;
 }
 
@@ -282,8 +282,8 @@ pub second_says_more : (l m : Facts) → l.ty ≡ m.ty → SaysMore m (join_fact
 second_says_more l m same = record {
   declared = sym same;
   chain = includes-trans m.chain (common_of l.chain m.chain) (join_facts l m).chain (includes-common l.chain m.chain) (includes-some (common_of l.chain m.chain) (l.captured || m.captured));
-  assigned = λ h. (both_true l.assigned m.assigned h).1;
-  unassigned = λ h. (both_true l.unassigned m.unassigned h).1;
+  assigned = λ h. (and_parts l.assigned m.assigned h).1;
+  unassigned = λ h. (and_parts l.unassigned m.unassigned h).1;
   captured = λ h. right_true l.captured m.captured h;
 }
 

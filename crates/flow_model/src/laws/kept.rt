@@ -13,6 +13,7 @@ ghost use Rattle.flow_model.specs.declared.locals.LocalDecl.{LocalDecl};
 ghost use Rattle.flow_model.specs.declared.locals.LocalId.{LocalId};
 
 use dart_types::Rows;
+use type_bounds::bound_table_laws;
 
 /// No captured local is promoted at the start of a body, and none is after any step where none was
 /// before.
@@ -61,4 +62,6 @@ pub fn chains_descend(_rows: &Rows)
     ensures restrict { (a b : FlowModel) (written captured : List LocalId) → HaveSameScope a b → HasDescendingChains _rows.now.table a
         → HasDescendingChains _rows.now.table b
         → HasDescendingChains _rows.now.table (restrict_of _rows.now.table a b written captured) }
-{}
+{
+    bound_table_laws(_rows);
+}

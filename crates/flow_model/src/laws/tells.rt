@@ -11,7 +11,8 @@ ghost use Rattle.flow_model.specs.Assign.{appended_of, assign_facts};
 ghost use Rattle.flow_model.specs.Chains.{IsProperSubtype};
 ghost use Rattle.flow_model.specs.declared.locals.Facts.{Facts};
 
-use dart_types::Rows;
+use dart_types::{Rows, row_laws};
+use type_bounds::bound_table_laws;
 
 /// A written local has a value, and the value has each type that the local is promoted to: the
 /// written type is a subtype of it.
@@ -19,7 +20,9 @@ pub fn writes_tell(_rows: &Rows)
     ensures assigned { (written : Ty) (l : Facts) → (assign_facts _rows.now.table written l).assigned ≡ true }
     ensures unassigned { (written : Ty) (l : Facts) → (assign_facts _rows.now.table written l).unassigned ≡ false }
     ensures types { (written : Ty) (l : Facts) → All (λ t. Sub _rows.now.table written t) (assign_facts _rows.now.table written l).chain }
-{}
+{
+    row_laws(_rows);
+}
 
 /// A tested type is of interest. A local that isn't captured has it, where it is a proper subtype of
 /// the current one. So has one that is known to have the type without a test.
@@ -43,7 +46,9 @@ pub fn tests_narrow(_rows: &Rows)
     ensures promote { (to : Ty) (l : Facts) → Sub _rows.now.table (current_of (promote_facts _rows.now.table to l)) (current_of l) }
     ensures non_null { (l : Facts) → Sub _rows.now.table (current_of (non_null_facts _rows.now.table l)) (current_of l) }
     ensures append { (to : Ty) (l : Facts) → Sub _rows.now.table (current_of (append_facts _rows.now.table to l)) (current_of l) }
-{}
+{
+    bound_table_laws(_rows);
+}
 
 /// What a step puts at the end of a chain is a proper subtype of the current type: a subtype of it,
 /// and another type.
@@ -53,4 +58,6 @@ pub fn appended_types_are_proper_subtypes(_rows: &Rows)
     ensures append { (to current : Ty) → All (IsProperSubtype _rows.now.table current) (below_current _rows.now.table to current) }
     ensures assign { (written current : Ty) (interest : List Ty)
         → All (IsProperSubtype _rows.now.table current) (appended_of _rows.now.table written current interest) }
-{}
+{
+    bound_table_laws(_rows);
+}

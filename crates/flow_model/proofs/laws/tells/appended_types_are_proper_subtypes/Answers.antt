@@ -4,9 +4,10 @@ use Rattle.flow_model.proofs.laws.tells.appended_types_are_proper_subtypes.Goals
 pub returns : goal.returns
 returns c =
     let table = c.args._rows.now.table in
+    let laws = c.bound_table_laws.ensures in
     record {
-      promote = λ to current. tested_proper table to current;
-      non_null = λ current. without_null_proper table current;
-      append = λ to current. known_proper table to current;
-      assign = λ written current interest. appended_proper table written current interest;
+      promote = λ to current. tested_proper table laws to current;
+      non_null = λ current. without_null_proper table laws current;
+      append = λ to current. known_proper table laws to current;
+      assign = λ written current interest. appended_proper table laws written current interest;
     }

@@ -4,9 +4,9 @@ use Rattle.flow_model.proofs.laws.tells.tests_narrow.Goals as goal
 pub returns : goal.returns
 returns c =
     let table = c.args._rows.now.table in
-    let wf = c.args._rows.now.formed in
+    let laws = c.bound_table_laws.ensures in
     record {
-      promote = λ to l. test_narrows table wf to l;
-      non_null = λ l. non_null_narrows table wf l;
-      append = λ to l. append_narrows table wf to l;
+      promote = λ to l. test_narrows table laws to l;
+      non_null = λ l. non_null_narrows table laws l;
+      append = λ to l. append_narrows table laws to l;
     }

@@ -6,5 +6,5 @@ pub returns : goal.returns
 returns c = record {
   assigned = λ written l. refl;
   unassigned = λ written l. refl;
-  types = λ written l. chain_fits c.args._rows.now.table c.args._rows.now.formed written l;
+  types = λ written l. chain_fits c.args._rows.now.table c.row_laws.ensures written l;
 }
