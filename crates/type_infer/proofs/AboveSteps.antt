@@ -8,7 +8,7 @@ use Rattle.dart_types.specs.Sizes.{size_of}
 use Rattle.dart_types.specs.Substitution.{put, put_all, by_params}
 use Rattle.dart_types.specs.Superinterfaces.{AreSuperinterfaces, interface_of}
 use Rattle.dart_types.specs.Tables.{Table, class_of}
-use Rattle.dart_types.specs.WellFormed.{IsSupertype, IsWellFormed}
+use Rattle.dart_types.specs.WellFormed.{IsSupertype}
 use Rattle.dart_types.specs.Formed.{Forms}
 use Rattle.dart_types.specs.declared.class_rows.ClassRow.{ClassRow}
 use Rattle.dart_types.specs.declared.ids.ClassId.{ClassId}
@@ -17,13 +17,12 @@ use Rattle.dart_types.specs.declared.refusal.TypeRefusal.{TypeRefusal}
 use Rattle.dart_types.specs.declared.refusal.TypeRefusal.TheVariants.{TooLarge, Memory}
 use Rattle.dart_types.specs.declared.refusal.TheConstants.{NODE_LIMIT}
 use Rattle.dart_types.specs.declared.superinterfaces.Superinterface.{Superinterface}
-use Rattle.dart_types.proofs.Climb.{superinterface_simple}
-use Rattle.dart_types.proofs.NormalPut.{normal-put-normal}
-use Rattle.dart_types.proofs.SameIds.{equal_from_same_class, same_class-refl}
+use Rattle.dart_types.specs.Laws.{RowLaws}
 use Rattle.type_bounds.specs.Common.{IsAbove}
 use Rattle.type_infer.specs.Above.{FormsAbove, IsOnlyAbove}
+use Rattle.type_infer.proofs.General.{equal_from_same_class, same_class-refl}
 
-module _ (table : Table) (wf : IsWellFormed table) (c : ClassId) (ts : Types) (d : ClassId) where
+module _ (table : Table) (laws : RowLaws table) (c : ClassId) (ts : Types) (d : ClassId) where
   -- the class has no superinterface of the class d that is its only one
   abbrev pub NoneAbove : Type 0
   NoneAbove = (us : Types) → IsOnlyAbove table c ts d us → ⊥
@@ -77,15 +76,15 @@ module _ (table : Table) (wf : IsWellFormed table) (c : ClassId) (ts : Types) (d
           let entry = are.every a.over a.superinterface in
           let same_params : params ≡ a.row.params = own ∙ ap (λ (p : ClassRow). p.params) (sym (the_row a.row a.row_is)) in
           let is : interface d us ≡ normal (put σ a.over) = subst (λ (vs : List VarId). interface d us ≡ normal (put (by_params vs ts) a.over)) (sym same_params) a.is in
-          let same : entry.0.class ≡ d = entry_class us entry.0 a.over (superinterface_simple table wf a.superinterface row r) is entry.2 in
-          (entry.0, entry.1, subst (λ (k : ClassId). same_class k d ≡ true) (sym same) (same_class-refl d), ap (λ (u : Ty). normal (put σ u)) entry.2 ∙ normal-put-normal σ a.over ∙ sym is)
+          let same : entry.0.class ≡ d = entry_class us entry.0 a.over (laws.superinterface_simple c row a.over r a.superinterface) is entry.2 in
+          (entry.0, entry.1, subst (λ (k : ClassId). same_class k d ≡ true) (sym same) (same_class-refl d), ap (λ (u : Ty). normal (put σ u)) entry.2 ∙ laws.types.normal-put-normal σ a.over ∙ sym is)
 
       module _ (counted : count ts ≡ length params) where
         -- the type of an entry is a superinterface
         put_above : (s : Superinterface) → Contains list s → IsAbove table c ts (Put s)
         put_above s k =
             let q = are.no_other s k in
-            record { row = row; row_is = r; counted = counted ∙ ap (λ (vs : List VarId). length vs) own; over = q.0; superinterface = q.1; is = ap (λ (u : Ty). normal (put σ u)) q.2 ∙ normal-put-normal σ q.0 ∙ ap (λ (vs : List VarId). normal (put (by_params vs ts) q.0)) own }
+            record { row = row; row_is = r; counted = counted ∙ ap (λ (vs : List VarId). length vs) own; over = q.0; superinterface = q.1; is = ap (λ (u : Ty). normal (put σ u)) q.2 ∙ laws.types.normal-put-normal σ q.0 ∙ ap (λ (vs : List VarId). normal (put (by_params vs ts) q.0)) own }
 
         entry_above : (s : Superinterface) → Contains list s → same_class s.class d ≡ true → IsAbove table c ts (interface d (Args s))
         entry_above s k is = subst (λ (u : Ty). IsAbove table c ts u) (put_class s is) (put_above s k)

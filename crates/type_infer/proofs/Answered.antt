@@ -2,8 +2,8 @@
 use Rattle.std.proofs.Common.{◌≡◌, ℕ, List, length, get_or, Option, Result, Ok, Err}
 use Rattle.dart_types.specs.Ty.{Ty, invalid}
 use Rattle.dart_types.specs.Tables.{Table}
-use Rattle.dart_types.specs.WellFormed.{IsWellFormed}
 use Rattle.dart_types.specs.declared.ids.VarId.{VarId}
+use Rattle.type_bounds.specs.Laws.{BoundLaws}
 use Rattle.type_infer.specs.Contexts.{ContextOf}
 use Rattle.type_infer.specs.Gives.{Gives, Answers, AnswersContext}
 use Rattle.type_infer.specs.Inference.{pairs_of, Inferred}
@@ -14,19 +14,19 @@ use Rattle.type_infer.specs.declared.refusal.InferRefusal.TheVariants.{NoSolutio
 use Rattle.type_infer.proofs.ContextSteps.{FormsContext}
 use Rattle.type_infer.proofs.InferHolds.{inferred_holds, inferred_is, context_holds, context_is}
 
-module _ (table : Table) (wf : IsWellFormed table) (params : List VarId) where
+module _ (table : Table) (laws : BoundLaws table) (params : List VarId) where
   answered : (pairs : List Pair) (r : Result (List Ty) InferRefusal) → Gives (Inferred table params pairs) r → Answers r (inferred_by table params pairs)
-  answered pairs (Ok ts) h = inferred_is table wf params pairs h
-  answered pairs (Err (NoSolution x)) h = inferred_is table wf params pairs h
-  answered pairs (Err (Unconstrained x)) h = inferred_is table wf params pairs h
-  answered pairs (Err (TooLarge nodes)) h = inferred_is table wf params pairs h
+  answered pairs (Ok ts) h = inferred_is table laws params pairs h
+  answered pairs (Err (NoSolution x)) h = inferred_is table laws params pairs h
+  answered pairs (Err (Unconstrained x)) h = inferred_is table laws params pairs h
+  answered pairs (Err (TooLarge nodes)) h = inferred_is table laws params pairs h
   answered pairs (Err Memory) h = tt
 
   context_answered : (pairs : List Pair) (formal : Ty) (r : Result Ty InferRefusal) → FormsContext table params pairs formal r → AnswersContext r (context_by table params pairs formal)
-  context_answered pairs formal (Ok t) h = context_is table wf params pairs h
+  context_answered pairs formal (Ok t) h = context_is table laws params pairs h
   context_answered pairs formal (Err (NoSolution x)) h = h
   context_answered pairs formal (Err (Unconstrained x)) h = h
-  context_answered pairs formal (Err (TooLarge nodes)) h = context_is table wf params pairs h
+  context_answered pairs formal (Err (TooLarge nodes)) h = context_is table laws params pairs h
   context_answered pairs formal (Err Memory) h = tt
 
   module _ (returned : Ty) (context : Option Ty) (formals actuals : List Ty) where
@@ -36,11 +36,11 @@ module _ (table : Table) (wf : IsWellFormed table) (params : List VarId) where
 
     pub inferred_call : Inferred table params (pairs_of returned context formals actuals) (inferred_of table params returned context formals actuals)
     unfolding inferred_of
-    inferred_call = inferred_holds table wf params (pairs_of returned context formals actuals)
+    inferred_call = inferred_holds table laws params (pairs_of returned context formals actuals)
 
     pub inferred_only : (a : Result (List Ty) InferRefusal) → Inferred table params (pairs_of returned context formals actuals) a → a ≡ inferred_of table params returned context formals actuals
     unfolding inferred_of
-    inferred_only a h = inferred_is table wf params (pairs_of returned context formals actuals) h
+    inferred_only a h = inferred_is table laws params (pairs_of returned context formals actuals) h
 
     abbrev formal : Ty
     formal = get_or formals (length actuals) invalid
@@ -51,8 +51,8 @@ module _ (table : Table) (wf : IsWellFormed table) (params : List VarId) where
 
     pub context_call : ContextOf table params (pairs_of returned context formals actuals) formal (context_of_argument table params returned context formals actuals)
     unfolding context_of_argument
-    context_call = context_holds table wf params (pairs_of returned context formals actuals) formal
+    context_call = context_holds table laws params (pairs_of returned context formals actuals) formal
 
     pub context_only : (a : Result Ty ℕ) → ContextOf table params (pairs_of returned context formals actuals) formal a → a ≡ context_of_argument table params returned context formals actuals
     unfolding context_of_argument
-    context_only a h = context_is table wf params (pairs_of returned context formals actuals) h
+    context_only a h = context_is table laws params (pairs_of returned context formals actuals) h

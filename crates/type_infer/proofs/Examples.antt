@@ -7,11 +7,10 @@ use Rattle.dart_types.specs.Substitution.{put, by_params}
 use Rattle.dart_types.specs.SubTest.{sub}
 use Rattle.dart_types.specs.Superinterfaces.{direct}
 use Rattle.dart_types.specs.Tables.{Table}
-use Rattle.dart_types.specs.Sub.{Sub, right_top, right_object, super_interface}
+use Rattle.dart_types.specs.Sub.{Sub, right_top, left_null, right_object, left_nullable, right_nullable, right_promoted, reflexivity, super_interface}
 use Rattle.dart_types.specs.declared.ids.VarId.{VarId}
 use Rattle.dart_types.specs.declared.ids.TheConstants.{CORE, OBJECT}
 use Rattle.dart_types.specs.declared.class_rows.ClassRow.{ClassRow}
-use Rattle.dart_types.proofs.Above.{nullable_null}
 use Rattle.dart_types.specs.Measure.{measure, weight_of, deepness_of, heaviest_of, step_of, ranks_of}
 use Rattle.type_bounds.specs.Bounds.{upper_apart, null_right}
 use Rattle.type_bounds.specs.BoundsOf.{upper_of, lower_of}
@@ -102,6 +101,15 @@ nullable_int : Inferred (rows_with (nullable object)) (t ∷ []) int_and_null (O
 nullable_int =
     by_constraints (gathered (rows_with (nullable object)))
     (one_given (solved (solution (nullable object)) (omega arith) (right_top refl)) all_given)
+
+-- null is below what a nullable type is below
+nullable_null : (table : Table) {v t : Ty} → Sub table (nullable v) t → Sub table null t
+nullable_null table reflexivity = left_null
+nullable_null table (right_top e) = right_top e
+nullable_null table (right_object e p) = cc
+nullable_null table (left_nullable a b) = b
+nullable_null table (right_nullable a) = right_nullable (nullable_null table a)
+nullable_null table (right_promoted a b) = right_promoted (nullable_null table a) (nullable_null table b)
 
 -- and not within the bound Object
 no_solution : Inferred (rows_with object) (t ∷ []) int_and_null (Err (NoSolution t))

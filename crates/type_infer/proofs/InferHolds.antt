@@ -9,15 +9,11 @@ use Rattle.dart_types.specs.Same.{same_type}
 use Rattle.dart_types.specs.Sizes.{size_of, held}
 use Rattle.dart_types.specs.SubTest.{sub}
 use Rattle.dart_types.specs.Tables.{Table}
-use Rattle.dart_types.specs.WellFormed.{IsWellFormed}
 use Rattle.dart_types.specs.declared.ids.VarId.{VarId}
 use Rattle.dart_types.specs.declared.refusal.TheConstants.{NODE_LIMIT}
-use Rattle.dart_types.proofs.Derives.{sub_sound, sub_complete}
-use Rattle.dart_types.proofs.SameType.{same_type-refl, equal_from_same_type}
 use Rattle.type_bounds.specs.Bounds.{Upper, Lower}
 use Rattle.type_bounds.specs.BoundsOf.{upper_of, lower_of}
-use Rattle.type_bounds.proofs.BoundsHold.{upper_holds, lower_holds}
-use Rattle.type_bounds.proofs.OneBound.{clash}
+use Rattle.type_bounds.specs.Laws.{BoundLaws}
 use Rattle.type_infer.specs.Constraints.{types_on}
 use Rattle.type_infer.specs.Contexts.{Known, ContextOf, formed, large_context, large_solution, large_match}
 use Rattle.type_infer.specs.Contexts as known
@@ -33,6 +29,7 @@ use Rattle.type_infer.specs.declared.constraints.Constraint.{Constraint}
 use Rattle.type_infer.specs.declared.constraints.Side.TheVariants.{AtLeast, AtMost}
 use Rattle.type_infer.specs.declared.refusal.InferRefusal.{InferRefusal}
 use Rattle.type_infer.specs.declared.refusal.InferRefusal.TheVariants.{NoSolution, Unconstrained}
+use Rattle.type_infer.proofs.General.{clash}
 use Rattle.type_infer.proofs.MatchHolds.{match_is}
 use Rattle.type_infer.proofs.OneAnswer.{one_inference, one_context}
 
@@ -50,7 +47,7 @@ module _ (bound : Ty → Ty → Ty → Type 0) (f : Ty → Ty → Ty) (holds : (
       at true e rest = one_other (leb-true (size_of t) NODE_LIMIT e) (holds t s) rest
       at false e rest = over_limit (leb-false (size_of t) NODE_LIMIT e)
 
-module _ (table : Table) (wf : IsWellFormed table) where
+module _ (table : Table) (laws : BoundLaws table) where
   -- the constraints of pairs
   module _ (params : List VarId) where
     one_gathered : (p : Pair) (ps : List Pair) (cs : List Constraint) (end : End) → Match table params p.side p.formal p.other cs end → (r : Result (List Constraint) ℕ) → Gathered table params ps r → Gathered table params (p ∷ ps) (all_constraints cs end r)
@@ -64,7 +61,7 @@ module _ (table : Table) (wf : IsWellFormed table) where
     gathered_is [] = by.none_left
     gathered_is (p ∷ ps) =
         one_gathered p ps (match_of table params p.side p.formal p.other).constraints (match_of table params p.side p.formal p.other).end
-        (match_is table wf params p.side p.formal p.other) (gathered_of table params ps) (gathered_is ps)
+        (match_is table laws params p.side p.formal p.other) (gathered_of table params ps) (gathered_is ps)
 
   module _ (cs : List Constraint) where
     -- a solution, if something constrains the parameter
@@ -77,11 +74,11 @@ module _ (table : Table) (wf : IsWellFormed table) where
       where
         below : (least : List Ty) → types_on AtLeast x cs ≡ [] → (most : List Ty) → types_on AtMost x cs ≡ most → IsSolution x (bound_of_types (lower_of table) most)
         below least none [] e = (none, e)
-        below least none (t ∷ ts) e = by_lower none e (folds (Lower table) (lower_of table) (lower_holds table wf) t ts)
+        below least none (t ∷ ts) e = by_lower none e (folds (Lower table) (lower_of table) laws.lower_holds t ts)
 
         at : (least : List Ty) → types_on AtLeast x cs ≡ least → IsSolution x (or_else (bound_of_types (upper_of table) least) (bound_of_types (lower_of table) (types_on AtMost x cs)))
         at [] e = below [] e (types_on AtMost x cs) refl
-        at (t ∷ ts) e = by_upper e (folds (Upper table) (upper_of table) (upper_holds table wf) t ts)
+        at (t ∷ ts) e = by_upper e (folds (Upper table) (upper_of table) laws.upper_holds t ts)
 
     -- an argument
     module _ (before : List (VarId × Ty)) (x : VarId) where
@@ -92,8 +89,8 @@ module _ (table : Table) (wf : IsWellFormed table) where
       solved_is t s = at (nat_le (size_of Bound) NODE_LIMIT) refl
         where
           held_there : size_of Bound ≤ NODE_LIMIT → (b : Bool) → sub table (unpromoted t) Bound ≡ b → Argument table cs before x (cond b (Ok (unpromoted t)) (Err (NoSolution x)))
-          held_there le true e = by.solved s le (sub_sound table (unpromoted t) Bound e)
-          held_there le false e = by.outside s le (λ a. clash (sub table (unpromoted t) Bound) (sub_complete table wf (unpromoted t) Bound a) e)
+          held_there le true e = by.solved s le (laws.rows.sub_sound (unpromoted t) Bound e)
+          held_there le false e = by.outside s le (λ a. clash (sub table (unpromoted t) Bound) (laws.rows.sub_complete (unpromoted t) Bound a) e)
 
           at : (b : Bool) → nat_le (size_of Bound) NODE_LIMIT ≡ b → Argument table cs before x (refused_large (cond b (Ok Bound) (Err (held (size_of Bound)))) (λ bound. within_bound_of table x (unpromoted t) bound))
           at true e = held_there (leb-true (size_of Bound) NODE_LIMIT e) (sub table (unpromoted t) Bound) refl
@@ -110,9 +107,9 @@ module _ (table : Table) (wf : IsWellFormed table) where
       free_is free = at (same_type (declared_bound table x) (nullable object)) refl
         where
           at : (b : Bool) → same_type (declared_bound table x) (nullable object) ≡ b → Argument table cs before x (cond b (Err (Unconstrained x)) (refused_large (within_limit Bound) (λ bound. Ok bound)))
-          at true e = by.no_bound free (equal_from_same_type (declared_bound table x) (nullable object) e)
+          at true e = by.no_bound free (laws.rows.types.equal_from_same_type (declared_bound table x) (nullable object) e)
           at false e =
-              bound_is free (λ same. clash (same_type (declared_bound table x) (nullable object)) (subst (λ (t : Ty). same_type (declared_bound table x) t ≡ true) same (same_type-refl (declared_bound table x))) e)
+              bound_is free (λ same. clash (same_type (declared_bound table x) (nullable object)) (subst (λ (t : Ty). same_type (declared_bound table x) t ≡ true) same (laws.rows.types.same_type-refl (declared_bound table x))) e)
 
       answered : (o : Option (Result Ty ℕ)) → IsSolution x o → Argument table cs before x (argument_by table before x o)
       answered None free = free_is free
@@ -157,7 +154,7 @@ module _ (table : Table) (wf : IsWellFormed table) where
         at (Err nodes) g = by.large_match g
 
     pub inferred_is : {a : Result (List Ty) InferRefusal} → Inferred table params pairs a → a ≡ inferred_by table params pairs
-    inferred_is h = one_inference table params h inferred_holds
+    inferred_is h = one_inference table laws params h inferred_holds
 
     context_within : (formal : Ty) (cs : List Constraint) (pairs_known : List (VarId × Ty)) → Gathered table params pairs (Ok cs) → Known table cs params (Ok pairs_known) → ContextOf table params pairs formal (within_limit (substituted pairs_known formal))
     context_within formal cs pairs_known g k = at (nat_le (size_of (substituted pairs_known formal)) NODE_LIMIT) refl
@@ -178,4 +175,4 @@ module _ (table : Table) (wf : IsWellFormed table) where
         at (Err nodes) g = large_match g
 
     pub context_is : {formal : Ty} {a : Result Ty ℕ} → ContextOf table params pairs formal a → a ≡ context_by table params pairs formal
-    context_is {formal} h = one_context table params h (context_holds formal)
+    context_is {formal} h = one_context table laws params h (context_holds formal)

@@ -1,4 +1,5 @@
 -- Proofs.
+pub mod General
 pub mod HandOn
 pub mod ReadTypes
 pub mod FoldSteps
@@ -23,3 +24,4 @@ pub mod NotOpen
 pub mod MatchHolds
 pub mod InferHolds
 pub mod Answered
+pub mod MoreRows

@@ -9,19 +9,12 @@ use Rattle.dart_types.specs.Heads.{is_plain}
 use Rattle.dart_types.specs.Same.{same_class, same_type}
 use Rattle.dart_types.specs.Sizes.{size_of, held}
 use Rattle.dart_types.specs.Tables.{Table, bound_of}
-use Rattle.dart_types.specs.WellFormed.{IsWellFormed}
 use Rattle.dart_types.specs.declared.ids.ClassId.{ClassId}
 use Rattle.dart_types.specs.declared.ids.VarId.{VarId}
 use Rattle.dart_types.specs.declared.refusal.TheConstants.{NODE_LIMIT}
-use Rattle.dart_types.proofs.ClassSteps.{contains_passed, passed_contains}
-use Rattle.dart_types.proofs.MeasureFalls.{right_bare_falls, left_bare_falls, left_promoted_falls, bound_falls}
-use Rattle.dart_types.proofs.MeasureParts.{params_fall, names_fall, results_fall}
-use Rattle.dart_types.proofs.SameIds.{equal_from_same_class, same_class-refl}
-use Rattle.dart_types.proofs.SameType.{same_type-refl, equal_from_same_type}
 use Rattle.type_bounds.specs.Common.{IsAbove}
 use Rattle.type_bounds.specs.CommonOf.{above_of}
-use Rattle.type_bounds.proofs.CommonLists.{first_or_later, is_first, is_later, all_pass, pass_all, above_sound, above_complete}
-use Rattle.type_bounds.proofs.OneBound.{clash}
+use Rattle.type_bounds.specs.Laws.{BoundLaws}
 use Rattle.type_infer.specs.Above.{IsOnlyAbove, arguments_of}
 use Rattle.type_infer.specs.AboveOf.{is_of_class, only_arguments, only_above}
 use Rattle.type_infer.specs.Holding.{holds_param}
@@ -33,6 +26,7 @@ use Rattle.type_infer.specs.SideMeasure.{side_measure, pairs_measure}
 use Rattle.type_infer.specs.declared.constraints.Constraint.{Constraint}
 use Rattle.type_infer.specs.declared.constraints.Side.{Side}
 use Rattle.type_infer.specs.declared.constraints.Side.TheVariants.{AtLeast, AtMost}
+use Rattle.type_infer.proofs.General.{contains_passed, passed_contains, first_or_later, is_first, is_later, all_pass, pass_all, clash, equal_from_same_class, same_class-refl}
 use Rattle.type_infer.proofs.SideFalls.{paired_below, named_below, pairs_append, both_bare_fall, bare_falls, arguments_below, other_above_below, formal_above_below}
 
 and_true : (b : Bool) → b ≡ true → (b && true) ≡ true
@@ -67,7 +61,7 @@ plain_built (variable x) h = cc
 plain_built (promoted x t) h = cc
 plain_built (nullable t) h = cc
 
-module _ (table : Table) (wf : IsWellFormed table) where
+module _ (table : Table) (laws : BoundLaws table) where
   -- the only superinterface that is of a class
   module _ (c : ClassId) (ts : Types) (d : ClassId) where
     abbrev Answer : Option Types → Type 0
@@ -87,7 +81,7 @@ module _ (table : Table) (wf : IsWellFormed table) where
           above = subst (IsAbove table c ts) first.1 first.0;
           only = λ vs a. elim (first_or_later u us (interface d vs) (each vs a)) as (λ _. vs ≡ arguments_of u) [
             | inl e ↦ sym (ap arguments_of e)
-            | inr i ↦ sym (ap arguments_of (equal_from_same_type u (interface d vs) (all_pass (same_type u) us h (interface d vs) i)))
+            | inr i ↦ sym (ap arguments_of (laws.rows.types.equal_from_same_type u (interface d vs) (all_pass (same_type u) us h (interface d vs) i)))
           ];
         }
     only_here u us are each false h = λ vs a.
@@ -95,7 +89,7 @@ module _ (table : Table) (wf : IsWellFormed table) where
         λ v i. let k = are v i in k.1 ∙ ap (interface d) (a.only (arguments_of v) (subst (IsAbove table c ts) k.1 k.0))
         in
         let all : list_all (same_type u) us ≡ true =
-        pass_all (same_type u) us (λ v i. subst (λ (w : Ty). same_type u w ≡ true) (one u (is_first u us) ∙ sym (one v (is_later u us v i))) (same_type-refl u))
+        pass_all (same_type u) us (λ v i. subst (λ (w : Ty). same_type u w ≡ true) (one u (is_first u us) ∙ sym (one v (is_later u us v i))) (laws.rows.types.same_type-refl u))
         in
         clash (list_all (same_type u) us) all h
 
@@ -106,8 +100,8 @@ module _ (table : Table) (wf : IsWellFormed table) where
     only_above_is : Answer (only_above table c ts d)
     only_above_is =
         only_is (filter (is_of_class d) (above_of table c ts))
-        (λ u i. let h = contains_passed (is_of_class d) (above_of table c ts) u i in (above_sound table wf c ts u h.0, class_form d u h.1))
-        (λ us a. passed_contains (is_of_class d) (above_of table c ts) (interface d us) (above_complete table wf c ts (interface d us) a) (same_class-refl d))
+        (λ u i. let h = contains_passed (is_of_class d) (above_of table c ts) u i in (laws.above_sound c ts u h.0, class_form d u h.1))
+        (λ us a. passed_contains (is_of_class d) (above_of table c ts) (interface d us) (laws.above_complete c ts (interface d us) a) (same_class-refl d))
 
   abbrev M : Side → Ty → Ty → ℕ
   M side t s = side_measure table side t s
@@ -116,15 +110,15 @@ module _ (table : Table) (wf : IsWellFormed table) where
   parts_below : (side : Side) (r o : Types) (n : Named) (e : Ty) (r' o' : Types) (n' : Named) (e' : Ty) → pairs_measure table (parts_of side r o n e r' o' n' e') ≤ M side (function r o n e) (function r' o' n' e')
   parts_below AtLeast r o n e r' o' n' e' =
       let whole = M AtLeast (function r o n e) (function r' o' n' e') in
-      let params = paired_below table AtMost (join r o) (join r' o') whole (λ t s a b. params_fall table wf r' o' r o n' n e' e b a) in
-      let names = named_below table AtMost n n' whole (λ l m t s a b. names_fall table wf r' o' r o n' n e' e b a) in
-      let result = results_fall table wf r' o' r o n' n e' e in
+      let params = paired_below table AtMost (join r o) (join r' o') whole (λ t s a b. laws.rows.measures.parameters r' o' r o n' n e' e _ _ b a) in
+      let names = named_below table AtMost n n' whole (λ l m t s a b. laws.rows.measures.named r' o' r o n' n e' e _ _ _ _ b a) in
+      let result = laws.rows.measures.results r' o' r o n' n e' e in
       omega (arith, params, names, result, pairs_append table (paired AtMost (join r o) (join r' o')) (paired_by_name AtMost n n' ++ pair AtLeast e e' ∷ []), pairs_append table (paired_by_name AtMost n n') (pair AtLeast e e' ∷ []))
   parts_below AtMost r o n e r' o' n' e' =
       let whole = M AtMost (function r o n e) (function r' o' n' e') in
-      let params = paired_below table AtLeast (join r o) (join r' o') whole (λ t s a b. params_fall table wf r o r' o' n n' e e' a b) in
-      let names = named_below table AtLeast n n' whole (λ l m t s a b. names_fall table wf r o r' o' n n' e e' a b) in
-      let result = results_fall table wf r o r' o' n n' e e' in
+      let params = paired_below table AtLeast (join r o) (join r' o') whole (λ t s a b. laws.rows.measures.parameters r o r' o' n n' e e' _ _ a b) in
+      let names = named_below table AtLeast n n' whole (λ l m t s a b. laws.rows.measures.named r o r' o' n n' e e' _ _ _ _ a b) in
+      let result = laws.rows.measures.results r o r' o' n n' e e' in
       omega (arith, params, names, result, pairs_append table (paired AtLeast (join r o) (join r' o')) (paired_by_name AtLeast n n' ++ pair AtMost e e' ∷ []), pairs_append table (paired_by_name AtLeast n n') (pair AtMost e e' ∷ []))
 
   module _ (params : List VarId) where
@@ -174,10 +168,10 @@ module _ (table : Table) (wf : IsWellFormed table) where
         where
           at : (o : Option Ty) → bound_of table y ≡ o → Faces AtLeast t (variable y) (option_map_or (face AtLeast t) o (sets_nothing mismatched))
           at None e = unbound_other b e
-          at (Some u) e = bound_of_other b e (holds AtLeast t u h (omega (arith, le, bound_falls table wf y u t e)))
+          at (Some u) e = bound_of_other b e (holds AtLeast t u h (omega (arith, le, laws.rows.measures.bounds y u t e)))
 
       to_promoted : (t : Ty) (y : VarId) (u : Ty) → holds_param params t ≡ true → is_built t ≡ true → M AtLeast t (promoted y u) ≤ n → Faces AtLeast t (promoted y u) (face AtLeast t u)
-      to_promoted t y u h b le = promoted_other b (holds AtLeast t u h (omega (arith, le, (left_promoted_falls table wf y u t).1)))
+      to_promoted t y u h b le = promoted_other b (holds AtLeast t u h (omega (arith, le, (laws.rows.measures.left_promoted y u t).1)))
 
       gives_way_holds : (side : Side) (t s : Ty) (f : Found) → holds_param params t ≡ true → is_plain t ≡ true → M side t s ≤ n → (is_as_it_stands side s ≡ true → Faces side t s f) → Faces side t s (gives_way table params face side t s f)
       gives_way_holds side t invalid f h b le go = go refl
@@ -191,12 +185,12 @@ module _ (table : Table) (wf : IsWellFormed table) where
       gives_way_holds AtLeast t (promoted y u) f h b le go = to_promoted t y u h (plain_built t b) le
       gives_way_holds AtMost t (promoted y u) f h b le go = go refl
       gives_way_holds AtLeast t (nullable u) f h b le go = go refl
-      gives_way_holds AtMost t (nullable u) f h b le go = marked_other b (holds AtMost t u h (omega (arith, le, right_bare_falls table wf t u)))
+      gives_way_holds AtMost t (nullable u) f h b le go = marked_other b (holds AtMost t u h (omega (arith, le, laws.rows.measures.right_nullable t u)))
 
       -- a formal with `?`
       module _ (side : Side) (t : Ty) (h : holds_param params t ≡ true) where
         bare_formal : (s : Ty) → M side (nullable t) s ≤ n → Faces side t s (face side t s)
-        bare_formal s le = holds side t s h (omega (arith, le, bare_falls table wf side t s))
+        bare_formal s le = holds side t s h (omega (arith, le, bare_falls table laws.rows side t s))
 
       marked_holds : (side : Side) (t s : Ty) → holds_param params t ≡ true → M side (nullable t) s ≤ n → Faces side (nullable t) s (face_of_marked table params face side t s)
       marked_holds side t invalid h le = marked_formal refl refl (bare_formal side t h invalid le)
@@ -220,9 +214,9 @@ module _ (table : Table) (wf : IsWellFormed table) where
       marked_holds AtLeast t (nullable u) h le = at (is_plain t) refl
         where
           at : (b : Bool) → is_plain t ≡ b → Faces AtLeast (nullable t) (nullable u) (cond b (face AtLeast (nullable t) u) (face AtLeast t u))
-          at true b = marked_subtype b (holds AtLeast (nullable t) u h (omega (arith, le, left_bare_falls table wf u (nullable t))))
-          at false b = marked_both b (holds AtLeast t u h (omega (arith, le, both_bare_fall table wf AtLeast t u)))
-      marked_holds AtMost t (nullable u) h le = marked_both refl (holds AtMost t u h (omega (arith, le, both_bare_fall table wf AtMost t u)))
+          at true b = marked_subtype b (holds AtLeast (nullable t) u h (omega (arith, le, laws.rows.measures.left_nullable u (nullable t))))
+          at false b = marked_both b (holds AtLeast t u h (omega (arith, le, both_bare_fall table laws.rows AtLeast t u)))
+      marked_holds AtMost t (nullable u) h le = marked_both refl (holds AtMost t u h (omega (arith, le, both_bare_fall table laws.rows AtMost t u)))
 
       -- classes
       other_above : (c : ClassId) (ts : Types) (d : ClassId) (ss : Types) → same_class c d ≡ false → M AtLeast (interface c ts) (interface d ss) ≤ n → Faces AtLeast (interface c ts) (interface d ss) (face_of_other_class table params face AtLeast c ts d ss)
@@ -230,7 +224,7 @@ module _ (table : Table) (wf : IsWellFormed table) where
         where
           within : (us : Types) → IsOnlyAbove table d ss c us → (b : Bool) → nat_le (size_of (interface c us)) NODE_LIMIT ≡ b →
               Faces AtLeast (interface c ts) (interface d ss) (cond b (match_all_by table params face (paired AtLeast ts us)) (sets_nothing (too_large (held (size_of (interface c us))))))
-          within us a true e = other_climbs k a (leb-true (size_of (interface c us)) NODE_LIMIT e) (all_hold (paired AtLeast ts us) (omega (arith, le, other_above_below table wf c d ts ss us a.above)))
+          within us a true e = other_climbs k a (leb-true (size_of (interface c us)) NODE_LIMIT e) (all_hold (paired AtLeast ts us) (omega (arith, le, other_above_below table laws.rows c d ts ss us a.above)))
           within us a false e = other_too_large k a (leb-false (size_of (interface c us)) NODE_LIMIT e)
 
           at : (o : Option Types) → Answer d ss c o → Faces AtLeast (interface c ts) (interface d ss) (face_of_above table params face c (paired AtLeast ts) (as_they_stand table params face AtLeast (interface c ts) (interface d ss)) o)
@@ -242,7 +236,7 @@ module _ (table : Table) (wf : IsWellFormed table) where
         where
           within : (us : Types) → IsOnlyAbove table c ts d us → (b : Bool) → nat_le (size_of (interface d us)) NODE_LIMIT ≡ b →
               Faces AtMost (interface c ts) (interface d ss) (cond b (match_all_by table params face (paired AtMost us ss)) (sets_nothing (too_large (held (size_of (interface d us))))))
-          within us a true e = formal_climbs k a (leb-true (size_of (interface d us)) NODE_LIMIT e) (all_hold (paired AtMost us ss) (omega (arith, le, formal_above_below table wf c d ts ss us a.above)))
+          within us a true e = formal_climbs k a (leb-true (size_of (interface d us)) NODE_LIMIT e) (all_hold (paired AtMost us ss) (omega (arith, le, formal_above_below table laws.rows c d ts ss us a.above)))
           within us a false e = formal_too_large k a (leb-false (size_of (interface d us)) NODE_LIMIT e)
 
           at : (o : Option Types) → Answer c ts d o → Faces AtMost (interface c ts) (interface d ss) (face_of_above table params face d (λ us. paired AtMost us ss) (as_they_stand table params face AtMost (interface c ts) (interface d ss)) o)
@@ -257,7 +251,7 @@ module _ (table : Table) (wf : IsWellFormed table) where
       classes_hold side c ts d ss le = at (same_class c d) refl
         where
           at : (b : Bool) → same_class c d ≡ b → Faces side (interface c ts) (interface d ss) (cond b (match_all_by table params face (paired side ts ss)) (face_of_other_class table params face side c ts d ss))
-          at true k = one_class k (all_hold (paired side ts ss) (omega (arith, le, arguments_below table wf side c d ts ss)))
+          at true k = one_class k (all_hold (paired side ts ss) (omega (arith, le, arguments_below table laws.rows side c d ts ss)))
           at false k = other_classes side c ts d ss k le
 
       class_holds : (side : Side) (c : ClassId) (ts : Types) (s : Ty) → M side (interface c ts) s ≤ n → is_as_it_stands side s ≡ true → Faces side (interface c ts) s (face_of_class table params face side c ts s)

@@ -6,8 +6,8 @@ use Rattle.dart_types.specs.Ty.{Ty, more, count, join, types_of}
 use Rattle.dart_types.specs.Named.{named_of, has_name}
 use Rattle.dart_types.specs.Sub.{required_in}
 use Rattle.dart_types.specs.declared.types.NamedType.{NamedType}
-use Rattle.dart_types.proofs.RowTests.{count-types_of}
 use Rattle.type_infer.specs.Pairs.{names_are_in, takes_calls_of}
+use Rattle.type_infer.proofs.General.{count-types_of}
 
 -- a test that a part of the list fails, or leaves to the rest
 fails_here : (here test rest : Bool) {whole : Bool} → here ≡ (test && rest) → test ≡ false → here ≡ whole → false ≡ whole

@@ -1,15 +1,16 @@
 -- The mark of an open parameter stands in no type over well-formed rows.
-use Rattle.std.proofs.Common.{◌≡◌, Bool, true, false, Option, Some, None, refl, ap}
-use Rattle.std.specs.Prelude.{◌||◌, IsSome}
+use Rattle.std.proofs.Common.{◌≡◌, Bool, true, false, Option, Some, None, refl, ◌∙◌, ap}
+use Rattle.std.specs.Prelude.{◌||◌, IsSome, find}
+use Rattle.std.proofs.lemmas.List.Elements.{All-contains}
 use Rattle.dart_types.specs.Ty.{Ty, Types, Named, invalid, never, void, null, interface, function, variable, promoted, nullable, no_more, more, no_named, more_named}
 use Rattle.dart_types.specs.Same.{same_var}
 use Rattle.dart_types.specs.Tables.{Table, bound_of}
-use Rattle.dart_types.specs.WellFormed.{IsOver, AreOver, AreOverNamed, IsWellFormed}
+use Rattle.dart_types.specs.WellFormed.{IsOver, AreOver, AreOverNamed, IsFormedVar, IsWellFormed}
 use Rattle.dart_types.specs.declared.ids.VarId.{VarId}
-use Rattle.dart_types.proofs.Formed.{declared_var}
-use Rattle.dart_types.proofs.SameIds.{equal_from_same_var}
+use Rattle.dart_types.specs.declared.class_rows.VarRow.{VarRow}
 use Rattle.type_infer.specs.Open.{is_open, are_open, are_open_named}
 use Rattle.type_infer.specs.declared.contexts.TheConstants.{OPEN_PARAMETER}
+use Rattle.type_infer.proofs.General.{equal_from_same_var, found_in, from_mapped}
 
 neither : (a b : Bool) → a ≡ false → b ≡ false → (a || b) ≡ false
 neither a b e k = rw e k
@@ -24,7 +25,12 @@ module _ (table : Table) (wf : IsWellFormed table) where
     where
       at : (o : Option Ty) → bound_of table x ≡ o → IsSome o → x.lib ≡ OPEN_PARAMETER.lib → ⊥
       at None is none e = cc
-      at (Some b) is some e = declared_var table wf x b is e
+      at (Some b) is some e =
+          let m = from_mapped (λ (row : VarRow). row.bound) (find (λ (row : VarRow). same_var row.var x) table.vars) b is in
+          let g = found_in (λ (row : VarRow). same_var row.var x) table.vars m.0 m.1 in
+          let f = All-contains (IsFormedVar table) table.vars m.0 wf.vars g.0 in
+          let same : m.0.var ≡ x = equal_from_same_var m.0.var x g.1 in
+          f.declared (ap (λ (y : VarId). y.lib) same ∙ e)
 
   mutual
     pub not_open : (t : Ty) → IsOver table t → is_open t ≡ false

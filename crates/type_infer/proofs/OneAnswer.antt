@@ -8,10 +8,10 @@ use Rattle.dart_types.specs.Tables.{Table}
 use Rattle.dart_types.specs.declared.ids.VarId.{VarId}
 use Rattle.dart_types.specs.declared.refusal.TheConstants.{NODE_LIMIT}
 use Rattle.type_bounds.specs.Bounds.{Upper, Lower}
-use Rattle.type_bounds.proofs.OneBound.{one_upper_bound, one_lower_bound}
+use Rattle.type_bounds.specs.Laws.{BoundLaws}
 use Rattle.type_infer.specs.Contexts.{Known, none_left, one_solved, one_open, large_here, large_behind_solved, large_behind_open, ContextOf, formed, large_context, large_solution, large_match}
 use Rattle.type_infer.specs.Inference as by
-use Rattle.type_infer.specs.Inference.{IsWithin, Gathered, bound_with, declared_bound, Argument, Arguments, Inferred}
+use Rattle.type_infer.specs.Inference.{IsWithin, Gathered, bound_with, Argument, Arguments, Inferred}
 use Rattle.type_infer.specs.Matching.{End, too_large}
 use Rattle.type_infer.specs.Pairs.{Pair}
 use Rattle.type_infer.specs.Promotions.{unpromoted}
@@ -46,7 +46,7 @@ module _ (bound : Ty → Ty → Ty → Type 0) (one : (t s u v : Ty) → bound t
   one_fold {t} (over_limit h) (one_other k q g) = within_and_over (size_of t) k h
   one_fold (over_limit h) (over_limit k) = refl
 
-module _ (table : Table) where
+module _ (table : Table) (laws : BoundLaws table) where
   module _ (cs : List Constraint) where
     nonempty : {A : Type 0} {t : Ty} {ts list : List Ty} → list ≡ t ∷ ts → list ≡ [] → A
     nonempty e f = cc
@@ -59,10 +59,10 @@ module _ (table : Table) where
 
     -- a parameter that is constrained has one solution
     pub one_solution : {x : VarId} {a b : Result Ty ℕ} → Solution table cs x a → Solution table cs x b → a ≡ b
-    one_solution (by_upper e f) (by_upper k g) = one_fold (Upper table) (λ t s u v. one_upper_bound table) f (same_fold e k g)
+    one_solution (by_upper e f) (by_upper k g) = one_fold (Upper table) laws.one_upper f (same_fold e k g)
     one_solution (by_upper e f) (by_lower n k g) = nonempty e n
     one_solution (by_lower n e f) (by_upper k g) = nonempty k n
-    one_solution (by_lower n e f) (by_lower m k g) = one_fold (Lower table) (λ t s u v. one_lower_bound table) f (same_fold e k g)
+    one_solution (by_lower n e f) (by_lower m k g) = one_fold (Lower table) laws.one_lower f (same_fold e k g)
 
     free_unsolved : {A : Type 0} {x : VarId} {a : Result Ty ℕ} → IsFree cs x → Solution table cs x a → A
     free_unsolved p (by_upper e f) = nonempty e p.0

@@ -9,7 +9,6 @@ use Rattle.dart_types.specs.Heads.{is_plain}
 use Rattle.dart_types.specs.declared.ids.ClassId.{ClassId}
 use Rattle.dart_types.specs.declared.ids.VarId.{VarId}
 use Rattle.dart_types.specs.declared.refusal.TheConstants.{NODE_LIMIT}
-use Rattle.type_bounds.proofs.OneBound.{clash}
 use Rattle.type_infer.specs.Matching.{End, too_large, is_built, is_as_it_stands, is_leaf, Match, fixed, faced, Face, MatchAll, constrained, open_there, null_at_mark, marked_both, marked_formal, marked_subtype, marked_other, bound_of_other, unbound_other, promoted_other, one_class, other_climbs, formal_climbs, other_too_large, formal_too_large, other_elsewhere, formal_elsewhere, functions, other_signature, leaf, all_matched, open_part, part_matched, part_ended}
 use Rattle.type_infer.specs.Holding.{holds_param}
 use Rattle.type_infer.specs.Open.{is_open}
@@ -17,6 +16,7 @@ use Rattle.type_infer.specs.Pairs.{Pair, paired, signatures_fit}
 use Rattle.type_infer.specs.declared.constraints.Constraint.{Constraint}
 use Rattle.type_infer.specs.declared.constraints.Side.{Side}
 use Rattle.type_infer.specs.declared.constraints.Side.TheVariants.{AtLeast, AtMost}
+use Rattle.type_infer.proofs.General.{clash}
 
 -- a class or a function type, with `?` or without, that faces a type that doesn't stand is no leaf
 built_no_leaf : {A : Type 0} (side : Side) (t s : Ty) → is_built t ≡ true → is_as_it_stands side s ≡ false → is_leaf side t s ≡ true → A

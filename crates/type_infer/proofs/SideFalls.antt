@@ -11,16 +11,15 @@ use Rattle.dart_types.specs.Forms.{params_of}
 use Rattle.dart_types.specs.Normal.{nullable_of, normal, normal_all, normal_named}
 use Rattle.dart_types.specs.Substitution.{put, by_params}
 use Rattle.dart_types.specs.Tables.{Table}
-use Rattle.dart_types.specs.WellFormed.{IsSupertype, IsWellFormed}
+use Rattle.dart_types.specs.WellFormed.{IsSupertype}
 use Rattle.dart_types.specs.Measure.{VarMeasure, weight, weights, weights_named, deep, deeps, heavy, heavies, of_var, heaviest_of, deepness_of, measure}
 use Rattle.dart_types.specs.Sub.{HasNamed, first, later}
 use Rattle.dart_types.specs.declared.ids.ClassId.{ClassId}
 use Rattle.dart_types.specs.declared.ids.VarId.{VarId}
 use Rattle.dart_types.specs.declared.types.FunctionType.{FunctionType}
 use Rattle.dart_types.specs.declared.types.NamedType.{NamedType}
-use Rattle.dart_types.proofs.Climb.{superinterface_simple, climb_falls}
-use Rattle.dart_types.proofs.MeasureFalls.{not_above, right_bare_falls, left_bare_falls, left_promoted_falls, bound_falls}
-use Rattle.dart_types.proofs.MeasureParts.{HasType, at_first, at_later, arguments_fall, params_fall, names_fall, results_fall}
+use Rattle.dart_types.specs.Parts.{HasType, at_first, at_later}
+use Rattle.dart_types.specs.Laws.{RowLaws}
 use Rattle.type_bounds.specs.Common.{IsAbove}
 use Rattle.type_infer.specs.Constraints.{opposite}
 use Rattle.type_infer.specs.Pairs.{Pair, paired, paired_with, paired_by_name}
@@ -179,28 +178,28 @@ module _ (table : Table) where
   name_below side (k ∷ ns) ms (suc i) n m lt is e =
       omega (arith, name_below side ns ms i n m (omega arith) is e, pairs_append (paired_with side k.ty (type_named (named_of ms) k.name)) (paired_by_name side (named_of ns) (named_of ms)))
 
-  module _ (wf : IsWellFormed table) where
+  module _ (laws : RowLaws table) where
     -- a `?` of the formal
     pub both_bare_fall : (side : Side) (t s : Ty) → M side t s < M side (nullable t) (nullable s)
-    both_bare_fall AtLeast t s = omega (arith, left_bare_falls table wf s (nullable t), right_bare_falls table wf s t)
-    both_bare_fall AtMost t s = omega (arith, left_bare_falls table wf t (nullable s), right_bare_falls table wf t s)
+    both_bare_fall AtLeast t s = omega (arith, laws.measures.left_nullable s (nullable t), laws.measures.right_nullable s t)
+    both_bare_fall AtMost t s = omega (arith, laws.measures.left_nullable t (nullable s), laws.measures.right_nullable t s)
 
     pub bare_falls : (side : Side) (t s : Ty) → M side t s < M side (nullable t) s
-    bare_falls AtLeast t s = right_bare_falls table wf s t
-    bare_falls AtMost t s = left_bare_falls table wf t s
+    bare_falls AtLeast t s = laws.measures.right_nullable s t
+    bare_falls AtMost t s = laws.measures.left_nullable t s
 
     -- what a type gives way to
     pub way_least : {side : Side} {s : Ty} (t : Ty) (last : Option Ty) → GivesWay table side s last → (u : Ty) → last ≡ Some u → M side t u ≤ M side t s
     way_least {side} {s} t last (stands k) u e = let is : s ≡ u = cc in subst (λ (v : Ty). M side t v ≤ M side t s) is (omega arith)
-    way_least t last (to_bound {y = y} {b = b} k g) u e = omega (arith, way_least t last g u e, bound_falls table wf y b t k)
+    way_least t last (to_bound {y = y} {b = b} k g) u e = omega (arith, way_least t last g u e, laws.measures.bounds y b t k)
     way_least t last (to_nothing k) u e = cc
-    way_least t last (to_promoted {y = y} {u = v} g) u e = omega (arith, way_least t last g u e, (left_promoted_falls table wf y v t).1)
-    way_least t last (to_bare {s = v} g) u e = omega (arith, way_least t last g u e, right_bare_falls table wf t v)
+    way_least t last (to_promoted {y = y} {u = v} g) u e = omega (arith, way_least t last g u e, (laws.measures.left_promoted y v t).1)
+    way_least t last (to_bare {s = v} g) u e = omega (arith, way_least t last g u e, laws.measures.right_nullable t v)
 
     mark_least : {s : Ty} (t : Ty) {last : Option Ty} → WayAtMark table true s last → (u : Ty) → last ≡ Some u → M AtLeast t u ≤ M AtLeast t s
     mark_least t (to_none g) u e = cc
     mark_least t (to_last {last = v} g k) u e = way_least t (Some v) g u e
-    mark_least t (past_mark {u = v} g w) u e = omega (arith, mark_least t w u e, left_bare_falls table wf v t, way_least t (Some (nullable v)) g (nullable v) refl)
+    mark_least t (past_mark {u = v} g w) u e = omega (arith, mark_least t w u e, laws.measures.left_nullable v t, way_least t (Some (nullable v)) g (nullable v) refl)
 
     kept_least : (side : Side) (t s u : Ty) → WayAtMark table false s (Some u) → M side t u ≤ M side t s
     kept_least side t s u kept = omega arith
@@ -215,8 +214,8 @@ module _ (table : Table) where
 
     -- arguments of one class
     pub arguments_below : (side : Side) (c d : ClassId) (ts ss : Types) → Ms (paired side ts ss) ≤ M side (interface c ts) (interface d ss)
-    arguments_below AtLeast c d ts ss = paired_below AtLeast ts ss (M AtLeast (interface c ts) (interface d ss)) (λ t s a b. arguments_fall table wf d c ss ts b a)
-    arguments_below AtMost c d ts ss = paired_below AtMost ts ss (M AtMost (interface c ts) (interface d ss)) (λ t s a b. arguments_fall table wf c d ts ss a b)
+    arguments_below AtLeast c d ts ss = paired_below AtLeast ts ss (M AtLeast (interface c ts) (interface d ss)) (λ t s a b. laws.measures.arguments d c ss ts _ _ b a)
+    arguments_below AtMost c d ts ss = paired_below AtMost ts ss (M AtMost (interface c ts) (interface d ss)) (λ t s a b. laws.measures.arguments c d ts ss _ _ a b)
 
     -- a superinterface
     normal_least : (vars : List VarId) (v : Ty) (σ : VarId → Ty) → IsSupertype vars v → (t : Ty) → measure table (normal (put σ v)) t ≤ measure table (put σ v) t
@@ -226,7 +225,7 @@ module _ (table : Table) where
     normal_least vars void σ i t = absurd i
     normal_least vars null σ i t = absurd i
     normal_least vars (interface f vs) σ i t =
-        not_above table wf (put σ (interface f vs)) (normal (put σ (interface f vs))) t
+        laws.measures.no_rise (put σ (interface f vs)) (normal (put σ (interface f vs))) t
         (heavy_normal (of_var weight table) (of_var (heavy (of_var weight table)) table) (put σ (interface f vs)))
         (deep_normal (of_var deep table) (put σ (interface f vs)))
         refl
@@ -238,8 +237,8 @@ module _ (table : Table) where
     above_falls : (c : ClassId) (ts : Types) (u t : Ty) → IsAbove table c ts u → measure table u t < measure table (interface c ts) t
     above_falls c ts u t a =
         let σ = by_params a.row.params ts in
-        let climbs = climb_falls table wf c ts a.row a.row_is a.counted t a.superinterface in
-        let least = normal_least a.row.params a.over σ (superinterface_simple table wf a.superinterface a.row a.row_is) t in
+        let climbs = laws.measures.superinterfaces c ts a.row a.over t a.row_is a.counted a.superinterface in
+        let least = normal_least a.row.params a.over σ (laws.superinterface_simple c a.row a.over a.row_is a.superinterface) t in
         subst (λ (v : Ty). measure table v t < measure table (interface c ts) t) (sym a.is) (omega (arith, climbs, least))
 
     pub other_above_below : (c d : ClassId) (ts ss us : Types) → IsAbove table d ss (interface c us) → Ms (paired AtLeast ts us) < M AtLeast (interface c ts) (interface d ss)
@@ -259,19 +258,19 @@ module _ (table : Table) where
       pub params_below : (side : Side) → Ms (paired (opposite side) (types_of (params_of f)) (types_of (params_of g))) ≤ Whole side
       params_below AtLeast =
           paired_below AtMost (types_of (params_of f)) (types_of (params_of g)) (Whole AtLeast)
-          (λ t s a b. params_fall table wf (types_of g.required) (types_of g.optional) (types_of f.required) (types_of f.optional) (named_of g.named) (named_of f.named) g.result f.result (has_param g s b) (has_param f t a))
+          (λ t s a b. laws.measures.parameters (types_of g.required) (types_of g.optional) (types_of f.required) (types_of f.optional) (named_of g.named) (named_of f.named) g.result f.result _ _ (has_param g s b) (has_param f t a))
       params_below AtMost =
           paired_below AtLeast (types_of (params_of f)) (types_of (params_of g)) (Whole AtMost)
-          (λ t s a b. params_fall table wf (types_of f.required) (types_of f.optional) (types_of g.required) (types_of g.optional) (named_of f.named) (named_of g.named) f.result g.result (has_param f t a) (has_param g s b))
+          (λ t s a b. laws.measures.parameters (types_of f.required) (types_of f.optional) (types_of g.required) (types_of g.optional) (named_of f.named) (named_of g.named) f.result g.result _ _ (has_param f t a) (has_param g s b))
 
       pub names_below : (side : Side) → Ms (paired_by_name (opposite side) (named_of f.named) (named_of g.named)) ≤ Whole side
       names_below AtLeast =
           named_below AtMost (named_of f.named) (named_of g.named) (Whole AtLeast)
-          (λ l m t s a b. names_fall table wf (types_of g.required) (types_of g.optional) (types_of f.required) (types_of f.optional) (named_of g.named) (named_of f.named) g.result f.result b a)
+          (λ l m t s a b. laws.measures.named (types_of g.required) (types_of g.optional) (types_of f.required) (types_of f.optional) (named_of g.named) (named_of f.named) g.result f.result _ _ _ _ b a)
       names_below AtMost =
           named_below AtLeast (named_of f.named) (named_of g.named) (Whole AtMost)
-          (λ l m t s a b. names_fall table wf (types_of f.required) (types_of f.optional) (types_of g.required) (types_of g.optional) (named_of f.named) (named_of g.named) f.result g.result a b)
+          (λ l m t s a b. laws.measures.named (types_of f.required) (types_of f.optional) (types_of g.required) (types_of g.optional) (named_of f.named) (named_of g.named) f.result g.result _ _ _ _ a b)
 
       pub result_below : (side : Side) → M side f.result g.result < Whole side
-      result_below AtLeast = results_fall table wf (types_of g.required) (types_of g.optional) (types_of f.required) (types_of f.optional) (named_of g.named) (named_of f.named) g.result f.result
-      result_below AtMost = results_fall table wf (types_of f.required) (types_of f.optional) (types_of g.required) (types_of g.optional) (named_of f.named) (named_of g.named) f.result g.result
+      result_below AtLeast = laws.measures.results (types_of g.required) (types_of g.optional) (types_of f.required) (types_of f.optional) (named_of g.named) (named_of f.named) g.result f.result
+      result_below AtMost = laws.measures.results (types_of f.required) (types_of f.optional) (types_of g.required) (types_of g.optional) (named_of f.named) (named_of g.named) f.result g.result

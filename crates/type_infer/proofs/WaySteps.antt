@@ -10,10 +10,9 @@ use Rattle.dart_types.specs.declared.types.TypeNode.{TypeNode}
 use Rattle.dart_types.specs.declared.types.TypeNode.TheVariants.{Invalid, Never, Void, Null, Interface, Function, Var, Promoted, Nullable}
 use Rattle.type_infer.specs.Matching.{gives_way_at_mark}
 use Rattle.dart_types.specs.Tables.{Table, bound_of}
-use Rattle.dart_types.specs.WellFormed.{IsWellFormed}
 use Rattle.dart_types.specs.Measure.{deepness_of}
 use Rattle.dart_types.specs.declared.ids.VarId.{VarId}
-use Rattle.dart_types.proofs.MeasureBounds.{bound_deepness}
+use Rattle.dart_types.specs.Laws.{RowLaws}
 use Rattle.type_infer.specs.Ways.{GivesWay, stands, to_bound, to_nothing, to_promoted, to_bare, WayAtMark, kept}
 use Rattle.type_infer.specs.declared.constraints.Side.{Side}
 use Rattle.type_infer.specs.declared.constraints.Side.TheVariants.{AtLeast, AtMost}
@@ -44,9 +43,9 @@ stands_there table side t s is = rw is kept
 pub stands_beside : (table : Table) (side : Side) (t s : Ty) → side ≡ AtLeast → is_plain t ≡ false → WayAtMark table (gives_way_at_mark side t) s (Some s)
 stands_beside table side t s is e = rw is (rw e kept)
 
-module _ (table : Table) (wf : IsWellFormed table) where
+module _ (table : Table) (laws : RowLaws table) where
   pub way_to_bound : (x : VarId) (b s : Ty) (side : Side) → side ≡ AtLeast → s ≡ variable x → bound_of table x ≡ Some b → GivesWayTo table side s b
-  way_to_bound x b s side is e k = rw (is, e) (omega (arith, bound_deepness table wf x b k), λ last g. to_bound k g)
+  way_to_bound x b s side is e k = rw (is, e) (omega (arith, laws.bound_deepness x b k), λ last g. to_bound k g)
 
   promoted_deepness : (x : VarId) (u : Ty) → deepness_of table u < deepness_of table (promoted x u)
   unfolding deepness_of
@@ -65,7 +64,7 @@ module _ (table : Table) (wf : IsWellFormed table) where
   -- what a type gives way to is no deeper
   pub way_no_deeper : {side : Side} {s : Ty} {last : Option Ty} → GivesWay table side s last → (u : Ty) → last ≡ Some u → deepness_of table u ≤ deepness_of table s
   way_no_deeper {s = s} (stands k) u e = let is : s ≡ u = cc in subst (λ (v : Ty). deepness_of table v ≤ deepness_of table s) is (omega arith)
-  way_no_deeper (to_bound {y = y} {b = b} k g) u e = omega (arith, way_no_deeper g u e, bound_deepness table wf y b k)
+  way_no_deeper (to_bound {y = y} {b = b} k g) u e = omega (arith, way_no_deeper g u e, laws.bound_deepness y b k)
   way_no_deeper (to_nothing k) u e = cc
   way_no_deeper (to_promoted {y = y} {u = v} g) u e = omega (arith, way_no_deeper g u e, promoted_deepness y v)
   way_no_deeper (to_bare {s = v} g) u e = omega (arith, way_no_deeper g u e, nullable_deepness v)

@@ -6,7 +6,7 @@ ghost use Rattle.dart_types.specs.Superinterfaces.{AreOrdered};
 ghost use Rattle.type_infer.specs.Above.{FormsAbove, HasNoOnlyEntry, IsOnlyEntry, arguments_of};
 
 use dart_types::{
-    Arguments, ClassId, DartType, Rows, Superinterface, TypeList, TypeNode, TypeRefusal,
+    Arguments, ClassId, DartType, Rows, Superinterface, TypeList, TypeNode, TypeRefusal, row_laws,
     superinterfaces_of_class,
 };
 use std::alloc::Global;
@@ -22,6 +22,7 @@ pub(crate) fn form_above(
 ) -> Result<Option<DartType>, TypeRefusal>
     ensures { FormsAbove rows.now.table class (types_of args.now) target result }
 {
+    row_laws(rows);
     let row = match rows.class(class) {
         None => return Ok(None),
         Some(row) => row,

@@ -19,6 +19,7 @@ use crate::var_types::push_pair;
 use dart_types::{DartType, NO_LIBRARY, Rows, TypeNode, TypeRefusal, VarId, substitute};
 use std::alloc::{AllocError, Global};
 use std::marker::Model;
+use type_bounds::bound_table_laws;
 
 /// What stands in a context for each type parameter that is open. Well-formed rows have no type
 /// variable of no library, so it stands in no type of a program.
@@ -82,6 +83,7 @@ pub fn context_of(
     requires { length done.now < length formals.now }
     ensures { AnswersContext result (context_of_argument rows.now.table params.now returned.now (option_copied context.entry) formals.now done.now) }
 {
+    bound_table_laws(rows);
     let found = gather(alloc, rows, params, returned, context, formals, done)?;
     let known = known_types(alloc, rows, &found, params)?;
     let ty = substitute(alloc, &formals[done.len()], &known)?;

@@ -15,6 +15,7 @@ use crate::solving::solution;
 use crate::var_types::{push_pair, types_of_pairs};
 use dart_types::{DartType, Rows, TypeList, VarId};
 use std::alloc::Global;
+use type_bounds::bound_table_laws;
 
 /// The arguments for the type parameters of a call with this result, in the order of the parameters;
 /// `formals` are the types of the parameters that its arguments are for, and `actuals` the types of
@@ -41,6 +42,7 @@ pub fn infer_arguments(
     requires { length formals.now ≡ length actuals.now }
     ensures { Answers result (inferred_of rows.now.table params.now returned.now (option_copied context.entry) formals.now actuals.now) }
 {
+    bound_table_laws(rows);
     let found = gather(alloc, rows, params, returned, context, formals, actuals)?;
     arguments_for(alloc, rows, &found, params)
 }

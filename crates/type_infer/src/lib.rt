@@ -30,6 +30,6 @@ pub use contexts::{Context, OPEN_PARAMETER, context_of};
 pub use inference::infer_arguments;
 pub use laws::{
     answers_are_those_of_the_rules, contexts_are_unique, inferred_arguments_are_unique,
-    inferred_arguments_are_within_bounds, refusals_are_for_the_first_parameter,
+    inferred_arguments_are_within_bounds, more_rows_laws, refusals_are_for_the_first_parameter,
 };
 pub use refusal::InferRefusal;

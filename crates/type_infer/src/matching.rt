@@ -19,7 +19,7 @@ use crate::signatures::{count_params, param_at, signatures_fit};
 use crate::ways::{standing, standing_at_mark};
 use dart_types::{
     ClassId, DartType, FunctionType, NamedType, NamedTypes, Rows, TypeList, TypeNode, TypeRefusal,
-    VarId, is_subtype,
+    VarId, is_subtype, row_laws,
 };
 use std::alloc::{AllocError, Global};
 
@@ -128,6 +128,7 @@ impl<'a> Matcher<'a> {
         requires { holds_param self.now.params.now bare.now ≡ true }
         ensures { Finds (Face self.now.rows.now.table self.now.params.now side (nullable bare.now) other.now) found.old.items found.new.items result }
     {
+        row_laws(self.rows);
         let last = match standing_at_mark(self.rows, side, bare, other) {
             None => return Ok(false),
             Some(last) => last,
@@ -152,6 +153,7 @@ impl<'a> Matcher<'a> {
         requires { is_plain formal.now ≡ true }
         ensures { Finds (Face self.now.rows.now.table self.now.params.now side formal.now other.now) found.old.items found.new.items result }
     {
+        row_laws(self.rows);
         match standing(self.rows, side, other) {
             None => Ok(false),
             Some(last) => self.face_standing(side, formal, last, found),
@@ -202,6 +204,7 @@ impl<'a> Matcher<'a> {
         requires stands { is_as_it_stands side other.now ≡ true }
         ensures { Finds (Face self.now.rows.now.table self.now.params.now side formal.now other.now) found.old.items found.new.items result }
     {
+        row_laws(self.rows);
         let TypeNode::Interface {
             class: other_class,
             args: other_args,
@@ -243,6 +246,7 @@ impl<'a> Matcher<'a> {
         ensures { let faced = Face self.now.rows.now.table self.now.params.now side (function_type formal.now) (function_type other.now) in
             Finds faced found.old.items found.new.items result }
     {
+        row_laws(self.rows);
         if !signatures_fit(side, formal, other) {
             return Ok(false);
         }

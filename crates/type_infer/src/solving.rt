@@ -8,7 +8,7 @@ ghost use Rattle.type_infer.specs.Solves.{bound_on, Folds, FormsWith, Solves};
 use crate::constraints::{Constraint, Side};
 use dart_types::{DartType, NODE_LIMIT, Rows, TypeRefusal, VarId, size};
 use std::alloc::Global;
-use type_bounds::{lower, upper};
+use type_bounds::{bound_table_laws, lower, upper};
 
 /// The solution of a parameter: the upper bound of the types that it is at least, else the lower bound
 /// of those that it is at most, each in the order of the constraints; none where nothing constrains
@@ -85,6 +85,7 @@ fn bound_of_two(
 ) -> Result<DartType, TypeRefusal>
     ensures { FormsSome (bound_on side rows.now.table s.now t.now) result }
 {
+    bound_table_laws(rows);
     match side {
         Side::AtLeast => upper(alloc, rows, s, t),
         Side::AtMost => lower(alloc, rows, s, t),

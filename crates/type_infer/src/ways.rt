@@ -7,7 +7,7 @@ ghost use Rattle.type_infer.specs.Matching.{gives_way_at_mark};
 ghost use Rattle.type_infer.specs.Ways.{GivesWay, IsWay, WayAtMark};
 
 use crate::constraints::Side;
-use dart_types::{DartType, Rows, TypeNode};
+use dart_types::{DartType, Rows, TypeNode, row_laws};
 
 // What a type gives way to first.
 enum Way<'a> {
@@ -24,6 +24,7 @@ enum Way<'a> {
 fn first_way<'a>(rows: &'a Rows, side: Side, other: &'a DartType) -> Way<'a>
     ensures { IsWay rows.now.table side other.now result }
 {
+    row_laws(rows);
     match side {
         Side::AtLeast => match &other.node {
             TypeNode::Var(var) => match rows.bound(*var) {
@@ -95,6 +96,7 @@ pub(crate) fn standing_at_mark<'a>(
 fn standing_bare<'a>(rows: &'a Rows, other: &'a DartType) -> Option<&'a DartType>
     ensures { WayAtMark rows.now.table true other.now (option_copied result) }
 {
+    row_laws(rows);
     let mut left = other;
     loop {
         let last = match standing(rows, Side::AtLeast, left) {

@@ -4,10 +4,8 @@ use Rattle.std.proofs.lemmas.List.Elements.{All-contains}
 use Rattle.dart_types.specs.Same.{same_class}
 use Rattle.dart_types.specs.Superinterfaces.{interface_with}
 use Rattle.dart_types.specs.declared.superinterfaces.Superinterface.{Superinterface}
-use Rattle.dart_types.proofs.ClassSteps.{contains_passed, passed_contains}
-use Rattle.dart_types.proofs.RowTests.{all_next, all_done}
-use Rattle.dart_types.proofs.Steps.{granted, refused}
 use Rattle.type_infer.specs.Above.{IsOnlyEntry}
+use Rattle.type_infer.proofs.General.{contains_passed, passed_contains, all_next, all_done, granted, refused}
 use Rattle.type_infer.proofs.climbs.only_entry.Goals as goal
 
 module _ {X : Type 0} where

@@ -21,7 +21,7 @@ returns-in_err-found c =
     let params = c.args.params.now in
     let pairs = pairs_of c.args.returned.now (option_copied c.args.context) c.args.formals.now c.args.done.now in
     let formal = get_or c.args.formals.now (length c.args.done.now) invalid in
-    context_answer table c.args.rows.now.formed params c.args.returned.now (option_copied c.args.context) c.args.formals.now c.args.done.now c.from_residual.result
+    context_answer table c.bound_table_laws.ensures params c.args.returned.now (option_copied c.args.context) c.args.formals.now c.args.done.now c.from_residual.result
     (handed_over (λ r. FormsContext table params pairs formal r) c.from_residual.result c.in_err-found.field-0.0 c.from_residual.ensures.1
     (λ said e. not_gathered table params pairs formal c.in_err-found.field-0.0 said c.in_err-found.ensures.err e))
 
@@ -33,7 +33,7 @@ returns-in_err-known c =
     let pairs = pairs_of c.args.returned.now (option_copied c.args.context) c.args.formals.now c.args.done.now in
     let formal = get_or c.args.formals.now (length c.args.done.now) invalid in
     let ended = subst (λ (cs : List Constraint). EndsKnown table cs params c.in_err-known.field-0.0) c.deref.ensures.value c.in_err-known.ensures.err in
-    context_answer table c.args.rows.now.formed params c.args.returned.now (option_copied c.args.context) c.args.formals.now c.args.done.now c.from_residual-in_err-known.result
+    context_answer table c.bound_table_laws.ensures params c.args.returned.now (option_copied c.args.context) c.args.formals.now c.args.done.now c.from_residual-in_err-known.result
     (handed_over (λ r. FormsContext table params pairs formal r) c.from_residual-in_err-known.result c.in_err-known.field-0.0 c.from_residual-in_err-known.ensures.1
     (λ said e. not_known table params pairs formal c.in_ok-found.ensures.ok c.in_err-known.field-0.0 said ended e))
 
@@ -52,7 +52,7 @@ returns-in_err-ty c =
     subst (λ (t : Ty). Forms (Err c.in_err-ty.field-0.0) (substituted c.in_ok-known.known.items t)) same
     (subst (λ (ps : List (VarId × Ty)). Forms (Err c.in_err-ty.field-0.0) (substituted ps c.index-formals-done.result)) c.deref-2.ensures.value c.in_err-ty.ensures)
     in
-    context_answer table c.args.rows.now.formed params c.args.returned.now (option_copied c.args.context) c.args.formals.now c.args.done.now c.from_residual-in_err-ty.result
+    context_answer table c.bound_table_laws.ensures params c.args.returned.now (option_copied c.args.context) c.args.formals.now c.args.done.now c.from_residual-in_err-ty.result
     (handed_over (λ r. FormsContext table params pairs formal r) c.from_residual-in_err-ty.result c.in_err-ty.field-0.0 c.from_residual-in_err-ty.ensures.1
     (λ said e. context_refused table params pairs formal c.in_ok-found.ensures.ok known c.in_err-ty.field-0.0 said ended e))
 
@@ -70,5 +70,5 @@ returns c =
     subst (λ (t : Ty). Forms (Ok c.in_ok-ty.ty) (substituted c.in_ok-known.known.items t)) same
     (subst (λ (ps : List (VarId × Ty)). Forms (Ok c.in_ok-ty.ty) (substituted ps c.index-formals-done.result)) c.deref-2.ensures.value c.in_ok-ty.ensures)
     in
-    context_answer table c.args.rows.now.formed params c.args.returned.now (option_copied c.args.context) c.args.formals.now c.args.done.now (Ok c.in_ok-ty.ty)
+    context_answer table c.bound_table_laws.ensures params c.args.returned.now (option_copied c.args.context) c.args.formals.now c.args.done.now (Ok c.in_ok-ty.ty)
     (context_formed table params pairs formal c.in_ok-found.ensures.ok known c.in_ok-ty.ty done)

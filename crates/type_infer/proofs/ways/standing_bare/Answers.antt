@@ -14,7 +14,7 @@ returns-in-None c = c.loop-last.invariant None (to_none c.in-None.ensures)
 pub loop-last-smaller : goal.loop-last-smaller
 loop-last-smaller c =
     let is : c.in-Some.last.now ≡ nullable c.deref-left.result.now = sym c.last.view_is ∙ ap type_of c.in-Nullable.is ∙ ap nullable (sym c.deref-left.ensures) in
-    past_mark_falls c.args.rows.now.table c.args.rows.now.formed c.loop-last.left.now c.in-Some.last.now c.deref-left.result.now c.in-Some.ensures is
+    past_mark_falls c.args.rows.now.table c.row_laws.ensures c.loop-last.left.now c.in-Some.last.now c.deref-left.result.now c.in-Some.ensures is
 
 pub loop-last-preserved : goal.loop-last-preserved
 loop-last-preserved c =

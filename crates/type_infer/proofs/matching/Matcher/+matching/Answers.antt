@@ -46,15 +46,15 @@ face_marked-face-requires t c =
     let m = c.args.self.now in
     let is = sym c.last.view_is ∙ ap type_of c.in-Nullable.is ∙ ap nullable (sym c.deref.ensures) in
     let fall : side_measure m.rows.now.table c.args.side c.args.bare.now c.deref.result.now < side_measure m.rows.now.table c.args.side (nullable c.args.bare.now) c.in-Some.last.now =
-    rw is (both_bare_fall m.rows.now.table m.rows.now.formed c.args.side c.args.bare.now c.deref.result.now) in
-    let least = way_least_at_mark m.rows.now.table m.rows.now.formed c.args.side c.args.bare.now c.args.other.now c.in-Some.last.now c.in-Some.ensures in
+    rw is (both_bare_fall m.rows.now.table c.row_laws.ensures c.args.side c.args.bare.now c.deref.result.now) in
+    let least = way_least_at_mark m.rows.now.table c.row_laws.ensures c.args.side c.args.bare.now c.args.other.now c.in-Some.last.now c.in-Some.ensures in
     (omega (arith, fall, least, c.decreases), c.requires)
 
 pub face_marked-face-requires-in_default : goal.face_marked-face-requires-in_default
 face_marked-face-requires-in_default t c =
     let m = c.args.self.now in
-    let least = way_least_at_mark m.rows.now.table m.rows.now.formed c.args.side c.args.bare.now c.args.other.now c.in-Some.last.now c.in-Some.ensures in
-    (omega (arith, bare_falls m.rows.now.table m.rows.now.formed c.args.side c.args.bare.now c.in-Some.last.now, least, c.decreases), c.requires)
+    let least = way_least_at_mark m.rows.now.table c.row_laws.ensures c.args.side c.args.bare.now c.args.other.now c.in-Some.last.now c.in-Some.ensures in
+    (omega (arith, bare_falls m.rows.now.table c.row_laws.ensures c.args.side c.args.bare.now c.in-Some.last.now, least, c.decreases), c.requires)
 
 pub face_marked-returns-in-Null : goal.face_marked-returns-in-Null
 face_marked-returns-in-Null t c =
@@ -87,7 +87,7 @@ face_marked-returns-in_default t c =
 pub face_built-face_standing-requires : goal.face_built-face_standing-requires
 face_built-face_standing-requires t c =
     let m = c.args.self.now in
-    let least = way_least m.rows.now.table m.rows.now.formed c.args.formal.now (Some c.in-Some.last.now) c.in-Some.ensures c.in-Some.last.now refl in
+    let least = way_least m.rows.now.table c.row_laws.ensures c.args.formal.now (Some c.in-Some.last.now) c.in-Some.ensures c.in-Some.last.now refl in
     (omega (arith, least, c.decreases), (c.requires, way_stands m.rows.now.table c.in-Some.ensures c.in-Some.last.now refl))
 
 pub face_built-returns-in-None : goal.face_built-returns-in-None
@@ -123,7 +123,7 @@ face_classes-match_lists-requires t c =
     let ts = types_of c.args.args.now in
     let ss = types_of c.deref-others.result.now in
     let measured = same_measure m.rows.now.table c.args.side c.requires.class (sym c.other.view_is ∙ ap type_of c.in-Interface.is ∙ ap (λ (us : List Ty). interface c.in-Interface.other_class (types_of us)) (sym c.deref-others.ensures)) in
-    let below = arguments_below m.rows.now.table m.rows.now.formed c.args.side c.args.class c.in-Interface.other_class ts ss in
+    let below = arguments_below m.rows.now.table c.row_laws.ensures c.args.side c.args.class c.in-Interface.other_class ts ss in
     let same : pairs_measure m.rows.now.table (paired c.args.side (types_of c.as_slice.result.now) (types_of c.as_slice-then-eq.result.now)) ≡ pairs_measure m.rows.now.table (paired c.args.side ts ss) = rw (c.as_slice.ensures, c.as_slice-then-eq.ensures) refl in
     (omega (arith, below, same, measured, c.decreases), tt)
 
@@ -194,7 +194,7 @@ face_classes-match_lists-requires-in-Some t c =
     let measured = same_measure m.rows.now.table c.args.side c.requires.class (sym c.other.view_is ∙ ap type_of c.in-Interface.is ∙ ap (λ (us : List Ty). interface c.in-Interface.other_class (types_of us)) (sym c.deref-others.ensures)) in
     let above = subst (λ (o : Option Ty). FormsAbove m.rows.now.table c.in-Interface.other_class ss c.args.class (Ok o)) c.in-Some.is c.in_ok-form_above-in-AtLeast.ensures in
     let below : pairs_measure m.rows.now.table (paired c.args.side ts (arguments_of c.in-Some.above)) < side_measure m.rows.now.table c.args.side (interface c.args.class ts) (interface c.in-Interface.other_class ss) =
-    rw c.in-AtLeast.is (other_above_below m.rows.now.table m.rows.now.formed c.args.class c.in-Interface.other_class ts ss (arguments_of c.in-Some.above) above.1.above) in
+    rw c.in-AtLeast.is (other_above_below m.rows.now.table c.row_laws.ensures c.args.class c.in-Interface.other_class ts ss (arguments_of c.in-Some.above) above.1.above) in
     let same : pairs_measure m.rows.now.table (paired c.args.side (types_of c.as_slice-in-Some.result.now) (types_of c.arguments_of.result.now)) ≡ pairs_measure m.rows.now.table (paired c.args.side ts (arguments_of c.in-Some.above)) = rw (c.as_slice-in-Some.ensures, c.arguments_of.ensures) refl in
     (omega (arith, below, same, measured, c.decreases), tt)
 
@@ -206,7 +206,7 @@ face_classes-match_lists-requires-in-Some-2 t c =
     let measured = same_measure m.rows.now.table c.args.side c.requires.class (sym c.other.view_is ∙ ap type_of c.in-Interface.is ∙ ap (λ (us : List Ty). interface c.in-Interface.other_class (types_of us)) (sym c.deref-others.ensures)) in
     let above = subst (λ (o : Option Ty). FormsAbove m.rows.now.table c.args.class ts c.in-Interface.other_class (Ok o)) c.in-Some-2.is c.in_ok-form_above-in-AtMost.ensures in
     let below : pairs_measure m.rows.now.table (paired c.args.side (arguments_of c.in-Some-2.above) ss) < side_measure m.rows.now.table c.args.side (interface c.args.class ts) (interface c.in-Interface.other_class ss) =
-    rw c.in-AtMost.is (formal_above_below m.rows.now.table m.rows.now.formed c.args.class c.in-Interface.other_class ts ss (arguments_of c.in-Some-2.above) above.1.above) in
+    rw c.in-AtMost.is (formal_above_below m.rows.now.table c.row_laws.ensures c.args.class c.in-Interface.other_class ts ss (arguments_of c.in-Some-2.above) above.1.above) in
     let same : pairs_measure m.rows.now.table (paired c.args.side (types_of c.arguments_of-in-Some-2.result.now) (types_of c.as_slice-in-Some-2.result.now)) ≡ pairs_measure m.rows.now.table (paired c.args.side (arguments_of c.in-Some-2.above) ss) = rw (c.as_slice-in-Some-2.ensures, c.arguments_of-in-Some-2.ensures) refl in
     (omega (arith, below, same, measured, c.decreases), tt)
 
@@ -427,20 +427,20 @@ pub face_functions-match_params-requires : goal.face_functions-match_params-requ
 face_functions-match_params-requires t c =
     let m = c.args.self.now in
     let below : pairs_measure m.rows.now.table (paired c.opposite-inner.result (types_of (params_of c.args.formal.now)) (types_of (params_of c.args.other.now))) ≤ side_measure m.rows.now.table c.args.side (function_type c.args.formal.now) (function_type c.args.other.now) =
-    rw c.opposite-inner.ensures (params_below m.rows.now.table m.rows.now.formed c.args.formal.now c.args.other.now c.args.side) in
+    rw c.opposite-inner.ensures (params_below m.rows.now.table c.row_laws.ensures c.args.formal.now c.args.other.now c.args.side) in
     (omega (arith, below, c.decreases), tt)
 
 pub face_functions-match_named-requires : goal.face_functions-match_named-requires
 face_functions-match_named-requires t c =
     let m = c.args.self.now in
     let below : pairs_measure m.rows.now.table (paired_by_name c.opposite-inner.result (named_of c.as_slice-named.result.now) (named_of c.args.other.now.named)) ≤ side_measure m.rows.now.table c.args.side (function_type c.args.formal.now) (function_type c.args.other.now) =
-    rw (c.opposite-inner.ensures, c.as_slice-named.ensures.same) (names_below m.rows.now.table m.rows.now.formed c.args.formal.now c.args.other.now c.args.side) in
+    rw (c.opposite-inner.ensures, c.as_slice-named.ensures.same) (names_below m.rows.now.table c.row_laws.ensures c.args.formal.now c.args.other.now c.args.side) in
     (omega (arith, below, c.decreases), tt)
 
 pub face_functions-match_part-requires : goal.face_functions-match_part-requires
 face_functions-match_part-requires t c =
     let m = c.args.self.now in
-    (omega (arith, result_below m.rows.now.table m.rows.now.formed c.args.formal.now c.args.other.now c.args.side, c.decreases), tt)
+    (omega (arith, result_below m.rows.now.table c.row_laws.ensures c.args.formal.now c.args.other.now c.args.side, c.decreases), tt)
 
 pub face_functions-returns-in_err-match_params : goal.face_functions-returns-in_err-match_params
 face_functions-returns-in_err-match_params t c =
