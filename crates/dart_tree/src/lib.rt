@@ -17,6 +17,7 @@ mod node_places;
 mod numbering;
 mod numbering_names;
 mod numbering_parts;
+mod numbering_statements;
 mod operators;
 mod places;
 mod production;
