@@ -24,11 +24,7 @@ use protocol_rules::{Contents, CurrentFile, empty_text};
 use std::alloc::{AllocError, Global};
 
 /// The client has given these texts from now on, unless they pass a limit.
-fn put_in_place(
-    contents: &Contents,
-    id: PlainText,
-    overlays: Overlays,
-) -> Result<Said, AllocError>
+fn put_in_place(contents: &Contents, id: PlainText, overlays: Overlays) -> Result<Said, AllocError>
     ensures { IfOk result (λ said. turn_of said contents.now ≡ overlays_turn contents.now id overlays) }
 {
     match contents.with_overlays(overlays)? {
@@ -42,11 +38,7 @@ fn put_in_place(
 }
 
 /// The files change, gain or lose their texts, all of them or none.
-fn update(
-    contents: &Contents,
-    id: PlainText,
-    files: &[FileOverlay],
-) -> Result<Said, AllocError>
+fn update(contents: &Contents, id: PlainText, files: &[FileOverlay]) -> Result<Said, AllocError>
     ensures { IfOk result (λ said. turn_of said contents.now ≡ update_turn contents.now id files.now) }
 {
     let mut overlays = contents.overlays().copy()?;
