@@ -151,7 +151,8 @@ fn set_roots<F: Files>(
     included: &[PlainText],
     excluded: &[PlainText],
 ) -> Result<Said, AllocError>
-    ensures turn { IfOk result (IsRead (F.told files.old) (F.faults files.old) (F.faults files.new) contents.now id (with_paths contents.now.roots included.now excluded.now)) }
+    ensures turn { IfOk result (IsRead (F.told files.old) (F.faults files.old) (F.faults files.new) contents.now id
+        (with_paths contents.now.roots included.now excluded.now)) }
     ensures told { F.told files.new ≡ F.told files.old }
     ensures no_less { F.faults files.old ≤ F.faults files.new }
 {
