@@ -48,6 +48,6 @@ all_parse (suc n) =
       unary = λ m. sole_longest (unary_parses n m (below n) (lower n) a);
       section = λ m. sole_longest (section_parses n m (below n) (lower n) a _ _ (parses_sole (expression_sole n m (below n) (lower n) a)));
       simple = sole_longest simple_parses;
-      block = sole_longest (block_parses (below n) (lower n) a);
+      block = sole_longest block_parses;
       statement = statement_sole (below n) (lower n) a;
     }

@@ -1,5 +1,5 @@
 -- No statement, declaration or text that is read is higher than the room that it was read in.
-use Rattle.std.proofs.Common.{ℕ, zero, suc, ◌≤◌, Bool, true, false, List, [], map, Option, Some, None, arith}
+use Rattle.std.proofs.Common.{ℕ, zero, suc, ◌≤◌, Bool, true, false, List, [], length, map, Option, Some, None, arith}
 use Rattle.readings.specs.Readings.{Rule, token, ◌▹◌, maybe, many, longest_of}
 use Rattle.readings.specs.Leading.{Each}
 use Rattle.readings.specs.Lists.{each_map}
@@ -19,12 +19,12 @@ use Rattle.grammar.specs.Declarations.{Signature, getting, setting_of, plain, fu
 use Rattle.grammar.proofs.Depths.{Low, Lows, up, first_node, hi, ls, pt, bt, lo, tok, separated_low, type_parameters_low, parameter_list_low, plain_type_low, type_low, string_low, arguments_low, simple_low, unary_low, operand_low, section_head_low, section_low, expression_low}
 
 -- an error has no height
-error_low : (n : ℕ) (read : List Token) → Low n (error_of read)
+pub error_low : (n : ℕ) (read : List Token) → Low n (error_of read)
 error_low n read = omega arith
 
-block_low : (n : ℕ) (d : Below) → Lows n d → Gives (Low (suc n)) (block_rule d)
+block_low : (n : ℕ) → Gives (Low (suc n)) block_rule
 unfolding block_rule
-block_low n d a = gives_make block_of (λ read x h. up (ls {n = n} x.1 h)) (gives_inside (is kind.OpenBrace) width past (gives_items segment error_of (error_low n) a.statement))
+block_low n = gives_make block_of (λ read x h. up (ls {n = n} x.1 h)) (gives_inside (is kind.OpenBrace) width past (gives_items length error_of (error_low n) (gives_none (Low n))))
 
 -- what stands before the names of variables
 abbrev DeclaredLow : ℕ → Bool × Option Tree → Type 0
@@ -117,7 +117,7 @@ case_low n d a =
     (gives_or
     (gives_turn {R = LabelsLow n} labels_of (λ x h. (h.0.0, h.0.1)) (gives_seq (gives_seq (label_low n d a) (gives_many (label_low n d a))) (gives_any (maybe (token (is kind.Default) ▹ token (is kind.Colon))))))
     (gives_turn {R = LabelsLow n} default_of (λ x h. tt) (gives_any (token (is kind.Default) ▹ token (is kind.Colon))))))
-    (gives_within case_size (gives_items segment error_of (error_low n) a.statement)))
+    (gives_within case_size (gives_items length error_of (error_low n) (gives_none (Low n)))))
 
 switch_low : (n : ℕ) (d : Below) → Lows n d → Gives (Low (suc n)) (switch_rule d)
 unfolding switch_rule cases_rule
@@ -148,7 +148,7 @@ statement_low : (n : ℕ) (d : Below) → Lows n d → Gives (Low (suc n)) (stat
 unfolding statement_rule if_rule while_rule do_rule return_rule break_rule continue_rule rethrow_rule other_statement_rule labeled_rule function_statement_rule variable_statement_rule expression_statement_rule
 statement_low n d a =
     gives_longest
-    (gives_where (heads kind.OpenBrace) (block_low n d a)
+    (gives_where (heads kind.OpenBrace) (block_low n)
     (gives_or
     (gives_make if_of (λ read x h. up (hi {n = n} h.1.0 (hi {n = n} h.1.1.0 (bt {n = n} x.1.1.1 h.1.1.1))))
     (gives_seq (tok (is kind.If)) (gives_seq (condition_low n d a) (gives_seq a.statement (gives_maybe (gives_seq (tok (is kind.Else)) a.statement))))))
@@ -196,7 +196,7 @@ lows (suc n) =
       unary = λ m. gives_longest (unary_low n m (below n) a);
       section = λ m. gives_longest (section_low n m (below n) a _ (expression_low n m (below n) a));
       simple = gives_longest (simple_low n);
-      block = gives_longest (block_low n (below n) a);
+      block = gives_longest (block_low n);
       statement = statement_low n (below n) a;
     }
 

@@ -8,3 +8,4 @@ pub mod Agreement
 pub mod Depths
 pub mod DepthLaws
 pub mod Examples
+pub mod WholeLaws

@@ -1,5 +1,5 @@
 -- The parser's way finds what the rules of statements read.
-use Rattle.std.proofs.Common.{Bool, ◌||◌, Some, refl}
+use Rattle.std.proofs.Common.{Bool, ◌||◌, Some, length, refl}
 use Rattle.readings.specs.Readings.{Test, next, nothing, either, token, ◌▹◌}
 use Rattle.readings.specs.Descent.{take_token, ◌▸◌}
 use Rattle.readings.specs.Leading.{Parses, Sole}
@@ -11,19 +11,20 @@ use Rattle.readings.specs.Groups.{sole_inside}
 use Rattle.readings.specs.Elements.{sole_inside_offered}
 use Rattle.readings.specs.Items.{sole_braced}
 use Rattle.dart_tokens.specs.declared.token.Kind.TheVariants as kind
+use Rattle.dart_tree.specs.Tree.{Tree}
 use Rattle.grammar.specs.declared.token.Token.{Token}
 use Rattle.grammar.specs.declared.level.Setting.TheVariants as setting
 use Rattle.grammar.specs.Tokens.{is, is_name, heads, heads_name, width, past}
 use Rattle.grammar.specs.Types.{Below, inner}
 use Rattle.grammar.specs.Expressions.{heads_closure, begins_expression, heads_label}
-use Rattle.grammar.specs.Statements.{segment, error_of, block_of, block_rule, final_of, var_of, typed_of, declared_rule, variable_of, variable_rule, variables_of, variables_rule, ended, variable_statement_of, variable_statement_rule, arrow_body_of, local_body_rule, plain_function_of, local_rest_rule, local_function_rule, function_statement_of, function_statement_rule, expression_statement_of, expression_statement_rule, return_of, return_rule, break_of, break_rule, continue_of, continue_rule, rethrow_of, rethrow_rule, labeled_of, labeled_rule, condition_rule, if_of, if_rule, while_of, while_rule, do_of, do_rule, each_of, each_rule, start_rule, counted_of, counted_rule, for_of, for_rule, label_of, label_rule, labels_of, default_of, labels_rule, case_of, case_size, case_rule, cases_end_with_default, cases_rule, switch_of, switch_rule, catch_of, catch_rule, on_of, clause_of, clause_rule, has_clause, try_of, try_rule, other_statement_rule, statement_rule}
+use Rattle.grammar.specs.Statements.{error_of, block_of, block_rule, final_of, var_of, typed_of, declared_rule, variable_of, variable_rule, variables_of, variables_rule, ended, variable_statement_of, variable_statement_rule, arrow_body_of, local_body_rule, plain_function_of, local_rest_rule, local_function_rule, function_statement_of, function_statement_rule, expression_statement_of, expression_statement_rule, return_of, return_rule, break_of, break_rule, continue_of, continue_rule, rethrow_of, rethrow_rule, labeled_of, labeled_rule, condition_rule, if_of, if_rule, while_of, while_rule, do_of, do_rule, each_of, each_rule, start_rule, counted_of, counted_rule, for_of, for_rule, label_of, label_rule, labels_of, default_of, labels_rule, case_of, case_size, case_rule, cases_end_with_default, cases_rule, switch_of, switch_rule, catch_of, catch_rule, on_of, clause_of, clause_rule, has_clause, try_of, try_rule, other_statement_rule, statement_rule}
 use Rattle.grammar.specs.Descents.{Lower, take_block, take_declared, take_variable, take_variables, take_variable_statement, take_local_body, take_local_rest, take_local_function, take_function_statement, take_expression_statement, take_return, take_break, take_continue, take_rethrow, take_labeled, take_condition, take_if, take_while, take_do, take_each, take_start, take_counted, take_for, take_label, take_labels, take_case, take_cases, take_switch, take_catch, take_clause, take_try, take_other_statement, take_statement}
 use Rattle.grammar.proofs.KindTests.{far, settled, still}
 use Rattle.grammar.proofs.TypesParse.{AllParse, begins_type, begins_statement, separated_parses, value_parses, offers_type, type_parameters_parses, parameter_list_parses}
 
-pub block_parses : (d : Below) (l : Lower) → AllParse d l → Parses nothing (heads kind.OpenBrace) (block_rule d) (take_block l)
+pub block_parses : Parses nothing (heads kind.OpenBrace) block_rule take_block
 unfolding block_rule take_block
-block_parses d l a = parses_make block_of (parses_sole (sole_braced (is kind.OpenBrace) width past segment error_of (parses_sole a.statement)))
+block_parses = parses_make block_of (parses_sole (sole_braced (is kind.OpenBrace) width past length error_of (parses_none {T = Token} {A = Tree} nothing nothing)))
 
 -- Variables.
 
@@ -205,7 +206,7 @@ case_parses : (d : Below) (l : Lower) → AllParse d l → Parses nothing (eithe
 unfolding case_rule take_case
 case_parses d l a =
     parses_within nothing (either (heads kind.Case) (heads kind.Default)) (λ ts e. e) (λ ts e. e)
-    (parses_make case_of (parses_last (parses_sole (labels_sole d l a)) (offers_within_items case_size segment error_of (parses_sole a.statement)) (still _)))
+    (parses_make case_of (parses_last (parses_sole (labels_sole d l a)) (offers_within_items case_size length error_of (parses_none {T = Token} {A = Tree} nothing nothing)) (still _)))
 
 cases_sole : (d : Below) (l : Lower) → AllParse d l → Sole (heads kind.OpenBrace) (cases_rule d) (take_cases l)
 unfolding cases_rule take_cases
@@ -263,7 +264,7 @@ unfolding statement_rule take_statement
 statement_sole d l a =
     sole_longest
     (settled (heads kind.Else) (next begins_statement)
-    (parses_where (heads kind.OpenBrace) (block_parses d l a)
+    (parses_where (heads kind.OpenBrace) block_parses
     (parses_switch (if_parses d l a)
     (parses_switch (while_parses d l a)
     (parses_switch (do_parses d l a)

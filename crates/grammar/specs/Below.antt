@@ -32,6 +32,6 @@ below (suc n) = record {
   unary = λ m. longest_of (unary_rule n m (below n));
   section = λ m. longest_of (section_rule n m (below n) (expression_rule n m (below n)));
   simple = longest_of simple_rule;
-  block = longest_of (block_rule (below n));
+  block = longest_of block_rule;
   statement = statement_rule (below n);
 }

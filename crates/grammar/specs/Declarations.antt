@@ -19,7 +19,6 @@ use Rattle.grammar.specs.Tokens.{is, is_name, is_type_name, heads, heads_name, f
 use Rattle.grammar.specs.Operators.{table, take_sign}
 use Rattle.grammar.specs.Types.{Below, separated_rule, behind_token, listed_or_none, type_parameters_rule, parameter_list_rule, annotation_rule}
 use Rattle.grammar.specs.Expressions.{arguments_rule, string_rule}
-use Rattle.grammar.specs.Below.{below}
 use Rattle.grammar.specs.Statements.{segment, error_of, local_body_rule, variables_rule}
 
 -- what is read where it is allowed
@@ -417,10 +416,6 @@ directive_rule d = library_rule ∣ import_rule d ∣ export_rule d ∣ prefer (
 unfoldable pub item_rule : (in_core : Bool) → (in_item in_member : Below) → Rule Token Tree
 item_rule in_core d e = longest_of (prefer (directive_rule d) (declaration_rule in_core d e))
 
--- the tree of a text, by what may lie in its items and in their members: its items, with errors among them
+-- the tree of a text, by what may lie in its items and in their members: its items, with errors among them, whose lists of statements aren't read yet
 abbrev pub unit_below : (in_core : Bool) → (in_item in_member : Below) → List Token → Tree
 unit_below in_core d e ts = unit (place_over ts) (trees_of (items_at (length ts) (item_rule in_core d e) segment error_of ts))
-
--- The tree of a text. No node lies deeper than 200: the unit is at depth 0, its items are at 1, and members at 2.
-abbrev pub unit_of : (in_core : Bool) → List Token → Tree
-unit_of in_core ts = unit_below in_core (below 199) (below 198) ts

@@ -1,5 +1,5 @@
 -- The parser's way through the tokens: of each production one reading, or none.
-use Rattle.std.specs.Prelude.{ℕ, zero, suc, Bool, true, false, ◌||◌, List, Option, Some, None}
+use Rattle.std.specs.Prelude.{ℕ, zero, suc, Bool, true, false, ◌||◌, List, length, Option, Some, None}
 use Rattle.readings.specs.Readings.{Test, next}
 use Rattle.readings.specs.Descent.{Descent, take_token, take_given, ◌▸◌, ◌⊘◌, take_make, take_turn, take_maybe, take_many, take_chain, take_once, take_where, take_before, take_only, take_inside, take_within, take_levels, take_elements, take_items}
 use Rattle.dart_tokens.specs.declared.token.Kind.TheVariants as kind
@@ -20,7 +20,7 @@ use Rattle.grammar.specs.Tokens.{is, is_either, is_name, is_type_name, heads, he
 use Rattle.grammar.specs.Types.{separated, inner, type_arguments_of, type_parameter_of, type_parameters_of, void_of, heads_qualified, qualified_of, unqualified_of, named_type_of, annotation_of, heads_required, heads_field, parameter_of, parameter_list_of, parameter_type_of, Tail, tail_of, first_tail_of, next_tail_of, every_time}
 use Rattle.grammar.specs.Operators.{table, heads_sign, is_binary, take_binary, take_assignment, unary_at, postfix_at}
 use Rattle.grammar.specs.Expressions.{heads_nullable, simple_string_of, string_text_of, simple_interpolation_of, interpolated_of, strings_of, heads_label, positional_of, named_of, arguments_of, integer_of, boolean_of, null_of, this_of, super_of, identifier_of, heads_use, generic_of, parenthesis_of, arrow_of, closure_of, heads_closure, new_of, entry_of, listed_of, entries_of, collection_of, Selector, member_of, element_of, check_of, plain_call_of, generic_call_of, behind_call, select_with, one_time, postfix_of, unary_of, Side, operated_of, tested_of, cast_of, choices_of, times, side_with, assign_of, throw_of, cascaded_name_of, cascaded_index_of, cascade_of, section_of}
-use Rattle.grammar.specs.Statements.{segment, error_of, block_of, final_of, var_of, typed_of, variable_of, variables_of, ended, variable_statement_of, arrow_body_of, plain_function_of, function_statement_of, expression_statement_of, return_of, break_of, continue_of, rethrow_of, labeled_of, if_of, while_of, do_of, Header, each_of, counted_of, for_of, label_of, labels_of, default_of, case_of, case_size, cases_end_with_default, switch_of, catch_of, on_of, clause_of, has_clause, try_of}
+use Rattle.grammar.specs.Statements.{error_of, block_of, final_of, var_of, typed_of, variable_of, variables_of, ended, variable_statement_of, arrow_body_of, plain_function_of, function_statement_of, expression_statement_of, return_of, break_of, continue_of, rethrow_of, labeled_of, if_of, while_of, do_of, Header, each_of, counted_of, for_of, label_of, labels_of, default_of, case_of, case_size, cases_end_with_default, switch_of, catch_of, on_of, clause_of, has_clause, try_of}
 
 -- a string begins with this token
 abbrev pub begins_string : Token → Bool
@@ -193,8 +193,12 @@ take_cascade n m l = (take_chain every_time (fits n) cascade_of (take_operand n 
 unfoldable pub take_expression : ℕ → Setting → Lower → Descent Token Tree
 take_expression n m l = take_assignment_expression n m l ⊘ take_where (heads kind.Throw) (take_throw m l) (take_cascade n m l)
 
-unfoldable pub take_block : Lower → Descent Token Tree
-take_block l = take_make block_of (take_inside (is kind.OpenBrace) width past (take_items l.statement segment error_of))
+-- a list of statements that isn't read yet
+abbrev pub take_unread : Descent Token (List Tree)
+take_unread = take_items (λ ts. None) length error_of
+
+unfoldable pub take_block : Descent Token Tree
+take_block = take_make block_of (take_inside (is kind.OpenBrace) width past take_unread)
 
 unfoldable pub take_declared : Lower → Descent Token (Bool × Option Tree)
 take_declared l = take_where (heads kind.Final) (take_turn final_of (take_token (is kind.Final) ▸ take_maybe (take_before heads_name l.named))) (take_where (heads kind.Var) (take_turn var_of (take_token (is kind.Var))) (take_turn typed_of (take_before heads_name l.named)))
@@ -270,7 +274,7 @@ unfoldable pub take_labels : Lower → Descent Token (List Tree × Bool)
 take_labels l = take_where (heads kind.Case) (take_turn labels_of ((take_label l ▸ take_many (take_label l)) ▸ take_maybe (take_token (is kind.Default) ▸ take_token (is kind.Colon)))) (take_turn default_of (take_token (is kind.Default) ▸ take_token (is kind.Colon)))
 
 unfoldable pub take_case : Lower → Descent Token (Tree × Bool)
-take_case l = take_make case_of (take_labels l ▸ take_within case_size (take_items l.statement segment error_of))
+take_case l = take_make case_of (take_labels l ▸ take_within case_size take_unread)
 
 unfoldable pub take_cases : Lower → Descent Token (Token × List (Tree × Bool))
 take_cases l = take_only cases_end_with_default (take_inside (is kind.OpenBrace) width past (take_many (take_case l)))
@@ -291,7 +295,7 @@ unfoldable pub take_other_statement : Lower → Descent Token Tree
 take_other_statement l = take_where heads_label (take_labeled l) (take_function_statement l ⊘ take_variable_statement l ⊘ take_expression_statement l)
 
 unfoldable pub take_statement : Lower → Descent Token Tree
-take_statement l = take_where (heads kind.OpenBrace) (take_block l) (take_where (heads kind.If) (take_if l) (take_where (heads kind.While) (take_while l) (take_where (heads kind.Do) (take_do l) (take_where (heads kind.For) (take_for l) (take_where (heads kind.Switch) (take_switch l) (take_where (heads kind.Try) (take_try l) (take_where (heads kind.Return) (take_return l) (take_where (heads kind.Break) take_break (take_where (heads kind.Continue) take_continue (take_where (heads kind.Rethrow) take_rethrow (take_other_statement l)))))))))))
+take_statement l = take_where (heads kind.OpenBrace) take_block (take_where (heads kind.If) (take_if l) (take_where (heads kind.While) (take_while l) (take_where (heads kind.Do) (take_do l) (take_where (heads kind.For) (take_for l) (take_where (heads kind.Switch) (take_switch l) (take_where (heads kind.Try) (take_try l) (take_where (heads kind.Return) (take_return l) (take_where (heads kind.Break) take_break (take_where (heads kind.Continue) take_continue (take_where (heads kind.Rethrow) take_rethrow (take_other_statement l)))))))))))
 
 unfoldable pub lower : ℕ → Lower
 lower zero = record {
@@ -317,6 +321,6 @@ lower (suc n) = record {
   unary = λ m. take_unary n m (lower n);
   section = λ m. take_section n m (lower n) (take_expression n m (lower n));
   simple = take_simple;
-  block = take_block (lower n);
+  block = take_block;
   statement = take_statement (lower n);
 }

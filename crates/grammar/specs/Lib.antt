@@ -7,4 +7,5 @@ pub mod Below
 pub mod Descents
 pub mod Declarations
 pub mod DeclarationDescents
+pub mod Whole
 pub mod Rows

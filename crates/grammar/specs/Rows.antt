@@ -19,6 +19,7 @@ use Rattle.grammar.specs.declared.level.Setting.TheVariants.{Plain}
 use Rattle.grammar.specs.Tokens.{grammar_tokens, place_at}
 use Rattle.grammar.specs.Below.{below}
 use Rattle.grammar.specs.Declarations.{unit_below}
+use Rattle.grammar.specs.Whole.{whole}
 
 -- tokens of these kinds with these words, from a place on
 abbrev pub texts : ℕ → List (Kind × ℕ) → List TextToken
@@ -43,17 +44,22 @@ row text tree read = record { text = apart 0 text; tree = tree; read = read }
 abbrev pub tokens : Row → List Token
 tokens r = grammar_tokens (texts 0 r.text)
 
+-- the reading with the lists in its tree read
+abbrev pub with_lists_read : Row → Option (Tree × List Token) → Option (Tree × List Token)
+with_lists_read r None = None
+with_lists_read r (Some x) = Some (whole (tokens r) 5 x.0, x.1)
+
 -- the row's text reads as its tree, as an expression
 abbrev pub ReadsExpression : Row → Type 0
-ReadsExpression r = longest ((below 5).expression Plain (tokens r)) ≡ Some (r.tree, drop r.read (tokens r))
+ReadsExpression r = with_lists_read r (longest ((below 5).expression Plain (tokens r))) ≡ Some (r.tree, drop r.read (tokens r))
 
 -- the row's text reads as its tree, as a statement
 abbrev pub ReadsStatement : Row → Type 0
-ReadsStatement r = longest ((below 5).statement (tokens r)) ≡ Some (r.tree, drop r.read (tokens r))
+ReadsStatement r = with_lists_read r (longest ((below 5).statement (tokens r))) ≡ Some (r.tree, drop r.read (tokens r))
 
 -- the row's text reads as its tree, as a whole
 abbrev pub ReadsUnit : Row → Type 0
-ReadsUnit r = unit_below false (below 5) (below 4) (tokens r) ≡ r.tree
+ReadsUnit r = whole (tokens r) 7 (unit_below false (below 5) (below 4) (tokens r)) ≡ r.tree
 
 -- Parts of trees.
 
@@ -183,6 +189,23 @@ block_with_error =
 abbrev open_block : Row
 open_block = row (OpenBrace ∷ Identifier ∷ Semicolon ∷ []) (block (over 0 3) (trees_of (expression_statement (over 1 3) (present (name 1)) ∷ []))) 3
 
+-- `{a-(){b;}-(){else;}c;}`: what derives no statement is an error up to its first block, whose statements aren't read; behind it another begins, and it is one up to the next
+abbrev block_with_closures : Row
+block_with_closures =
+    row
+    (OpenBrace ∷ Identifier ∷ Minus ∷ OpenParenthesis ∷ CloseParenthesis ∷ OpenBrace ∷ Identifier ∷ Semicolon ∷ CloseBrace ∷ Minus ∷ OpenParenthesis ∷ CloseParenthesis ∷ OpenBrace ∷ Else
+    ∷ Semicolon ∷ CloseBrace ∷ Identifier ∷ Semicolon ∷ CloseBrace ∷ [])
+    (block (over 0 19) (trees_of (error_node (over 1 9) ∷ error_node (over 9 16) ∷ expression_statement (over 16 18) (present (name 16)) ∷ []))) 19
+
+-- `{(){else;};}`: the statements of a closure's block, with the error that they have by themselves
+abbrev closure_with_error : Row
+closure_with_error =
+    row (OpenBrace ∷ OpenParenthesis ∷ CloseParenthesis ∷ OpenBrace ∷ Else ∷ Semicolon ∷ CloseBrace ∷ Semicolon ∷ CloseBrace ∷ [])
+    (block (over 0 9)
+    (trees_of
+    (expression_statement (over 1 8)
+    (present (function_expression (over 1 7) (parameter_list (over 1 3) (trees_of [])) (block (over 3 7) (trees_of (error_node (over 4 6) ∷ []))))) ∷ []))) 9
+
 -- `T?a=b;` declares a variable
 abbrev nullable_variable : Row
 nullable_variable =
@@ -203,7 +226,7 @@ function =
 
 -- how statements are read
 abbrev pub statement_rows : List Row
-statement_rows = dangling_else ∷ empty_block ∷ block_with_error ∷ open_block ∷ nullable_variable ∷ conditional_statement ∷ function ∷ []
+statement_rows = dangling_else ∷ empty_block ∷ block_with_error ∷ open_block ∷ block_with_closures ∷ closure_with_error ∷ nullable_variable ∷ conditional_statement ∷ function ∷ []
 
 abbrev no_parameters : ℕ → Tree
 no_parameters start = parameter_list (over start (suc (suc start))) (trees_of [])
@@ -294,6 +317,10 @@ short_closure = OpenParenthesis ∷ CloseParenthesis ∷ Arrow ∷ Identifier �
 abbrev block_closure : List Kind
 block_closure = OpenParenthesis ∷ CloseParenthesis ∷ OpenBrace ∷ Identifier ∷ Semicolon ∷ CloseBrace ∷ []
 
+-- `(){a;}-b`
+abbrev block_closure_less : List Kind
+block_closure_less = OpenParenthesis ∷ CloseParenthesis ∷ OpenBrace ∷ Identifier ∷ Semicolon ∷ CloseBrace ∷ Minus ∷ Identifier ∷ []
+
 -- `a..b`
 abbrev one_section : List Kind
 one_section = Identifier ∷ PeriodPeriod ∷ Identifier ∷ []
@@ -302,10 +329,10 @@ one_section = Identifier ∷ PeriodPeriod ∷ Identifier ∷ []
 abbrev two_members : List Kind
 two_members = Identifier ∷ Period ∷ Identifier ∷ Period ∷ Identifier ∷ []
 
--- How far expressions are read. An operator, a selector or a section deepens what stands on its left, so a repeat stops where it has no room; `=>` adds no node; and a block is read wherever it has room itself, since what is too deep in it is an error.
+-- How far expressions are read. An operator, a selector or a section deepens what stands on its left, so a repeat stops where it has no room; `=>` adds no node; and a block is read wherever it has room itself, whatever stands in it, since what is too deep in it is an error.
 abbrev pub room_rows : List RoomRow
 room_rows =
     within 0 two_differences None ∷ within 1 two_differences (Some 1) ∷ within 2 two_differences (Some 3) ∷ within 3 two_differences (Some 5)
     ∷ within 1 one_parenthesis None ∷ within 2 one_parenthesis (Some 3) ∷ within 1 short_closure None ∷ within 2 short_closure (Some 4)
-    ∷ within 1 block_closure None ∷ within 2 block_closure (Some 6) ∷ within 1 one_section (Some 1) ∷ within 2 one_section (Some 3)
+    ∷ within 1 block_closure None ∷ within 2 block_closure (Some 6) ∷ within 2 block_closure_less (Some 6) ∷ within 3 block_closure_less (Some 8) ∷ within 1 one_section (Some 1) ∷ within 2 one_section (Some 3)
     ∷ within 2 two_members (Some 3) ∷ within 3 two_members (Some 5) ∷ []

@@ -24,14 +24,20 @@ segment ts = segment_at (length ts) ts - 1
 abbrev pub error_of : List Token → Tree
 error_of read = error_node (place_over read)
 
+-- Lists of statements. They are read when the item that holds them stands, each by itself: what a list holds decides nothing of what holds it.
+
+-- a list of statements that isn't read yet: one error over its tokens, if there are any
+abbrev pub unread : Rule Token (List Tree)
+unread = items (λ ts. []) length error_of
+
 -- Blocks.
 
 abbrev pub block_of : List Token → Token × List Tree → Tree
 block_of read (opening, statements) = block (place_over read) (trees_of statements)
 
--- block: '{' statement* '}', with errors among the statements
-unfoldable pub block_rule : Below → Rule Token Tree
-block_rule d = make block_of (inside (is kind.OpenBrace) width past (items d.statement segment error_of))
+-- block: '{' statement* '}', whose statements aren't read yet
+unfoldable pub block_rule : Rule Token Tree
+block_rule = make block_of (inside (is kind.OpenBrace) width past unread)
 
 -- Variables.
 
@@ -257,9 +263,9 @@ labels_rule d =
 abbrev pub case_of : List Token → (List Tree × Bool) × List Tree → Tree × Bool
 case_of read ((values, fallback), statements) = (switch_case (place_over read) (trees_of values) fallback (trees_of statements), fallback)
 
--- case: labels statement*, with errors among the statements
+-- case: labels statement*, whose statements aren't read yet
 unfoldable pub case_rule : Below → Rule Token (Tree × Bool)
-case_rule d = make case_of (labels_rule d ▹ within case_size (items d.statement segment error_of))
+case_rule d = make case_of (labels_rule d ▹ within case_size unread)
 
 -- no case but the last is the default
 abbrev pub ends_with_default : List (Tree × Bool) → Bool
@@ -334,5 +340,5 @@ other_statement_rule d =
 unfoldable pub statement_rule : Below → Rule Token Tree
 statement_rule d =
     longest_of
-    (where_next (heads kind.OpenBrace) (block_rule d)
+    (where_next (heads kind.OpenBrace) (block_rule)
     (if_rule d ∣ while_rule d ∣ do_rule d ∣ for_rule d ∣ switch_rule d ∣ try_rule d ∣ return_rule d ∣ break_rule ∣ continue_rule ∣ rethrow_rule ∣ other_statement_rule d))

@@ -16,7 +16,8 @@ mod level;
 mod token;
 
 pub use laws::{
-    parser_laws, readings_are_single, small_texts_are_read, trees_fit_their_room, unit_laws,
+    list_laws, parser_laws, readings_are_single, small_texts_are_read, trees_fit_their_room,
+    unit_laws,
 };
 pub use level::{Level, Setting, Sign};
 pub use token::Token;

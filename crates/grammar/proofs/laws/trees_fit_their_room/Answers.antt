@@ -1,5 +1,5 @@
-use Rattle.grammar.specs.Below.{below}
-use Rattle.grammar.proofs.DepthLaws.{lows, unit_low}
+use Rattle.grammar.proofs.DepthLaws.{lows}
+use Rattle.grammar.proofs.WholeLaws.{lists_low, whole_low, whole_unit_low}
 use Rattle.grammar.proofs.laws.trees_fit_their_room.Goals as goal
 
 pub returns : goal.returns
@@ -10,5 +10,7 @@ returns c = record {
   section = λ room setting tokens. ((lows room).section setting).each tokens;
   block = λ room tokens. (lows room).block.each tokens;
   statement = λ room tokens. (lows room).statement.each tokens;
-  unit = λ in_core tokens. unit_low 198 in_core (below 199) (below 198) (lows 199) (lows 198) tokens;
+  lists = lists_low;
+  whole = whole_low;
+  unit = whole_unit_low;
 }

@@ -1,0 +1,7 @@
+pub mod Answers
+pub mod Groups
+pub mod Loops
+pub mod Parts
+pub mod Places
+pub mod Sizes
+pub mod Ways

@@ -1,0 +1,214 @@
+-- A tree stands where it did when its lists are read, and is the same where they are.
+use Rattle.std.specs.Prelude.{◌≡◌, ℕ, ◌-◌, refl}
+use Rattle.dart_tree.specs.Tree.{Tree, Trees, Part, no_more, more, absent, present, void_type, named_type, function_type, type_argument_list, type_parameter, parameter_type, integer_literal, string_literal, boolean_literal, null_literal, this_expression, super_expression, identifier, parenthesis, new_expression, list_literal, set_or_map_literal, function_expression, generic_identifier, property_access, index_expression, null_check, call, unary_expression, postfix_expression, binary_expression, type_test, type_cast, conditional, assignment, throw_expression, cascade, cascaded_name, cascaded_index, simple_string, interpolated_string, string_text, string_interpolation, map_entry, argument_list, argument, annotation, parameter_list, parameter, expression_body, empty_body, native_body, getter, setter, plain_function, variable_list, variable, block, variable_statement, function_statement, expression_statement, if_statement, while_statement, do_statement, for_statement, for_in_statement, for_in_assignment, switch_statement, switch_case, try_statement, catch_clause, return_statement, break_statement, continue_statement, rethrow_statement, labeled_statement, constructor_declaration, factory_declaration, method_declaration, field_declaration, operator_declaration, field_initializer, super_initializer, redirection, class_declaration, mixin_declaration, type_alias, function_declaration, variable_declaration, library_directive, import_directive, export_directive, part_directive, part_of_directive, part_of_library_directive, show_combinator, hide_combinator, listed_name, error_node, unit}
+use Rattle.dart_tree.specs.Places.{place_of}
+use Rattle.dart_tree.specs.declared.places.Place.{Place}
+use Rattle.unread_lists.specs.WithLists.{with_lists, all_with_lists, part_with_lists}
+use Rattle.unread_lists.specs.EachList.{IsKept, each_list, each_list_of_all, each_list_of_part}
+
+-- a tree stands where it did
+pub place_of-with_lists : (lists : ℕ → Place → Trees) (n : ℕ) (t : Tree) → place_of (with_lists lists n t) ≡ place_of t
+place_of-with_lists lists n (void_type at) = refl
+place_of-with_lists lists n (named_type at prefix name arguments nullable) = refl
+place_of-with_lists lists n (function_type at result type_parameters parameters optional nullable) = refl
+place_of-with_lists lists n (type_argument_list at types) = refl
+place_of-with_lists lists n (type_parameter at name bound) = refl
+place_of-with_lists lists n (parameter_type at written name) = refl
+place_of-with_lists lists n (integer_literal at word) = refl
+place_of-with_lists lists n (string_literal at strings) = refl
+place_of-with_lists lists n (boolean_literal at value) = refl
+place_of-with_lists lists n (null_literal at) = refl
+place_of-with_lists lists n (this_expression at) = refl
+place_of-with_lists lists n (super_expression at) = refl
+place_of-with_lists lists n (identifier at word) = refl
+place_of-with_lists lists n (parenthesis at inner) = refl
+place_of-with_lists lists n (new_expression at written name arguments) = refl
+place_of-with_lists lists n (list_literal at type_arguments elements) = refl
+place_of-with_lists lists n (set_or_map_literal at type_arguments entries) = refl
+place_of-with_lists lists n (function_expression at parameters body) = refl
+place_of-with_lists lists n (generic_identifier at name type_arguments) = refl
+place_of-with_lists lists n (property_access at receiver null_aware name) = refl
+place_of-with_lists lists n (index_expression at receiver null_aware bracket index) = refl
+place_of-with_lists lists n (null_check at operand) = refl
+place_of-with_lists lists n (call at callee type_arguments arguments) = refl
+place_of-with_lists lists n (unary_expression at operator operand) = refl
+place_of-with_lists lists n (postfix_expression at operator operand) = refl
+place_of-with_lists lists n (binary_expression at operator left right) = refl
+place_of-with_lists lists n (type_test at operand negated written) = refl
+place_of-with_lists lists n (type_cast at operand written) = refl
+place_of-with_lists lists n (conditional at condition then_value else_value) = refl
+place_of-with_lists lists n (assignment at operator target value) = refl
+place_of-with_lists lists n (throw_expression at value) = refl
+place_of-with_lists lists n (cascade at receiver null_aware section) = refl
+place_of-with_lists lists n (cascaded_name at name) = refl
+place_of-with_lists lists n (cascaded_index at bracket index) = refl
+place_of-with_lists lists n (simple_string at kind word) = refl
+place_of-with_lists lists n (interpolated_string at elements) = refl
+place_of-with_lists lists n (string_text at kind word) = refl
+place_of-with_lists lists n (string_interpolation at value) = refl
+place_of-with_lists lists n (map_entry at key value) = refl
+place_of-with_lists lists n (argument_list at arguments) = refl
+place_of-with_lists lists n (argument at name value) = refl
+place_of-with_lists lists n (annotation at name) = refl
+place_of-with_lists lists n (parameter_list at parameters) = refl
+place_of-with_lists lists n (parameter at metadata kind is_required is_final written is_field name default_value) = refl
+place_of-with_lists lists n (expression_body at value) = refl
+place_of-with_lists lists n (empty_body at) = refl
+place_of-with_lists lists n (native_body at) = refl
+place_of-with_lists lists n (getter at result name body) = refl
+place_of-with_lists lists n (setter at result name parameters body) = refl
+place_of-with_lists lists n (plain_function at result name type_parameters parameters body) = refl
+place_of-with_lists lists n (variable_list at is_final written variables) = refl
+place_of-with_lists lists n (variable at name initializer) = refl
+place_of-with_lists lists n (block at statements) = refl
+place_of-with_lists lists n (variable_statement at variables) = refl
+place_of-with_lists lists n (function_statement at function) = refl
+place_of-with_lists lists n (expression_statement at value) = refl
+place_of-with_lists lists n (if_statement at condition then_branch else_branch) = refl
+place_of-with_lists lists n (while_statement at condition body) = refl
+place_of-with_lists lists n (do_statement at body condition) = refl
+place_of-with_lists lists n (for_statement at initializer condition updates body) = refl
+place_of-with_lists lists n (for_in_statement at is_final written name iterable body) = refl
+place_of-with_lists lists n (for_in_assignment at name iterable body) = refl
+place_of-with_lists lists n (switch_statement at value cases) = refl
+place_of-with_lists lists n (switch_case at labels is_default statements) = refl
+place_of-with_lists lists n (try_statement at body handlers finally_block) = refl
+place_of-with_lists lists n (catch_clause at written exception stack_trace body) = refl
+place_of-with_lists lists n (return_statement at value) = refl
+place_of-with_lists lists n (break_statement at label) = refl
+place_of-with_lists lists n (continue_statement at label) = refl
+place_of-with_lists lists n (rethrow_statement at) = refl
+place_of-with_lists lists n (labeled_statement at label body) = refl
+place_of-with_lists lists n (constructor_declaration at metadata name parameters initializers body) = refl
+place_of-with_lists lists n (factory_declaration at metadata name parameters body) = refl
+place_of-with_lists lists n (method_declaration at metadata is_static function) = refl
+place_of-with_lists lists n (field_declaration at metadata is_static variables) = refl
+place_of-with_lists lists n (operator_declaration at metadata result name parameters body) = refl
+place_of-with_lists lists n (field_initializer at name value) = refl
+place_of-with_lists lists n (super_initializer at name arguments) = refl
+place_of-with_lists lists n (redirection at name arguments) = refl
+place_of-with_lists lists n (class_declaration at metadata is_abstract name type_parameters superclass mixins interfaces members) = refl
+place_of-with_lists lists n (mixin_declaration at metadata name type_parameters constraints interfaces members) = refl
+place_of-with_lists lists n (type_alias at metadata name written) = refl
+place_of-with_lists lists n (function_declaration at metadata function) = refl
+place_of-with_lists lists n (variable_declaration at metadata variables) = refl
+place_of-with_lists lists n (library_directive at names) = refl
+place_of-with_lists lists n (import_directive at uri prefix combinators) = refl
+place_of-with_lists lists n (export_directive at uri combinators) = refl
+place_of-with_lists lists n (part_directive at uri) = refl
+place_of-with_lists lists n (part_of_directive at uri) = refl
+place_of-with_lists lists n (part_of_library_directive at names) = refl
+place_of-with_lists lists n (show_combinator at names) = refl
+place_of-with_lists lists n (hide_combinator at names) = refl
+place_of-with_lists lists n (listed_name at word) = refl
+place_of-with_lists lists n (error_node at) = refl
+place_of-with_lists lists n (unit at items) = refl
+
+mutual
+  -- a tree whose lists stay as they are does so too
+  pub with_lists-kept : (lists : ℕ → Place → Trees) (n : ℕ) (t : Tree) → each_list (IsKept lists) t → with_lists lists n t ≡ t
+  with_lists-kept lists n (void_type at) h = refl
+  with_lists-kept lists n (named_type at prefix name arguments nullable) h = rw (part_with_lists-kept lists (n - 1) arguments h) refl
+  with_lists-kept lists n (function_type at result type_parameters parameters optional nullable) h = rw (part_with_lists-kept lists (n - 1) result h.0, all_with_lists-kept lists (n - 1) type_parameters h.1, all_with_lists-kept lists (n - 1) parameters h.2, all_with_lists-kept lists (n - 1) optional h.3) refl
+  with_lists-kept lists n (type_argument_list at types) h = rw (all_with_lists-kept lists n types h) refl
+  with_lists-kept lists n (type_parameter at name bound) h = rw (part_with_lists-kept lists n bound h) refl
+  with_lists-kept lists n (parameter_type at written name) h = rw (with_lists-kept lists n written h) refl
+  with_lists-kept lists n (integer_literal at word) h = refl
+  with_lists-kept lists n (string_literal at strings) h = rw (all_with_lists-kept lists (n - 1) strings h) refl
+  with_lists-kept lists n (boolean_literal at value) h = refl
+  with_lists-kept lists n (null_literal at) h = refl
+  with_lists-kept lists n (this_expression at) h = refl
+  with_lists-kept lists n (super_expression at) h = refl
+  with_lists-kept lists n (identifier at word) h = refl
+  with_lists-kept lists n (parenthesis at inner) h = rw (with_lists-kept lists (n - 1) inner h) refl
+  with_lists-kept lists n (new_expression at written name arguments) h = rw (with_lists-kept lists (n - 1) written h.0, with_lists-kept lists (n - 1) arguments h.1) refl
+  with_lists-kept lists n (list_literal at type_arguments elements) h = rw (part_with_lists-kept lists (n - 1) type_arguments h.0, all_with_lists-kept lists (n - 1) elements h.1) refl
+  with_lists-kept lists n (set_or_map_literal at type_arguments entries) h = rw (part_with_lists-kept lists (n - 1) type_arguments h.0, all_with_lists-kept lists (n - 1) entries h.1) refl
+  with_lists-kept lists n (function_expression at parameters body) h = rw (with_lists-kept lists (n - 1) parameters h.0, with_lists-kept lists (n - 1) body h.1) refl
+  with_lists-kept lists n (generic_identifier at name type_arguments) h = rw (with_lists-kept lists (n - 1) type_arguments h) refl
+  with_lists-kept lists n (property_access at receiver null_aware name) h = rw (with_lists-kept lists (n - 1) receiver h) refl
+  with_lists-kept lists n (index_expression at receiver null_aware bracket index) h = rw (with_lists-kept lists (n - 1) receiver h.0, with_lists-kept lists (n - 1) index h.1) refl
+  with_lists-kept lists n (null_check at operand) h = rw (with_lists-kept lists (n - 1) operand h) refl
+  with_lists-kept lists n (call at callee type_arguments arguments) h = rw (with_lists-kept lists (n - 1) callee h.0, part_with_lists-kept lists (n - 1) type_arguments h.1, with_lists-kept lists (n - 1) arguments h.2) refl
+  with_lists-kept lists n (unary_expression at operator operand) h = rw (with_lists-kept lists (n - 1) operand h) refl
+  with_lists-kept lists n (postfix_expression at operator operand) h = rw (with_lists-kept lists (n - 1) operand h) refl
+  with_lists-kept lists n (binary_expression at operator left right) h = rw (with_lists-kept lists (n - 1) left h.0, with_lists-kept lists (n - 1) right h.1) refl
+  with_lists-kept lists n (type_test at operand negated written) h = rw (with_lists-kept lists (n - 1) operand h.0, with_lists-kept lists (n - 1) written h.1) refl
+  with_lists-kept lists n (type_cast at operand written) h = rw (with_lists-kept lists (n - 1) operand h.0, with_lists-kept lists (n - 1) written h.1) refl
+  with_lists-kept lists n (conditional at condition then_value else_value) h = rw (with_lists-kept lists (n - 1) condition h.0, with_lists-kept lists (n - 1) then_value h.1, with_lists-kept lists (n - 1) else_value h.2) refl
+  with_lists-kept lists n (assignment at operator target value) h = rw (with_lists-kept lists (n - 1) target h.0, with_lists-kept lists (n - 1) value h.1) refl
+  with_lists-kept lists n (throw_expression at value) h = rw (with_lists-kept lists (n - 1) value h) refl
+  with_lists-kept lists n (cascade at receiver null_aware section) h = rw (with_lists-kept lists (n - 1) receiver h.0, with_lists-kept lists (n - 1) section h.1) refl
+  with_lists-kept lists n (cascaded_name at name) h = refl
+  with_lists-kept lists n (cascaded_index at bracket index) h = rw (with_lists-kept lists n index h) refl
+  with_lists-kept lists n (simple_string at kind word) h = refl
+  with_lists-kept lists n (interpolated_string at elements) h = rw (all_with_lists-kept lists n elements h) refl
+  with_lists-kept lists n (string_text at kind word) h = refl
+  with_lists-kept lists n (string_interpolation at value) h = rw (with_lists-kept lists n value h) refl
+  with_lists-kept lists n (map_entry at key value) h = rw (with_lists-kept lists n key h.0, part_with_lists-kept lists n value h.1) refl
+  with_lists-kept lists n (argument_list at arguments) h = rw (all_with_lists-kept lists n arguments h) refl
+  with_lists-kept lists n (argument at name value) h = rw (with_lists-kept lists n value h) refl
+  with_lists-kept lists n (annotation at name) h = refl
+  with_lists-kept lists n (parameter_list at parameters) h = rw (all_with_lists-kept lists n parameters h) refl
+  with_lists-kept lists n (parameter at metadata kind is_required is_final written is_field name default_value) h = rw (part_with_lists-kept lists n written h.0, part_with_lists-kept lists n default_value h.1) refl
+  with_lists-kept lists n (expression_body at value) h = rw (with_lists-kept lists n value h) refl
+  with_lists-kept lists n (empty_body at) h = refl
+  with_lists-kept lists n (native_body at) h = refl
+  with_lists-kept lists n (getter at result name body) h = rw (part_with_lists-kept lists n result h.0, with_lists-kept lists n body h.1) refl
+  with_lists-kept lists n (setter at result name parameters body) h = rw (part_with_lists-kept lists n result h.0, with_lists-kept lists n parameters h.1, with_lists-kept lists n body h.2) refl
+  with_lists-kept lists n (plain_function at result name type_parameters parameters body) h = rw (part_with_lists-kept lists n result h.0, all_with_lists-kept lists n type_parameters h.1, with_lists-kept lists n parameters h.2, with_lists-kept lists n body h.3) refl
+  with_lists-kept lists n (variable_list at is_final written variables) h = rw (part_with_lists-kept lists n written h.0, all_with_lists-kept lists n variables h.1) refl
+  with_lists-kept lists n (variable at name initializer) h = rw (part_with_lists-kept lists n initializer h) refl
+  with_lists-kept lists n (block at statements) h = rw (h (n - 1)) refl
+  with_lists-kept lists n (variable_statement at variables) h = rw (with_lists-kept lists (n - 1) variables h) refl
+  with_lists-kept lists n (function_statement at function) h = rw (with_lists-kept lists (n - 1) function h) refl
+  with_lists-kept lists n (expression_statement at value) h = rw (part_with_lists-kept lists (n - 1) value h) refl
+  with_lists-kept lists n (if_statement at condition then_branch else_branch) h = rw (with_lists-kept lists (n - 1) condition h.0, with_lists-kept lists (n - 1) then_branch h.1, part_with_lists-kept lists (n - 1) else_branch h.2) refl
+  with_lists-kept lists n (while_statement at condition body) h = rw (with_lists-kept lists (n - 1) condition h.0, with_lists-kept lists (n - 1) body h.1) refl
+  with_lists-kept lists n (do_statement at body condition) h = rw (with_lists-kept lists (n - 1) body h.0, with_lists-kept lists (n - 1) condition h.1) refl
+  with_lists-kept lists n (for_statement at initializer condition updates body) h = rw (part_with_lists-kept lists (n - 1) initializer h.0, part_with_lists-kept lists (n - 1) condition h.1, all_with_lists-kept lists (n - 1) updates h.2, with_lists-kept lists (n - 1) body h.3) refl
+  with_lists-kept lists n (for_in_statement at is_final written name iterable body) h = rw (part_with_lists-kept lists (n - 1) written h.0, with_lists-kept lists (n - 1) iterable h.1, with_lists-kept lists (n - 1) body h.2) refl
+  with_lists-kept lists n (for_in_assignment at name iterable body) h = rw (with_lists-kept lists (n - 1) iterable h.0, with_lists-kept lists (n - 1) body h.1) refl
+  with_lists-kept lists n (switch_statement at value cases) h = rw (with_lists-kept lists (n - 1) value h.0, all_with_lists-kept lists (n - 1) cases h.1) refl
+  with_lists-kept lists n (switch_case at labels is_default statements) h = rw (all_with_lists-kept lists n labels h.0, h.1 n) refl
+  with_lists-kept lists n (try_statement at body handlers finally_block) h = rw (with_lists-kept lists (n - 1) body h.0, all_with_lists-kept lists (n - 1) handlers h.1, part_with_lists-kept lists (n - 1) finally_block h.2) refl
+  with_lists-kept lists n (catch_clause at written exception stack_trace body) h = rw (part_with_lists-kept lists n written h.0, with_lists-kept lists n body h.1) refl
+  with_lists-kept lists n (return_statement at value) h = rw (part_with_lists-kept lists (n - 1) value h) refl
+  with_lists-kept lists n (break_statement at label) h = refl
+  with_lists-kept lists n (continue_statement at label) h = refl
+  with_lists-kept lists n (rethrow_statement at) h = refl
+  with_lists-kept lists n (labeled_statement at label body) h = rw (with_lists-kept lists (n - 1) body h) refl
+  with_lists-kept lists n (constructor_declaration at metadata name parameters initializers body) h = rw (with_lists-kept lists (n - 1) parameters h.0, all_with_lists-kept lists (n - 1) initializers h.1, with_lists-kept lists (n - 1) body h.2) refl
+  with_lists-kept lists n (factory_declaration at metadata name parameters body) h = rw (with_lists-kept lists (n - 1) parameters h.0, with_lists-kept lists (n - 1) body h.1) refl
+  with_lists-kept lists n (method_declaration at metadata is_static function) h = rw (with_lists-kept lists (n - 1) function h) refl
+  with_lists-kept lists n (field_declaration at metadata is_static variables) h = rw (with_lists-kept lists (n - 1) variables h) refl
+  with_lists-kept lists n (operator_declaration at metadata result name parameters body) h = rw (part_with_lists-kept lists (n - 1) result h.0, with_lists-kept lists (n - 1) parameters h.1, with_lists-kept lists (n - 1) body h.2) refl
+  with_lists-kept lists n (field_initializer at name value) h = rw (with_lists-kept lists n value h) refl
+  with_lists-kept lists n (super_initializer at name arguments) h = rw (with_lists-kept lists n arguments h) refl
+  with_lists-kept lists n (redirection at name arguments) h = rw (with_lists-kept lists n arguments h) refl
+  with_lists-kept lists n (class_declaration at metadata is_abstract name type_parameters superclass mixins interfaces members) h = rw (all_with_lists-kept lists (n - 1) type_parameters h.0, part_with_lists-kept lists (n - 1) superclass h.1, all_with_lists-kept lists (n - 1) mixins h.2, all_with_lists-kept lists (n - 1) interfaces h.3, all_with_lists-kept lists (n - 1) members h.4) refl
+  with_lists-kept lists n (mixin_declaration at metadata name type_parameters constraints interfaces members) h = rw (all_with_lists-kept lists (n - 1) type_parameters h.0, all_with_lists-kept lists (n - 1) constraints h.1, all_with_lists-kept lists (n - 1) interfaces h.2, all_with_lists-kept lists (n - 1) members h.3) refl
+  with_lists-kept lists n (type_alias at metadata name written) h = rw (with_lists-kept lists (n - 1) written h) refl
+  with_lists-kept lists n (function_declaration at metadata function) h = rw (with_lists-kept lists (n - 1) function h) refl
+  with_lists-kept lists n (variable_declaration at metadata variables) h = rw (with_lists-kept lists (n - 1) variables h) refl
+  with_lists-kept lists n (library_directive at names) h = refl
+  with_lists-kept lists n (import_directive at uri prefix combinators) h = rw (with_lists-kept lists (n - 1) uri h) refl
+  with_lists-kept lists n (export_directive at uri combinators) h = rw (with_lists-kept lists (n - 1) uri h) refl
+  with_lists-kept lists n (part_directive at uri) h = rw (with_lists-kept lists (n - 1) uri h) refl
+  with_lists-kept lists n (part_of_directive at uri) h = rw (with_lists-kept lists (n - 1) uri h) refl
+  with_lists-kept lists n (part_of_library_directive at names) h = refl
+  with_lists-kept lists n (show_combinator at names) h = refl
+  with_lists-kept lists n (hide_combinator at names) h = refl
+  with_lists-kept lists n (listed_name at word) h = refl
+  with_lists-kept lists n (error_node at) h = refl
+  with_lists-kept lists n (unit at items) h = rw (all_with_lists-kept lists (n - 1) items h) refl
+
+  -- so does a list of trees
+  pub all_with_lists-kept : (lists : ℕ → Place → Trees) (n : ℕ) (ts : Trees) → each_list_of_all (IsKept lists) ts → all_with_lists lists n ts ≡ ts
+  all_with_lists-kept lists n no_more h = refl
+  all_with_lists-kept lists n (more first rest) h = rw (with_lists-kept lists n first h.0, all_with_lists-kept lists n rest h.1) refl
+
+  -- and a part
+  pub part_with_lists-kept : (lists : ℕ → Place → Trees) (n : ℕ) (p : Part) → each_list_of_part (IsKept lists) p → part_with_lists lists n p ≡ p
+  part_with_lists-kept lists n absent h = refl
+  part_with_lists-kept lists n (present tree) h = rw (with_lists-kept lists n tree h) refl

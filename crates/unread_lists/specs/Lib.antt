@@ -1,0 +1,4 @@
+pub mod WithLists
+pub mod EachList
+pub mod KeptLaws
+pub mod HeightLaws
