@@ -10,10 +10,17 @@ use std::marker::Model;
 
 /// An expression.
 #[cycle(tree)]
-#[derive(Drop)]
 pub struct Expr {
     /// Its form, with its parts.
     pub node: ExprNode,
+}
+
+impl Drop for Expr {
+    #[cycle(release)]
+    fn drop(self) {
+        let Expr { node } = self;
+        drop(node);
+    }
 }
 
 /// The forms of an expression.
@@ -188,10 +195,17 @@ pub enum ExprNode {
 
 /// One string of a string literal.
 #[cycle(tree)]
-#[derive(Drop)]
 pub struct StringLiteral {
     /// Its form, with its parts.
     pub node: StringLiteralNode,
+}
+
+impl Drop for StringLiteral {
+    #[cycle(release)]
+    fn drop(self) {
+        let StringLiteral { node } = self;
+        drop(node);
+    }
 }
 
 /// The forms of a string.
@@ -213,10 +227,17 @@ pub enum StringLiteralNode {
 
 /// A part of a string with interpolations.
 #[cycle(tree)]
-#[derive(Drop)]
 pub struct StringElement {
     /// Its form, with its parts.
     pub node: StringElementNode,
+}
+
+impl Drop for StringElement {
+    #[cycle(release)]
+    fn drop(self) {
+        let StringElement { node } = self;
+        drop(node);
+    }
 }
 
 /// The forms of a part of a string.
@@ -231,7 +252,6 @@ pub enum StringElementNode {
 
 /// An entry of a map or set literal.
 #[cycle(tree)]
-#[derive(Drop)]
 pub struct MapEntry {
     /// Its number and its range of text.
     pub at: Place,
@@ -241,9 +261,19 @@ pub struct MapEntry {
     pub value: Option<Expr>,
 }
 
+impl Drop for MapEntry {
+    #[cycle(release)]
+    fn drop(self) {
+        let MapEntry {
+            at: _,
+            key: _,
+            value: _,
+        } = self;
+    }
+}
+
 /// Arguments with their parentheses.
 #[cycle(tree)]
-#[derive(Drop)]
 pub struct ArgumentList {
     /// Its number and its range of text.
     pub at: Place,
@@ -251,9 +281,18 @@ pub struct ArgumentList {
     pub arguments: Vec<Argument>,
 }
 
+impl Drop for ArgumentList {
+    #[cycle(release)]
+    fn drop(self) {
+        let ArgumentList {
+            at: _,
+            arguments: _,
+        } = self;
+    }
+}
+
 /// An argument.
 #[cycle(tree)]
-#[derive(Drop)]
 pub struct Argument {
     /// Its number and its range of text.
     pub at: Place,
@@ -261,6 +300,17 @@ pub struct Argument {
     pub name: Option<Identifier>,
     /// What is handed over.
     pub value: Expr,
+}
+
+impl Drop for Argument {
+    #[cycle(release)]
+    fn drop(self) {
+        let Argument {
+            at: _,
+            name: _,
+            value: _,
+        } = self;
+    }
 }
 
 impl Model for Expr {

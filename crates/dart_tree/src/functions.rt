@@ -9,7 +9,6 @@ use std::marker::Model;
 
 /// Parameters with their parentheses.
 #[cycle(tree)]
-#[derive(Drop)]
 pub struct ParameterList {
     /// Its number and its range of text.
     pub at: Place,
@@ -17,9 +16,18 @@ pub struct ParameterList {
     pub parameters: Vec<Parameter>,
 }
 
+impl Drop for ParameterList {
+    #[cycle(release)]
+    fn drop(self) {
+        let ParameterList {
+            at: _,
+            parameters: _,
+        } = self;
+    }
+}
+
 /// A parameter of a function, or an optional one of a function type.
 #[cycle(tree)]
-#[derive(Drop)]
 pub struct Parameter {
     /// Its number and its range of text.
     pub at: Place,
@@ -41,12 +49,36 @@ pub struct Parameter {
     pub default_value: Option<Expr>,
 }
 
+impl Drop for Parameter {
+    #[cycle(release)]
+    fn drop(self) {
+        let Parameter {
+            at: _,
+            metadata: _,
+            kind: _,
+            is_required: _,
+            is_final: _,
+            written: _,
+            is_field: _,
+            name: _,
+            default_value: _,
+        } = self;
+    }
+}
+
 /// What a function runs.
 #[cycle(tree)]
-#[derive(Drop)]
 pub struct Body {
     /// Its form, with its parts.
     pub node: BodyNode,
+}
+
+impl Drop for Body {
+    #[cycle(release)]
+    fn drop(self) {
+        let Body { node } = self;
+        drop(node);
+    }
 }
 
 /// The forms of a body.
@@ -65,10 +97,17 @@ pub enum BodyNode {
 
 /// A function with its name, in a library, a class or among statements.
 #[cycle(tree)]
-#[derive(Drop)]
 pub struct Function {
     /// Its form, with its parts.
     pub node: FunctionNode,
+}
+
+impl Drop for Function {
+    #[cycle(release)]
+    fn drop(self) {
+        let Function { node } = self;
+        drop(node);
+    }
 }
 
 /// The forms of a function.
@@ -103,7 +142,6 @@ pub enum FunctionNode {
 
 /// Variables that are declared together, without the semicolon.
 #[cycle(tree)]
-#[derive(Drop)]
 pub struct VariableList {
     /// Its number and its range of text.
     pub at: Place,
@@ -115,9 +153,20 @@ pub struct VariableList {
     pub variables: Vec<Variable>,
 }
 
+impl Drop for VariableList {
+    #[cycle(release)]
+    fn drop(self) {
+        let VariableList {
+            at: _,
+            is_final: _,
+            written: _,
+            variables: _,
+        } = self;
+    }
+}
+
 /// A variable of a declaration.
 #[cycle(tree)]
-#[derive(Drop)]
 pub struct Variable {
     /// Its number and its range of text.
     pub at: Place,
@@ -125,6 +174,17 @@ pub struct Variable {
     pub name: Name,
     /// What it is at first, where that is written.
     pub initializer: Option<Expr>,
+}
+
+impl Drop for Variable {
+    #[cycle(release)]
+    fn drop(self) {
+        let Variable {
+            at: _,
+            name: _,
+            initializer: _,
+        } = self;
+    }
 }
 
 impl Model for ParameterList {

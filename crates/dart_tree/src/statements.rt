@@ -9,10 +9,17 @@ use std::marker::Model;
 
 /// A statement.
 #[cycle(tree)]
-#[derive(Drop)]
 pub struct Stmt {
     /// Its form, with its parts.
     pub node: StmtNode,
+}
+
+impl Drop for Stmt {
+    #[cycle(release)]
+    fn drop(self) {
+        let Stmt { node } = self;
+        drop(node);
+    }
 }
 
 /// The forms of a statement.
@@ -140,7 +147,6 @@ pub enum ForInitializer {
 
 /// Statements between braces, as the body of a `try`, a `catch` or a `finally`.
 #[cycle(tree)]
-#[derive(Drop)]
 pub struct Block {
     /// Its number and its range of text.
     pub at: Place,
@@ -148,9 +154,18 @@ pub struct Block {
     pub statements: Vec<Stmt>,
 }
 
+impl Drop for Block {
+    #[cycle(release)]
+    fn drop(self) {
+        let Block {
+            at: _,
+            statements: _,
+        } = self;
+    }
+}
+
 /// A case of a switch, with all its labels.
 #[cycle(tree)]
-#[derive(Drop)]
 pub struct SwitchCase {
     /// Its number and its range of text.
     pub at: Place,
@@ -162,9 +177,20 @@ pub struct SwitchCase {
     pub statements: Vec<Stmt>,
 }
 
+impl Drop for SwitchCase {
+    #[cycle(release)]
+    fn drop(self) {
+        let SwitchCase {
+            at: _,
+            labels: _,
+            is_default: _,
+            statements: _,
+        } = self;
+    }
+}
+
 /// What a `try` does with some of what is thrown.
 #[cycle(tree)]
-#[derive(Drop)]
 pub struct CatchClause {
     /// Its number and its range of text.
     pub at: Place,
@@ -176,6 +202,19 @@ pub struct CatchClause {
     pub stack_trace: Option<ListedName>,
     /// What is run then.
     pub body: Block,
+}
+
+impl Drop for CatchClause {
+    #[cycle(release)]
+    fn drop(self) {
+        let CatchClause {
+            at: _,
+            written: _,
+            exception: _,
+            stack_trace: _,
+            body: _,
+        } = self;
+    }
 }
 
 impl Model for Stmt {

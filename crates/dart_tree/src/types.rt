@@ -7,10 +7,17 @@ use std::marker::Model;
 
 /// A type as it is written.
 #[cycle(tree)]
-#[derive(Drop)]
 pub struct WrittenType {
     /// Its form, with its parts.
     pub node: WrittenTypeNode,
+}
+
+impl Drop for WrittenType {
+    #[cycle(release)]
+    fn drop(self) {
+        let WrittenType { node } = self;
+        drop(node);
+    }
 }
 
 /// The forms of a written type.
@@ -42,7 +49,6 @@ pub enum WrittenTypeNode {
 
 /// Type arguments with their brackets.
 #[cycle(tree)]
-#[derive(Drop)]
 pub struct TypeArguments {
     /// Its number and its range of text.
     pub at: Place,
@@ -50,9 +56,15 @@ pub struct TypeArguments {
     pub types: Vec<WrittenType>,
 }
 
+impl Drop for TypeArguments {
+    #[cycle(release)]
+    fn drop(self) {
+        let TypeArguments { at: _, types: _ } = self;
+    }
+}
+
 /// A type parameter.
 #[cycle(tree)]
-#[derive(Drop)]
 pub struct TypeParameter {
     /// Its number and its range of text.
     pub at: Place,
@@ -62,9 +74,19 @@ pub struct TypeParameter {
     pub bound: Option<WrittenType>,
 }
 
+impl Drop for TypeParameter {
+    #[cycle(release)]
+    fn drop(self) {
+        let TypeParameter {
+            at: _,
+            name: _,
+            bound: _,
+        } = self;
+    }
+}
+
 /// A required parameter of a function type. Its name declares nothing.
 #[cycle(tree)]
-#[derive(Drop)]
 pub struct ParameterType {
     /// Its number and its range of text.
     pub at: Place,
@@ -72,6 +94,17 @@ pub struct ParameterType {
     pub written: WrittenType,
     /// Its name, where one is written.
     pub name: Option<Identifier>,
+}
+
+impl Drop for ParameterType {
+    #[cycle(release)]
+    fn drop(self) {
+        let ParameterType {
+            at: _,
+            written: _,
+            name: _,
+        } = self;
+    }
 }
 
 impl Model for WrittenType {

@@ -1,5 +1,6 @@
 pub mod Answers
 pub mod Groups
+pub mod LastLevels
 pub mod Loops
 pub mod Parts
 pub mod Places

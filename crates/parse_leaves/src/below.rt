@@ -3,6 +3,7 @@
 ghost use Rattle.std.specs.Prelude.{◌≡◌, ◌≤◌, ℕ, IfOk};
 ghost use Rattle.grammar.specs.Descents.{lower};
 ghost use Rattle.parse_leaves.specs.Answers.{Gives, IsDeep};
+ghost use Rattle.parse_leaves.specs.LastLevels.{AreLastLevels};
 
 use crate::miss::Miss;
 use dart_tree::{Block, Expr, Stmt, WrittenType};
@@ -80,7 +81,7 @@ pub trait Below<'k> {
         ensures reading { Gives (λ x. (x.0, x.2.now)) result ((lower (room self.now)).expression setting tokens.now) }
         ensures deep { IfOk result (λ x. IsDeep (room self.now) x.0 x.1) };
 
-    /// An operand of the levels of a table.
+    /// An operand of the last levels of the table.
     fn operand(
         &self,
         alloc: Global,
@@ -90,6 +91,7 @@ pub trait Below<'k> {
     ) -> Result<(Expr, u32, &'k [Token]), Miss>
         requires limit { room self.now ≤ 201 }
         requires sound { sound self.now }
+        requires last { AreLastLevels above.now }
         ensures reading { Gives (λ x. (x.0, x.2.now)) result ((lower (room self.now)).operand setting above.now tokens.now) }
         ensures deep { IfOk result (λ x. IsDeep (room self.now) x.0 x.1) };
 

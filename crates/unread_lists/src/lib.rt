@@ -22,6 +22,6 @@ pub use functions::{read_body, read_function, read_parameter_list, read_variable
 pub use laws::unread_laws;
 pub use lists::ReadsLists;
 pub use members::{read_initializer, read_member};
-pub use statements::{read_block, read_stmt};
+pub use statements::{read_block, read_stmt, read_stmts};
 pub use types::read_written_type;
 pub use units::{read_item, read_unit};

@@ -149,6 +149,23 @@ pub(crate) fn read_boxed_stmt<R: ReadsLists>(
     }
 }
 
+/// Reads the lists of statements in statements, where `room` nodes may lie on a way down from each.
+pub fn read_stmts<R: ReadsLists>(
+    reader: &R,
+    alloc: Global,
+    room: u32,
+    stmts: &mut [Stmt],
+) -> Result<(), AllocError>
+    requires limit { room ≤ 201 }
+    requires sound { R.sound reader.now }
+    ensures { OnOk result (trees_of stmts.new ≡ all_with_lists (R.lists reader.now) room (trees_of stmts.old)) }
+{
+    for item in stmts.iter_mut() {
+        read_stmt(reader, alloc, room, item)?;
+    }
+    Ok(())
+}
+
 /// Reads the lists of statements in a block, where `room` nodes may lie on a way down from it.
 pub fn read_block<R: ReadsLists>(
     reader: &R,
