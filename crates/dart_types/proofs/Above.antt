@@ -1,18 +1,17 @@
 -- What lies above Null, Object and Function.
-use Rattle.std.proofs.Common.{◌≡◌, true, Some, refl, subst}
-use Rattle.std.specs.Prelude.{Contains}
+use Rattle.std.proofs.Common.{◌≡◌, true, refl, sym, subst}
 use Rattle.dart_types.specs.Ty.{Ty, Types, Named, invalid, never, void, null, interface, function, variable, promoted, nullable, no_more, more}
 use Rattle.dart_types.specs.Heads.{object, is_object, is_function_class, is_top, is_plain}
 use Rattle.dart_types.specs.Substitution.{put, by_params}
-use Rattle.dart_types.specs.Tables.{Table, class_of}
+use Rattle.dart_types.specs.Tables.{Table}
+use Rattle.dart_types.specs.Superinterfaces.{Inherits}
 use Rattle.dart_types.specs.WellFormed.{IsWellFormed}
 use Rattle.dart_types.specs.Sub.{Sub, Subs, reflexivity, right_top, left_null, right_object, left_nullable, right_nullable, right_promoted, interface_arguments, super_interface, function_class, left_top, none_left, one_left}
 use Rattle.dart_types.specs.declared.ids.ClassId.{ClassId}
 use Rattle.dart_types.specs.declared.ids.VarId.{VarId}
 use Rattle.dart_types.specs.declared.ids.TheConstants.{OBJECT, FUNCTION}
-use Rattle.dart_types.specs.declared.class_rows.ClassRow.{ClassRow}
 use Rattle.dart_types.proofs.SameIds.{equal_from_same_class}
-use Rattle.dart_types.proofs.Formed.{object_has_none, function_has_object}
+use Rattle.dart_types.proofs.Supers.{object_inherits, function_inherits}
 
 -- the class of `Object` is OBJECT
 pub class_of_object : (c : ClassId) (ss : Types) → is_object (interface c ss) ≡ true → c ≡ OBJECT
@@ -82,13 +81,12 @@ module _ (table : Table) where
   null_promoted (right_promoted a b) = (a, b)
 
   module _ (wf : IsWellFormed table) where
-    no_super : {A : Type 0} (c : ClassId) (ss : Types) (row : ClassRow) (v : Ty) → is_object (interface c ss) ≡ true → class_of table c ≡ Some row → Contains row.supers v → A
-    no_super c ss row v h r i = absurd (object_has_none table wf c row v r (class_of_object c ss h) i)
+    none_inherited : {A : Type 0} (c : ClassId) (ss : Types) {v : Ty} → is_object (interface c ss) ≡ true → Inherits table c v → A
+    none_inherited c ss h q = object_inherits table wf (class_of_object c ss h) q
 
     object_var : {c : ClassId} {ss : Types} {x : VarId} → is_object (interface c ss) ≡ true → Sub table (interface c ss) (variable x) → ⊥
     object_var h (right_top e) = cc
     object_var h (right_object e p) = cc
-    object_var h (super_interface {c = c} {ss = ss} row r v i k a) = no_super c ss row v h r i
 
     -- what is above Object is above each interface and function type
     pub above_object : {c : ClassId} {ss : Types} {t : Ty} → Sub table (interface c ss) t → is_object (interface c ss) ≡ true → (s : Ty) → is_plain s ≡ true → Sub table s t
@@ -98,7 +96,7 @@ module _ (table : Table) where
     above_object (right_nullable a) h s p = right_nullable (above_object a h s p)
     above_object (right_promoted a b) h s p = right_promoted (above_object a h s p) (above_object b h s p)
     above_object (interface_arguments {c = c} a) h s p = right_object (object_args c a h) p
-    above_object (super_interface {c = c} {ss = ss} row r v i k a) h s p = no_super c ss row v h r i
+    above_object (super_interface {c = c} {ss = ss} row r n k a) h s p = none_inherited c ss h k.0
 
     -- with Null too it is above all
     pub nullable_above : {c : ClassId} {ss : Types} {t : Ty} → Sub table (interface c ss) t → is_object (interface c ss) ≡ true → (s : Ty) → Sub table s (nullable t)
@@ -108,7 +106,7 @@ module _ (table : Table) where
     nullable_above (right_nullable a) h s = right_nullable (nullable_above a h s)
     nullable_above (right_promoted a b) h s = absurd (object_var h a)
     nullable_above (interface_arguments {c = c} a) h s = right_top (object_args c a h)
-    nullable_above (super_interface {c = c} {ss = ss} row r v i k a) h s = no_super c ss row v h r i
+    nullable_above (super_interface {c = c} {ss = ss} row r n k a) h s = none_inherited c ss h k.0
 
     both_above : {c : ClassId} {ss : Types} {t : Ty} → Sub table (interface c ss) t → is_object (interface c ss) ≡ true → Sub table null t → (s : Ty) → Sub table s t
     both_above reflexivity h b s = absurd (null_interface b)
@@ -117,7 +115,7 @@ module _ (table : Table) where
     both_above (right_nullable a) h b s = nullable_above a h s
     both_above (right_promoted a1 a2) h b s = absurd (object_var h a1)
     both_above (interface_arguments a) h b s = absurd (null_interface b)
-    both_above (super_interface {c = c} {ss = ss} row r v i k a) h b s = no_super c ss row v h r i
+    both_above (super_interface {c = c} {ss = ss} row r n k a) h b s = none_inherited c ss h k.0
 
     object_then : {o t : Ty} → Sub table o t → is_object o ≡ true → Sub table null t → (s : Ty) → Sub table s t
     object_then {o = invalid} a h b s = cc
@@ -173,9 +171,9 @@ module _ (table : Table) where
     above_class (right_nullable a) h r o n e = right_nullable (above_class a h r o n e)
     above_class (right_promoted a b) h r o n e = right_promoted (above_class a h r o n e) (above_class b h r o n e)
     above_class (interface_arguments {c = c} a) h r o n e = function_class (function_args c a h)
-    above_class {c} {ss} {t} (super_interface row r v i k a) h f o n e =
-        let is : v ≡ object = function_has_object table wf c row v r (class_of_function c ss h) i in
-        above_object (subst (λ (w : Ty). Sub table (put (by_params row.params ss) w) t) is a) refl (function f o n e) refl
+    above_class (super_interface {c = c} {d = d} {ss = ss} {us = us} row r m k a) h f o n e =
+        let is : interface d us ≡ object = function_inherits table wf (class_of_function c ss h) k.0 in
+        right_object (object_args d a (subst (λ (w : Ty). is_object (put (by_params row.params ss) w) ≡ true) (sym is) refl)) refl
 
     pub above_function : {f t : Ty} → Sub table f t → is_function_class f ≡ true → (r o : Types) (n : Named) (e : Ty) → Sub table (function r o n e) t
     above_function {f = invalid} a h r o n e = cc

@@ -1,5 +1,5 @@
 -- The steps of the test of subtyping from one class to another.
-use Rattle.std.proofs.Common.{◌≡◌, ℕ, ◌+◌, ◌<◌, ◌≤◌, Bool, true, false, IsTrue, List, Some, None, [], ◌∷◌, length, filter, get_or, zero, suc, cond, refl, sym, ◌∙◌, ap, subst, arith, inl, inr}
+use Rattle.std.proofs.Common.{◌≡◌, ◌<◌, ◌≤◌, Bool, true, false, IsTrue, List, Some, None, [], ◌∷◌, length, cond, refl, sym, ◌∙◌, ap, subst, arith, inl, inr}
 use Rattle.std.specs.Prelude.{◌≢◌, ◌↔◌, ◌⊎◌, Contains, unwrap_or}
 use Rattle.dart_types.specs.Ty.{Ty, Types, Named, invalid, never, void, null, interface, function, variable, promoted, nullable, no_more, more, no_named, more_named, types_of, count}
 use Rattle.dart_types.specs.Same.{same_var}
@@ -7,12 +7,12 @@ use Rattle.dart_types.specs.Heads.{is_object, is_plain}
 use Rattle.dart_types.specs.Substitution.{put, put_all, put_named, argument_of, by_params}
 use Rattle.dart_types.specs.Scopes.{in_scope, stands_for, close_all, Frames}
 use Rattle.dart_types.specs.Normal.{normal, normal_all}
-use Rattle.dart_types.specs.Tables.{Table, class_of, depth_of, head_depth}
+use Rattle.dart_types.specs.Tables.{Table, class_of}
 use Rattle.dart_types.specs.Targets.{is_bare_target}
 use Rattle.dart_types.specs.WellFormed.{IsSupertype, IsWellFormed}
 use Rattle.dart_types.specs.Measure.{measure, weight, deep, heavy, of_var, heaviest_of, deepness_of}
-use Rattle.dart_types.specs.Superinterfaces.{IsSuperinterface, direct, further, AreSuperinterfaces, interface_of}
-use Rattle.dart_types.specs.Sub.{Sub, Subs, reflexivity, right_top, right_object, right_nullable, right_promoted, interface_arguments, super_interface, none_left, one_left}
+use Rattle.dart_types.specs.Superinterfaces.{IsSuperinterface, Keeps, AreSuperinterfaces, interface_of}
+use Rattle.dart_types.specs.Sub.{Sub, Subs, reflexivity, right_top, right_object, right_nullable, right_promoted, interface_arguments, super_interface}
 use Rattle.dart_types.specs.Forms.{form_of}
 use Rattle.dart_types.specs.declared.ids.ClassId.{ClassId}
 use Rattle.dart_types.specs.declared.ids.VarId.{VarId}
@@ -21,12 +21,13 @@ use Rattle.dart_types.specs.declared.superinterfaces.Superinterface.{Superinterf
 use Rattle.dart_types.specs.declared.scopes.SeenList.{SeenList}
 use Rattle.dart_types.specs.declared.scopes.Form.{Form}
 use Rattle.dart_types.specs.declared.scopes.Form.TheVariants.{Invalid, Never, Void, Null, Interface, Function, Var, Promoted, Nullable}
-use Rattle.dart_types.proofs.Formed.{formed_super, super_depth}
-use Rattle.dart_types.proofs.Transitive.{trans}
-use Rattle.dart_types.proofs.NormalPut.{put_all_normal_below, put_all_normal_above, deep_normal, heavy_normal}
+use Rattle.dart_types.proofs.Supers.{superinterface_simple, not_itself, inherited}
+pub use Rattle.dart_types.proofs.Lists.{contains_passed, passed_contains}
+use Rattle.dart_types.proofs.Transitive.{subs_same, all_moved}
+use Rattle.dart_types.proofs.NormalPut.{all_to_normal, all_from_normal, deep_normal, heavy_normal}
 use Rattle.dart_types.proofs.MeasureFalls.{not_above}
 use Rattle.dart_types.proofs.Inversions.{bare_not_top}
-use Rattle.dart_types.proofs.Climb.{superinterface_simple, climb_up, climb_falls, climb_down}
+use Rattle.dart_types.proofs.Climb.{climb_falls}
 use Rattle.dart_types.proofs.Steps.{yes, no, through}
 
 -- types are the same under what stands for each variable alike
@@ -63,58 +64,7 @@ frame_var outer (p ∷ ps) (more t ts) x = at (same_var p x) (frame_var outer ps
 pub frame_all : (ps : List VarId) (args : List Ty) (outer : Frames) (ts : Types) → close_all ((ps, args) ∷ outer) ts ≡ put_all (by_params ps (close_all outer (types_of args))) ts
 frame_all ps args outer ts = put_all_alike (in_scope ((ps, args) ∷ outer)) (by_params ps (close_all outer (types_of args))) (λ x. frame_var outer ps (types_of args) x) ts
 
--- the elements that pass a test
-pub contains_passed : {X : Type 0} (p : X → Bool) (xs : List X) (x : X) → Contains (filter p xs) x → Contains xs x × (p x ≡ true)
-contains_passed p [] x c = absurd (omega (arith, c.1))
-contains_passed {X} p (y ∷ ys) x c = at (p y) refl c (contains_passed p ys x)
-  where
-    later : Contains ys x × (p x ≡ true) → Contains (y ∷ ys) x × (p x ≡ true)
-    later k = ((suc k.0.0, omega (arith, k.0.1), k.0.2), k.1)
-
-    here : (i : ℕ) → i < length (filter p ys) + 1 → get_or (y ∷ filter p ys) i x ≡ x → p y ≡ true → (Contains (filter p ys) x → Contains ys x × (p x ≡ true)) → Contains (y ∷ ys) x × (p x ≡ true)
-    here zero lt e is go = ((0, omega arith, e), subst (λ (z : X). p z ≡ true) e is)
-    here (suc i) lt e is go = later (go (i, omega arith, e))
-
-    at : (b : Bool) → p y ≡ b → Contains (cond b (y ∷ filter p ys) (filter p ys)) x → (Contains (filter p ys) x → Contains ys x × (p x ≡ true)) → Contains (y ∷ ys) x × (p x ≡ true)
-    at true is k go = here k.0 (omega (arith, k.1)) k.2 is go
-    at false is k go = later (go k)
-
-pub passed_contains : {X : Type 0} (p : X → Bool) (xs : List X) (x : X) → Contains xs x → p x ≡ true → Contains (filter p xs) x
-passed_contains p [] x c h = absurd (omega (arith, c.1))
-passed_contains {X} p (y ∷ ys) x c h = at c.0 (omega (arith, c.1)) c.2 (p y) refl (λ k. passed_contains p ys x k h)
-  where
-    at : (i : ℕ) → i < length ys + 1 → get_or (y ∷ ys) i x ≡ x → (b : Bool) → p y ≡ b → (Contains ys x → Contains (filter p ys) x) → Contains (cond b (y ∷ filter p ys) (filter p ys)) x
-    at zero lt e true is go = (0, omega arith, e)
-    at zero lt e false is go = let k : p x ≡ false = subst (λ (z : X). p z ≡ false) e is in cc
-    at (suc i) lt e true is go = let k = go (i, omega arith, e) in (suc k.0, omega (arith, k.1), k.2)
-    at (suc i) lt e false is go = go (i, omega arith, e)
-
 module _ (table : Table) (wf : IsWellFormed table) where
-  put_depth : (params : List VarId) (σ : VarId → Ty) (v : Ty) → IsSupertype params v → head_depth table (put σ v) ≡ head_depth table v
-  put_depth params σ invalid i = absurd i
-  put_depth params σ never i = absurd i
-  put_depth params σ void i = absurd i
-  put_depth params σ null i = absurd i
-  put_depth params σ (interface c ts) i = refl
-  put_depth params σ (function r o n e) i = absurd i
-  put_depth params σ (variable x) i = absurd i
-  put_depth params σ (promoted x t) i = absurd i
-  put_depth params σ (nullable t) i = absurd i
-
-  -- a superinterface is less far from Object
-  superinterface_depth : {c : ClassId} {v : Ty} → IsSuperinterface table c v → head_depth table v + 1 ≤ depth_of table c
-  superinterface_depth {c} (direct {row = row} {v = v} r i) = super_depth table wf c row v r i
-  superinterface_depth (further {d = d} {ts = ts} {row = row} {v = v} h r i) =
-      let same = put_depth row.params (by_params row.params ts) v (formed_super table wf d row v r i).0 in
-      omega (arith, same, super_depth table wf d row v r i, superinterface_depth h)
-
-  not_itself : {c : ClassId} {ts : Types} → IsSuperinterface table c (interface c ts) → ⊥
-  not_itself h = absurd (omega (arith, superinterface_depth h))
-
-  subs_trans : {ss ts us : Types} → Subs table ss ts → Subs table ts us → Subs table ss us
-  subs_trans none_left q = q
-  subs_trans (one_left {s = s} {t = t} a rest) (one_left {t = u} b others) = one_left (trans table wf t s u a b) (subs_trans rest others)
-
   -- what lies above an interface is one, or no bare type
   object_form : (t : Ty) → is_object t ≡ true → (d : ClassId) × (ts : Types) × (t ≡ interface d ts)
   object_form invalid o = cc
@@ -134,15 +84,7 @@ module _ (table : Table) (wf : IsWellFormed table) where
   interface_above (right_nullable a) h = cc
   interface_above (right_promoted a b) h = cc
   interface_above {c} (interface_arguments {ts = ts} a) h = (c, ts, refl)
-  interface_above {c} (super_interface row r invalid i k a) h = absurd (formed_super table wf c row invalid r i).0
-  interface_above {c} (super_interface row r never i k a) h = absurd (formed_super table wf c row never r i).0
-  interface_above {c} (super_interface row r void i k a) h = absurd (formed_super table wf c row void r i).0
-  interface_above {c} (super_interface row r null i k a) h = absurd (formed_super table wf c row null r i).0
-  interface_above (super_interface row r (interface d ts) i k a) h = interface_above a h
-  interface_above {c} (super_interface row r (function f o n e) i k a) h = absurd (formed_super table wf c row (function f o n e) r i).0
-  interface_above {c} (super_interface row r (variable x) i k a) h = absurd (formed_super table wf c row (variable x) r i).0
-  interface_above {c} (super_interface row r (promoted x u) i k a) h = absurd (formed_super table wf c row (promoted x u) r i).0
-  interface_above {c} (super_interface row r (nullable u) i k a) h = absurd (formed_super table wf c row (nullable u) r i).0
+  interface_above (super_interface {d = d} {ts = ts} row r n k a) h = (d, ts, refl)
 
   interface_form : (f : Form) {d : ClassId} {ts : Types} → form_of f ≡ interface d ts → ((class : ClassId) (args : SeenList) → f ≡ Interface class args → ⊥) → ⊥
   interface_form Invalid e h = cc
@@ -162,18 +104,29 @@ module _ (table : Table) (wf : IsWellFormed table) where
   pub below_object : {s t : Ty} → is_plain s ≡ true → is_object t ≡ true → IsTrue true ↔ Sub table s t
   below_object p o = yes (right_object o p)
 
+  -- an interface is a subtype of another by its arguments, by a superinterface, or as that is `Object`
+  abbrev Down : (c d : ClassId) (ss ts : Types) → Type 0
+  Down c d ss ts = (row : ClassRow) × (class_of table c ≡ Some row) × (count ss ≡ length row.params) × (vs : Types) × Keeps table c (interface d vs) × Subs table (put_all (by_params row.params ss) vs) ts
+
+  climb_down : {c d : ClassId} {ss ts : Types} → Sub table (interface c ss) (interface d ts) → (is_object (interface d ts) ≡ true) ⊎ (((c ≡ d) × Subs table ss ts) ⊎ Down c d ss ts)
+  climb_down {ss = ss} reflexivity = inr (inl (refl, subs_same table wf ss))
+  climb_down (right_top x) = cc
+  climb_down (right_object x p) = inl x
+  climb_down (interface_arguments a) = inr (inl (refl, a))
+  climb_down (super_interface {us = us} row r n k a) = inr (inr (row, r, n, us, k, a))
+
   -- one class on both sides
   pub by_arguments : {c d : ClassId} {ss ts : Types} {t : Ty} {r : Bool} → t ≡ interface d ts → c ≡ d → is_object t ≡ false → IsTrue r ↔ Subs table ss ts → IsTrue r ↔ Sub table (interface c ss) t
   by_arguments {c} {d} {ss} {ts} {t} e same plain p =
       through
       (λ a. subst (λ (u : Ty). Sub table (interface c ss) u) (sym e) (subst (λ (k : ClassId). Sub table (interface c ss) (interface k ts)) same (interface_arguments a)))
-      (λ a. back (climb_down table wf (subst (λ (u : Ty). Sub table (interface c ss) u) e a)))
+      (λ a. back (climb_down (subst (λ (u : Ty). Sub table (interface c ss) u) e a)))
       p
     where
-      back : (is_object (interface d ts) ≡ true) ⊎ (((c ≡ d) × Subs table ss ts) ⊎ ((row : ClassRow) × (class_of table c ≡ Some row) × (count ss ≡ length row.params) × (vs : Types) × IsSuperinterface table c (interface d vs) × Subs table (put_all (by_params row.params ss) vs) ts)) → Subs table ss ts
+      back : (is_object (interface d ts) ≡ true) ⊎ (((c ≡ d) × Subs table ss ts) ⊎ Down c d ss ts) → Subs table ss ts
       back (inl o) = let k : is_object t ≡ true = subst (λ (u : Ty). is_object u ≡ true) (sym e) o in cc
       back (inr (inl q)) = q.1
-      back (inr (inr q)) = absurd (not_itself (subst (λ (k : ClassId). IsSuperinterface table c (interface k q.3)) (sym same) q.4))
+      back (inr (inr q)) = absurd (not_itself table wf (subst (λ (k : ClassId). IsSuperinterface table c (interface k q.3)) (sym same) (inherited table wf q.4.0)))
 
   pub arguments_less : {c d : ClassId} (ss : Types) {ts : Types} {t : Ty} → t ≡ interface d ts → c ≡ d → measure table (interface c ss) (interface c ts) ≤ measure table (interface c ss) t
   arguments_less {c} {d} ss {ts} {t} e same =
@@ -199,13 +152,10 @@ module _ (table : Table) (wf : IsWellFormed table) where
 
   -- another class on the right
   module _ (c d : ClassId) (ss ts : Types) (other : c ≢ d) (plain : is_object (interface d ts) ≡ false) where
-    abbrev Down : Type 0
-    Down = (row : ClassRow) × (class_of table c ≡ Some row) × (count ss ≡ length row.params) × (vs : Types) × IsSuperinterface table c (interface d vs) × Subs table (put_all (by_params row.params ss) vs) ts
-
-    down : Sub table (interface c ss) (interface d ts) → Down
-    down a = at (climb_down table wf a)
+    down : Sub table (interface c ss) (interface d ts) → Down c d ss ts
+    down a = at (climb_down a)
       where
-        at : (is_object (interface d ts) ≡ true) ⊎ (((c ≡ d) × Subs table ss ts) ⊎ Down) → Down
+        at : (is_object (interface d ts) ≡ true) ⊎ (((c ≡ d) × Subs table ss ts) ⊎ Down c d ss ts) → Down c d ss ts
         at (inl o) = cc
         at (inr (inl q)) = absurd (other q.0)
         at (inr (inr q)) = q
@@ -225,7 +175,7 @@ module _ (table : Table) (wf : IsWellFormed table) where
         σ = by_params row.params ss
 
         -- an entry of the class on the right
-        entry_form : (s : Superinterface) → s.class ≡ d → (v : Ty) → IsSupertype row.params v → IsSuperinterface table c v → interface_of s ≡ normal v → (vs : Types) × IsSuperinterface table c (interface d vs) × (types_of s.args ≡ normal_all vs)
+        entry_form : (s : Superinterface) → s.class ≡ d → (v : Ty) → IsSupertype row.params v → Keeps table c v → interface_of s ≡ normal v → (vs : Types) × Keeps table c (interface d vs) × (types_of s.args ≡ normal_all vs)
         entry_form s is invalid i h e = absurd i
         entry_form s is never i h e = absurd i
         entry_form s is void i h e = absurd i
@@ -233,36 +183,38 @@ module _ (table : Table) (wf : IsWellFormed table) where
         entry_form s is (interface f vs) i h e =
             let same : s.class ≡ f = cc in
             let args : types_of s.args ≡ normal_all vs = cc in
-            (vs, subst (λ (g : ClassId). IsSuperinterface table c (interface g vs)) (sym same ∙ is) h, args)
+            (vs, subst (λ (g : ClassId). Keeps table c (interface g vs)) (sym same ∙ is) h, args)
         entry_form s is (function g o n x) i h e = absurd i
         entry_form s is (variable x) i h e = absurd i
         entry_form s is (promoted x u) i h e = absurd i
         entry_form s is (nullable u) i h e = absurd i
 
-        entry : (s : Superinterface) → Contains list s → s.class ≡ d → (vs : Types) × IsSuperinterface table c (interface d vs) × (types_of s.args ≡ normal_all vs)
-        entry s i is = let q = are.no_other s i in entry_form s is q.0 (superinterface_simple table wf q.1 row r) q.1 q.2
+        over_params : {v : Ty} → Keeps table c v → IsSupertype row.params v
+        over_params h = superinterface_simple table wf (inherited table wf h.0) row r
+
+        entry : (s : Superinterface) → Contains list s → s.class ≡ d → (vs : Types) × Keeps table c (interface d vs) × (types_of s.args ≡ normal_all vs)
+        entry s i is = let q = are.no_other s i in entry_form s is q.0 (over_params q.1) q.1 q.2
 
         pub entry_below : (s : Superinterface) → Contains list s → s.class ≡ d → Subs table (put_all σ (types_of s.args)) ts → IsTrue true ↔ Sub table (interface c ss) (interface d ts)
         entry_below s i is a =
             let q = entry s i is in
             let b : Subs table (put_all σ (normal_all q.0)) ts = subst (λ (us : Types). Subs table (put_all σ us) ts) q.2 a in
-            yes (climb_up table wf c ss row r k q.1 (interface_arguments (subs_trans (put_all_normal_above table wf σ q.0) b)))
+            yes (super_interface row r k q.1 (all_moved table wf (all_to_normal table wf σ row.params q.0 (over_params q.1)) b))
 
         pub entry_falls : (s : Superinterface) → Contains list s → s.class ≡ d → measure table (interface d (put_all σ (types_of s.args))) (interface d ts) < measure table (interface c ss) (interface d ts)
         entry_falls s i is =
             let q = entry s i is in
-            let up = climb_falls table wf c ss row r k (interface d ts) q.1 in
-            let simple = superinterface_simple table wf q.1 row r in
-            let less = normal_least σ row.params (interface d q.0) simple (interface d ts) in
+            let up = climb_falls table wf c ss row r k (interface d ts) (inherited table wf q.1.0) in
+            let less = normal_least σ row.params (interface d q.0) (over_params q.1) (interface d ts) in
             subst (λ (us : Types). measure table (interface d (put_all σ us)) (interface d ts) < measure table (interface c ss) (interface d ts)) (sym q.2) (omega (arith, up, less))
 
         pub none_below : ((s : Superinterface) → Contains list s → s.class ≡ d → Subs table (put_all σ (types_of s.args)) ts → ⊥) → IsTrue false ↔ Sub table (interface c ss) (interface d ts)
         none_below h = no (λ a. at (down a))
           where
-            at : Down → ⊥
+            at : Down c d ss ts → ⊥
             at q =
                 let e = are.every (interface d q.3) q.4 in
                 let is : e.0.class ≡ d = (let l : interface e.0.class (types_of e.0.args) ≡ interface d (normal_all q.3) = e.2 in cc) in
                 let args : types_of e.0.args ≡ normal_all q.3 = (let l : interface e.0.class (types_of e.0.args) ≡ interface d (normal_all q.3) = e.2 in cc) in
                 let b : Subs table (put_all σ q.3) ts = subst (λ (p : ClassRow). Subs table (put_all (by_params p.params ss) q.3) ts) (the_row q.0 q.1) q.5 in
-                h e.0 e.1 is (subst (λ (us : Types). Subs table (put_all σ us) ts) (sym args) (subs_trans (put_all_normal_below table wf σ q.3) b))
+                h e.0 e.1 is (subst (λ (us : Types). Subs table (put_all σ us) ts) (sym args) (all_moved table wf (all_from_normal table wf σ row.params q.3 (over_params q.4)) b))

@@ -1,31 +1,32 @@
 -- The test of subtyping that computes holds just where the rules have a derivation.
-use Rattle.std.proofs.Common.{◌≡◌, ℕ, zero, suc, ◌+◌, ◌<◌, ◌≤◌, Bool, true, false, List, [], ◌∷◌, length, Option, Some, None, nat_eq, nat_le, refl, sym, subst, arith, inl, inr}
-use Rattle.std.specs.Prelude.{◌&&◌, ◌||◌, ◌⊎◌, Contains, bytes_eq}
+use Rattle.std.proofs.Common.{◌≡◌, ℕ, zero, suc, ◌+◌, ◌<◌, ◌≤◌, Bool, true, false, List, length, Option, Some, None, nat_eq, nat_le, refl, sym, ap, subst, arith, inl, inr}
+use Rattle.std.specs.Prelude.{◌&&◌, ◌||◌, ◌⊎◌, bytes_eq}
 use Rattle.std.specs.List.{list_any}
 use Rattle.std.specs.Option.{option_map_or}
 use Rattle.std.specs.Cmp.Lexicographic.{bytes_decides}
 use Rattle.std.proofs.lemmas.Bool.Decides.{nat_tests}
-use Rattle.std.proofs.lemmas.List.Folds.{list_any_at}
 use Rattle.dart_types.specs.Ty.{Ty, Types, Named, invalid, never, void, null, interface, function, variable, promoted, nullable, no_more, more, no_named, more_named, count, join}
 use Rattle.dart_types.specs.Same.{same_class, same_type}
 use Rattle.dart_types.specs.Heads.{object, is_object, is_function_class, is_top, is_plain}
-use Rattle.dart_types.specs.Substitution.{put, by_params}
-use Rattle.dart_types.specs.Tables.{Table, class_of, bound_of}
+use Rattle.dart_types.specs.Substitution.{put_all, by_params}
+use Rattle.dart_types.specs.Tables.{Table, class_of, bound_of, depth_of}
+use Rattle.dart_types.specs.Superinterfaces.{Keeps}
+use Rattle.dart_types.specs.Kept.{kept_of}
 use Rattle.dart_types.specs.WellFormed.{IsWellFormed}
 use Rattle.dart_types.specs.Measure.{measure, heaviest_of, deepness_of}
 use Rattle.dart_types.specs.Sub.{Sub, Subs, SubParams, SubNamed, HasNamed, first, later, required_in, reflexivity, right_top, left_bottom, left_null, right_object, left_nullable, right_nullable, left_promoted_variable, left_promoted_type, right_promoted, left_variable_bound, interface_arguments, super_interface, function_class, function_types, left_top, none_left, one_left, no_param, one_param, no_name, one_name}
-use Rattle.dart_types.specs.SubTest.{pairwise, params_fit, name_fits, named_fit, by_arguments, by_supertypes, by_signature, by_left, is_null, by_right, derives, sub}
+use Rattle.dart_types.specs.SubTest.{pairwise, params_fit, name_fits, named_fit, by_arguments, is_super_below, by_superinterfaces, by_signature, by_left, is_null, by_right, derives, sub}
 use Rattle.dart_types.specs.declared.ids.ClassId.{ClassId}
 use Rattle.dart_types.specs.declared.ids.TheConstants.{OBJECT}
 use Rattle.dart_types.specs.declared.class_rows.ClassRow.{ClassRow}
-use Rattle.dart_types.proofs.SameIds.{both_true, nat_from_test, equal_from_same_class, same_class-refl}
+use Rattle.dart_types.proofs.SameIds.{both_true, nat_from_test, le_from_test, le_test, equal_from_same_class, same_class-refl}
+use Rattle.dart_types.proofs.Lists.{either_true, any_there, there_any}
+use Rattle.dart_types.proofs.Supers.{inherited}
+use Rattle.dart_types.proofs.KeptOf.{kept_sound, kept_found}
+use Rattle.dart_types.proofs.Climb.{climb_falls}
 use Rattle.dart_types.proofs.SameType.{same_type-refl, equal_from_same_type}
-use Rattle.dart_types.proofs.MeasureFalls.{falls_left, right_bare_falls, right_promoted_falls, left_bare_falls, left_promoted_falls, bound_falls, left_top_falls, super_falls}
+use Rattle.dart_types.proofs.MeasureFalls.{falls_left, right_bare_falls, right_promoted_falls, left_bare_falls, left_promoted_falls, bound_falls, left_top_falls}
 use Rattle.dart_types.proofs.MeasureParts.{HasType, at_first, at_later, arguments_fall, params_fall, names_fall, results_fall}
-
-either_true : (a b : Bool) → (a || b) ≡ true → (a ≡ true) ⊎ (b ≡ true)
-either_true true b h = inl refl
-either_true false b h = inr h
 
 left_true : (a b : Bool) → a ≡ true → (a || b) ≡ true
 left_true true b h = refl
@@ -38,25 +39,8 @@ right_true false b h = h
 and_true : (a b : Bool) → a ≡ true → b ≡ true → (a && b) ≡ true
 and_true a b p q = rw (p, q) refl
 
-le_from_test : (m n : ℕ) → nat_le m n ≡ true → m ≤ n
-le_from_test m n h = grind (arith, nat_tests)
-
-le_test : (m n : ℕ) → m ≤ n → nat_le m n ≡ true
-le_test m n h = grind (arith, nat_tests)
-
 pub nat_test : (m n : ℕ) → m ≡ n → nat_eq m n ≡ true
 nat_test m n h = grind (arith, nat_tests)
-
-any_there : {X : Type 0} (p : X → Bool) (xs : List X) → list_any p xs ≡ true → (x : X) × Contains xs x × (p x ≡ true)
-any_there p [] h = cc
-any_there {X} p (x ∷ xs) h = at (either_true (p x) (list_any p xs) h) (λ k. any_there p xs k)
-  where
-    at : (p x ≡ true) ⊎ (list_any p xs ≡ true) → (list_any p xs ≡ true → (y : X) × Contains xs y × (p y ≡ true)) → (y : X) × Contains (x ∷ xs) y × (p y ≡ true)
-    at (inl k) go = (x, (0, omega arith, refl), k)
-    at (inr k) go = let q = go k in (q.0, (suc q.1.0, omega (arith, q.1.1), q.1.2), q.2)
-
-there_any : {X : Type 0} (p : X → Bool) (xs : List X) (x : X) → Contains xs x → p x ≡ true → list_any p xs ≡ true
-there_any p xs x c h = list_any_at p xs c.0 x c.1 (subst (λ y. p y ≡ true) (sym c.2) h)
 
 -- what holds of a test that tells of subtypes
 module _ (table : Table) (below : Ty → Ty → Bool) (sound : (s t : Ty) → below s t ≡ true → Sub table s t) where
@@ -88,28 +72,46 @@ module _ (table : Table) (below : Ty → Ty → Bool) (sound : (s t : Ty) → be
       let q = name_sound m t ss b.0 in
       one_name q.0 q.1 q.2 (named_sound ts ss b.1)
 
-  arguments_sound : (c : ClassId) (ss : Types) (t : Ty) → by_arguments below c ss t ≡ true → Sub table (interface c ss) t
-  arguments_sound c ss invalid h = cc
-  arguments_sound c ss never h = cc
-  arguments_sound c ss void h = cc
-  arguments_sound c ss null h = cc
-  arguments_sound c ss (interface d ts) h =
-      let b = both_true (same_class c d) (pairwise below ss ts) h in
-      subst (λ (e : ClassId). Sub table (interface c ss) (interface e ts)) (equal_from_same_class c d b.0) (interface_arguments (pairwise_sound ss ts b.1))
-  arguments_sound c ss (function r o n e) h = cc
-  arguments_sound c ss (variable x) h = cc
-  arguments_sound c ss (promoted x t) h = cc
-  arguments_sound c ss (nullable t) h = cc
+  arguments_from : (d : ClassId) (us : Types) (t : Ty) → by_arguments below d us t ≡ true → (ts : Types) × (t ≡ interface d ts) × Subs table us ts
+  arguments_from d us invalid h = cc
+  arguments_from d us never h = cc
+  arguments_from d us void h = cc
+  arguments_from d us null h = cc
+  arguments_from d us (interface e ts) h =
+      let b = both_true (same_class d e) (pairwise below us ts) h in
+      (ts, ap (λ (k : ClassId). interface k ts) (sym (equal_from_same_class d e b.0)), pairwise_sound us ts b.1)
+  arguments_from d us (function r o n e) h = cc
+  arguments_from d us (variable x) h = cc
+  arguments_from d us (promoted x t) h = cc
+  arguments_from d us (nullable t) h = cc
 
-  supertypes_sound : (c : ClassId) (ss : Types) (t : Ty) → by_supertypes table below c ss t ≡ true → Sub table (interface c ss) t
-  supertypes_sound c ss t h = at (class_of table c) refl h
+  arguments_sound : (c : ClassId) (ss : Types) (t : Ty) → by_arguments below c ss t ≡ true → Sub table (interface c ss) t
+  arguments_sound c ss t h =
+      let q = arguments_from c ss t h in
+      subst (λ (u : Ty). Sub table (interface c ss) u) (sym q.1) (interface_arguments q.2)
+
+  super_sound : (c : ClassId) (ss : Types) (row : ClassRow) → class_of table c ≡ Some row → count ss ≡ length row.params → (t v : Ty) → Keeps table c v → is_super_below below row.params ss t v ≡ true → Sub table (interface c ss) t
+  super_sound c ss row r n t invalid k h = cc
+  super_sound c ss row r n t never k h = cc
+  super_sound c ss row r n t void k h = cc
+  super_sound c ss row r n t null k h = cc
+  super_sound c ss row r n t (interface d us) k h =
+      let q = arguments_from d (put_all (by_params row.params ss) us) t h in
+      subst (λ (u : Ty). Sub table (interface c ss) u) (sym q.1) (super_interface row r n k q.2)
+  super_sound c ss row r n t (function f o m e) k h = cc
+  super_sound c ss row r n t (variable x) k h = cc
+  super_sound c ss row r n t (promoted x u) k h = cc
+  super_sound c ss row r n t (nullable u) k h = cc
+
+  superinterfaces_sound : (c : ClassId) (ss : Types) (t : Ty) → by_superinterfaces table below c ss t ≡ true → Sub table (interface c ss) t
+  superinterfaces_sound c ss t h = at (class_of table c) refl h
     where
-      at : (o : Option ClassRow) → class_of table c ≡ o → option_map_or (λ row. nat_eq (count ss) (length row.params) && list_any (λ v. below (put (by_params row.params ss) v) t) row.supers) o false ≡ true → Sub table (interface c ss) t
+      at : (o : Option ClassRow) → class_of table c ≡ o → option_map_or (λ row. nat_eq (count ss) (length row.params) && list_any (is_super_below below row.params ss t) (kept_of table c)) o false ≡ true → Sub table (interface c ss) t
       at None e k = cc
       at (Some row) e k =
-          let b = both_true (nat_eq (count ss) (length row.params)) (list_any (λ v. below (put (by_params row.params ss) v) t) row.supers) k in
-          let q = any_there (λ v. below (put (by_params row.params ss) v) t) row.supers b.1 in
-          super_interface row e q.0 q.1 (nat_from_test (count ss) (length row.params) b.0) (sound (put (by_params row.params ss) q.0) t q.2)
+          let b = both_true (nat_eq (count ss) (length row.params)) (list_any (is_super_below below row.params ss t) (kept_of table c)) k in
+          let q = any_there (is_super_below below row.params ss t) (kept_of table c) b.1 in
+          super_sound c ss row e (nat_from_test (count ss) (length row.params) b.0) t q.0 (kept_sound table (depth_of table c + 1) c q.0 q.1) q.2
 
   signature_sound : (r o : Types) (n : Named) (e t : Ty) → by_signature below r o n e t ≡ true → Sub table (function r o n e) t
   signature_sound r o n e invalid h = cc
@@ -133,12 +135,12 @@ module _ (table : Table) (below : Ty → Ty → Bool) (sound : (s t : Ty) → be
   left_sound void t h = left_top (sound (nullable object) t h)
   left_sound null t h = cc
   left_sound (interface c ss) t h =
-      elim (either_true (is_object t || by_arguments below c ss t) (by_supertypes table below c ss t) h) as (λ _. Sub table (interface c ss) t) [
+      elim (either_true (is_object t || by_arguments below c ss t) (by_superinterfaces table below c ss t) h) as (λ _. Sub table (interface c ss) t) [
         | inl k ↦ elim (either_true (is_object t) (by_arguments below c ss t) k) as (λ _. Sub table (interface c ss) t) [
           | inl o ↦ right_object o refl
           | inr a ↦ arguments_sound c ss t a
         ]
-        | inr k ↦ supertypes_sound c ss t k
+        | inr k ↦ superinterfaces_sound c ss t k
       ]
   left_sound (function r o n e) t h =
       elim (either_true (is_object t || is_function_class t) (by_signature below r o n e t) h) as (λ _. Sub table (function r o n e) t) [
@@ -232,7 +234,7 @@ module _ (table : Table) (wf : IsWellFormed table) (below : Ty → Ty → Bool) 
   object_granted void t h p = cc
   object_granted null t h p = cc
   object_granted (interface c ss) t h p =
-      left_true (is_object t || by_arguments below c ss t) (by_supertypes table below c ss t) (left_true (is_object t) (by_arguments below c ss t) h)
+      left_true (is_object t || by_arguments below c ss t) (by_superinterfaces table below c ss t) (left_true (is_object t) (by_arguments below c ss t) h)
   object_granted (function r o n e) t h p =
       left_true (is_object t || is_function_class t) (by_signature below r o n e t) (left_true (is_object t) (is_function_class t) h)
   object_granted (variable x) t h p = cc
@@ -299,17 +301,21 @@ module _ (table : Table) (wf : IsWellFormed table) (below : Ty → Ty → Bool) 
   granted (interface_arguments {c = c} {ss = ss} {ts = ts} a) go =
       let t = interface c ts in
       from_left (interface c ss) t
-      (left_true (is_object t || by_arguments below c ss t) (by_supertypes table below c ss t)
+      (left_true (is_object t || by_arguments below c ss t) (by_superinterfaces table below c ss t)
       (right_true (is_object t) (by_arguments below c ss t)
       (and_true (same_class c c) (pairwise below ss ts) (same_class-refl c)
       (pairwise_granted ss ts a (λ s' t' h k b. go s' t' b (arguments_fall table wf c c ss ts h k))))))
-  granted {t = t} (super_interface {c = c} {ss = ss} row e v i k a) go =
-      let σ = by_params row.params ss in
+  granted (super_interface {c = c} {d = d} {ss = ss} {us = us} {ts = ts} row e n k a) go =
+      let t = interface d ts in
+      let vs = put_all (by_params row.params ss) us in
+      let up = climb_falls table wf c ss row e n (interface d ts) (inherited table wf k.0) in
+      let all = pairwise_granted vs ts a (λ s' t' h i b. go s' t' b (omega (arith, arguments_fall table wf d d vs ts h i, up))) in
+      let one = and_true (same_class d d) (pairwise below vs ts) (same_class-refl d) all in
       from_left (interface c ss) t
-      (right_true (is_object t || by_arguments below c ss t) (by_supertypes table below c ss t)
-      (subst (λ (o : Option ClassRow). option_map_or (λ row'. nat_eq (count ss) (length row'.params) && list_any (λ v'. below (put (by_params row'.params ss) v') t) row'.supers) o false ≡ true) (sym e)
-      (and_true (nat_eq (count ss) (length row.params)) (list_any (λ v'. below (put σ v') t) row.supers) (nat_test (count ss) (length row.params) k)
-      (there_any (λ v'. below (put σ v') t) row.supers v i (go (put σ v) t a (super_falls table wf c ss row v t e i k))))))
+      (right_true (is_object t || by_arguments below c ss t) (by_superinterfaces table below c ss t)
+      (subst (λ (o : Option ClassRow). option_map_or (λ row'. nat_eq (count ss) (length row'.params) && list_any (is_super_below below row'.params ss t) (kept_of table c)) o false ≡ true) (sym e)
+      (and_true (nat_eq (count ss) (length row.params)) (list_any (is_super_below below row.params ss t) (kept_of table c)) (nat_test (count ss) (length row.params) n)
+      (there_any (is_super_below below row.params ss t) (kept_of table c) (interface d us) (kept_found table wf c (interface d us) k) one))))
   granted {t = t} (function_class {r = r} {o = o} {n = n} {e = e} x) go =
       from_left (function r o n e) t
       (left_true (is_object t || is_function_class t) (by_signature below r o n e t) (right_true (is_object t) (is_function_class t) x))

@@ -8,7 +8,8 @@ use Rattle.dart_types.specs.Heads.{object}
 use Rattle.dart_types.specs.Normal.{normal, substituted}
 use Rattle.dart_types.specs.Tables.{Table}
 use Rattle.dart_types.specs.WellFormed.{IsSupertype, IsOver, IsFormedClass, IsFormedVar, IsWellFormed, class_before, var_before}
-use Rattle.dart_types.specs.Sub.{Sub, reflexivity, right_top, left_bottom, left_null, right_object, left_promoted_variable, left_promoted_type, interface_arguments, super_interface, function_types, none_left, one_left, no_param, one_param, no_name}
+use Rattle.dart_types.specs.Superinterfaces.{supertype}
+use Rattle.dart_types.specs.Sub.{Sub, reflexivity, right_top, left_bottom, left_null, right_object, left_promoted_variable, left_promoted_type, super_interface, function_types, none_left, one_left, no_param, one_param, no_name}
 use Rattle.dart_types.specs.declared.ids.ClassId.{ClassId}
 use Rattle.dart_types.specs.declared.ids.VarId.{VarId}
 use Rattle.dart_types.specs.declared.ids.LibId.{LibId}
@@ -118,7 +119,7 @@ void_is_top = right_top refl
 -- List<int> <: Iterable<Object?>
 list_is_iterable : Sub core (list int) (iterable (nullable object))
 list_is_iterable =
-    super_interface list_row refl (iterable (variable (var_at 2))) (0, omega arith, refl) refl (interface_arguments (one_left (right_top refl) none_left))
+    super_interface list_row refl refl (supertype list_row refl (0, omega arith, refl), omega arith) (one_left (right_top refl) none_left)
 
 -- X & int <: X, and X & int <: int
 promoted_is_both : Sub core (promoted (var_at 1) int) (variable (var_at 1)) × Sub core (promoted (var_at 1) int) int

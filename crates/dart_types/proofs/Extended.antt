@@ -1,10 +1,9 @@
 -- Own rows over those below, and other rows, are libraries that may be put among those of rows.
-use Rattle.std.proofs.Common.{◌≡◌, ℕ, true, false, List, sym, ◌∙◌, ap, subst, arith, inl, inr, ◌+◌}
+use Rattle.std.proofs.Common.{◌≡◌, ℕ, true, false, List, sym, ◌∙◌, ap, subst, arith, inl, inr}
 use Rattle.std.specs.Prelude.{◌⊎◌, AllPairs, Contains}
 use Rattle.std.proofs.lemmas.Bool.{cases_lt}
 use Rattle.std.proofs.lemmas.List.Elements.{All-contains, Contains-append_cases}
-use Rattle.dart_types.specs.RowsCause.{OwnFit}
-use Rattle.dart_types.specs.Tables.{Table, depth_of}
+use Rattle.dart_types.specs.Tables.{Table}
 use Rattle.dart_types.specs.WellFormed.{class_before, IsFormedClass, IsFormedVar, IsWellFormed}
 use Rattle.dart_types.specs.Entries.{table_of, AreAmong, AreBeside}
 use Rattle.dart_types.specs.Joined.{joined}
@@ -17,7 +16,7 @@ use Rattle.dart_types.specs.declared.entries.ClassEntry.{ClassEntry}
 use Rattle.dart_types.specs.declared.class_libraries.LibraryClasses.{LibraryClasses}
 use Rattle.dart_types.specs.declared.var_libraries.LibraryVars.{LibraryVars}
 use Rattle.dart_types.proofs.EntryLemmas.{AllPairs-map}
-use Rattle.dart_types.proofs.Filled.{row_of, Contains-map, known_fit}
+use Rattle.dart_types.proofs.Filled.{row_of, Contains-map}
 use Rattle.dart_types.proofs.Gathered.{all_from}
 use Rattle.dart_types.proofs.Joined.{row_before, bound_before, puts_in_order, in_puts, puts_left, puts_right, wider_from, below_extends}
 use Rattle.dart_types.proofs.Searches.{id_before, before_trans, before_from}
@@ -149,8 +148,3 @@ extended_view below own rows f union = record {
     | inr r ↦ absurd (All-contains (λ (k : VarRow). HasVarOf below k.var.lib → ⊥) own.vars row f.vars_apart r h)
   ];
 }
-
--- beside each own class stand its superinterfaces, so none is too large
-pub all_fit : (below : Table) (entries : List ClassEntry) (vars : List VarRow) → AreAmong below (table_of entries vars) → AreBeside (joined below (table_of entries vars)) entries → OwnFit (joined below (table_of entries vars)) (table_of entries vars)
-all_fit below entries vars wf beside c v own h =
-    known_fit below entries vars wf (depth_of (joined below (table_of entries vars)) c + 1) (λ k d lt lower. beside k d lt) c v own h (omega arith)

@@ -1,37 +1,22 @@
 -- Superinterfaces that are put beside one class after another.
-use Rattle.std.proofs.Common.{◌≡◌, ℕ, ◌+◌, ◌<◌, ◌≤◌, List, length, take, set, map, get_or, Some, refl, sym, ◌∙◌, ap, subst, arith, inl, inr}
-use Rattle.std.specs.Prelude.{◌⊎◌, All, Contains, find, Result, Ok, Err, OnOk}
+use Rattle.std.proofs.Common.{◌≡◌, ℕ, ◌+◌, ◌<◌, ◌≤◌, List, length, take, set, map, get_or, Some, sym, ◌∙◌, ap, subst, arith, inl, inr}
+use Rattle.std.specs.Prelude.{◌⊎◌, All, Result, Ok, Err, OnOk}
 use Rattle.std.proofs.Math.Seq.{map-set_same}
 use Rattle.std.proofs.lemmas.Bool.{cases_eq, cases_lt}
-use Rattle.std.proofs.lemmas.List.Elements.{All-contains}
 use Rattle.std.proofs.lemmas.List.{get_or_default, get_or-map, length-map, get_or-set_same, get_or-set_other, length-set, get_or-take, length-take}
-use Rattle.dart_types.specs.Same.{same_class}
-use Rattle.dart_types.specs.Tables.{Table, class_of, depth_of}
+use Rattle.dart_types.specs.Tables.{Table, class_of}
 use Rattle.dart_types.specs.WellFormed.{IsWellFormed}
-use Rattle.dart_types.specs.Ty.{Ty}
-use Rattle.dart_types.specs.Sizes.{size_of}
-use Rattle.dart_types.specs.Superinterfaces.{interface_of, AreSuperinterfaces}
-use Rattle.dart_types.specs.RowsCause.{FitBelow}
+use Rattle.dart_types.specs.Superinterfaces.{AreSuperinterfaces}
 use Rattle.dart_types.specs.FormedProp.{IsWellFormed-prop}
 use Rattle.dart_types.specs.FormedTable.{FormedTable}
 use Rattle.dart_types.specs.Entries.{table_of, among, AreAmong, AreBeside}
 use Rattle.dart_types.specs.Joined.{joined}
 use Rattle.dart_types.specs.Gathering.{AreKnownBelow, AreKnownTo}
-use Rattle.dart_types.specs.declared.ids.ClassId.{ClassId}
 use Rattle.dart_types.specs.declared.class_rows.ClassRow.{ClassRow}
 use Rattle.dart_types.specs.declared.class_rows.VarRow.{VarRow}
 use Rattle.dart_types.specs.declared.entries.ClassEntry.{ClassEntry}
-use Rattle.dart_types.specs.declared.superinterfaces.Superinterface.{Superinterface}
-use Rattle.dart_types.specs.declared.refusal.TheConstants.{NODE_LIMIT}
-use Rattle.dart_types.proofs.EntryLemmas.{find-map}
-use Rattle.dart_types.proofs.Formed.{found_in, from_mapped}
-use Rattle.dart_types.proofs.Joined.{own_found, class_found}
-use Rattle.dart_types.proofs.SameIds.{equal_from_same_class}
-use Rattle.dart_types.proofs.Wider.{some_of}
-
--- an element's image stands among the images
-pub Contains-map : {X Y : Type 0} (f : X → Y) (xs : List X) (x : X) → Contains xs x → Contains (map f xs) (f x)
-Contains-map f xs x i = (i.0, rw (length-map xs f) i.1, get_or-map f xs i.0 x (f x) i.1 ∙ ap f i.2)
+pub use Rattle.dart_types.proofs.Lists.{Contains-map}
+use Rattle.dart_types.proofs.Joined.{class_found}
 
 abbrev pub row_of : ClassEntry → ClassRow
 row_of entry = entry.row
@@ -150,21 +135,6 @@ all_known table entries before vars top same greatest known k d lt =
 pub on_both : {T E : Type 0} {A B C : Type 0} (r : Result T E) → OnOk r A → OnOk r B → (A → B → C) → OnOk r C
 on_both (Ok v) a b f = f a b
 on_both (Err e) a b f = tt
-
--- own superinterfaces that are known are within the limit
-pub known_fit : (below : Table) (entries : List ClassEntry) (vars : List VarRow) → AreAmong below (table_of entries vars) → (depth : ℕ) → AreKnownBelow depth (among below entries vars) entries → FitBelow (among below entries vars) (table_of entries vars) depth
-known_fit below entries vars wf depth known c v own h lt =
-    let table = among below entries vars in
-    let row = some_of (class_of (table_of entries vars) c) own in
-    let found = from_mapped row_of (find (λ (e : ClassEntry). same_class e.row.id c) entries) row.0 (sym (find-map row_of (λ (r : ClassRow). same_class r.id c) entries) ∙ row.1) in
-    let there = found_in (λ (e : ClassEntry). same_class e.row.id c) entries found.0 found.1 in
-    let is : found.0.row.id ≡ c = equal_from_same_class found.0.row.id c there.1 in
-    let here : class_of table found.0.row.id ≡ Some found.0.row = own_found below (table_of entries vars) wf.formed found.0.row (Contains-map row_of entries found.0 there.0) in
-    let depth_is : depth_of table c ≡ found.0.row.depth = subst (λ (d : ClassId). depth_of table d ≡ found.0.row.depth) is (rw here refl) in
-    let beside = All-contains (λ (k : ClassEntry). k.row.depth < depth → AreSuperinterfaces table k.row.id k.superinterfaces.items) entries found.0 known there.0 (omega (arith, lt, depth_is)) in
-    let list = subst (λ (d : ClassId). AreSuperinterfaces table d found.0.superinterfaces.items) is beside in
-    let s = list.every v h in
-    subst (λ (t : Ty). size_of t ≤ NODE_LIMIT) s.2 (All-contains (λ (k : Superinterface). size_of (interface_of k) ≤ NODE_LIMIT) found.0.superinterfaces.items s.0 list.within_limit s.1)
 
 abbrev formed_table : (t : Table) → IsWellFormed t → FormedTable
 formed_table t f = record { table = t; formed = f }

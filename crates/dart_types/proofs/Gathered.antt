@@ -1,23 +1,21 @@
 -- Lists that grow, in the order of classes.
-use Rattle.std.proofs.Common.{◌≡◌, ℕ, zero, suc, ◌+◌, ◌-◌, ◌<◌, ◌≤◌, Bool, true, false, List, [], ◌∷◌, length, take, drop, get_or, refl, sym, ◌∙◌, ap, subst, cond, arith, inl, inr}
-use Rattle.std.specs.Prelude.{◌≢◌, AllPairs, ◌⊎◌, ◌&&◌, ◌||◌, nat_lt, nat_eq, Contains, All, Result, Ok, Err, OnOk, IfErr, IsErrAnd}
+use Rattle.std.proofs.Common.{◌≡◌, ℕ, zero, suc, ◌+◌, ◌-◌, ◌<◌, ◌≤◌, Bool, true, false, List, [], ◌∷◌, length, take, drop, get_or, Option, None, Some, refl, sym, ◌∙◌, ap, subst, cond, arith, inl, inr}
+use Rattle.std.specs.Prelude.{◌≢◌, AllPairs, ◌⊎◌, ◌&&◌, ◌||◌, nat_lt, nat_eq, Contains, All, Result, Ok, Err, OnOk}
 use Rattle.std.proofs.lemmas.Bool.Decides.{nat_tests}
 use Rattle.std.specs.List.{AllWithin, filter, insert}
 use Rattle.std.specs.List.Sorted.{IsPartitionPoint}
 use Rattle.std.proofs.lemmas.Bool.{cases_lt}
 use Rattle.std.proofs.lemmas.List.{get_or_default, take-append-drop}
 use Rattle.std.proofs.lemmas.List.Edits.{get_or-insert_at, get_or-insert_below, get_or-insert_above, length-insert}
-use Rattle.std.proofs.lemmas.List.Elements.{All-contains, Contains-append_left, Contains-append_right, Contains-append_cases}
+use Rattle.std.proofs.lemmas.List.Elements.{Contains-append_left, Contains-append_right, Contains-append_cases}
 use Rattle.dart_types.specs.Ty.{Ty}
-use Rattle.dart_types.specs.Sizes.{size_of}
 use Rattle.dart_types.specs.Superinterfaces.{interface_of, AreOrdered}
 use Rattle.dart_types.specs.WellFormed.{class_before}
-use Rattle.dart_types.specs.Gathering.{Adds, StandOnce, IsCauseAmong}
+use Rattle.dart_types.specs.Sizes.{size_of}
+use Rattle.dart_types.specs.Gathering.{Adds, StandOnce, IsFormedWithin}
 use Rattle.dart_types.specs.declared.ids.ClassId.{ClassId}
 use Rattle.dart_types.specs.declared.superinterfaces.Superinterface.{Superinterface}
 use Rattle.dart_types.specs.declared.refusal.TheConstants.{NODE_LIMIT}
-use Rattle.dart_types.specs.declared.refusal.RowsRefusal.{RowsRefusal}
-use Rattle.dart_types.specs.declared.refusal.RowsRefusal.TheVariants.{TooLarge, Memory}
 use Rattle.dart_types.proofs.SameIds.{nat_eq-refl}
 use Rattle.dart_types.proofs.Searches.{before_trans}
 
@@ -139,22 +137,17 @@ adds_known xs x i = record {
   no_other = λ s k. inl k;
   in_order = λ o. o;
   once = λ o. o;
-  fitting = λ f. f;
 }
 
 -- one that is put in is what is added
-pub adds_inserted : (xs : List Superinterface) (at : ℕ) (x : Superinterface) → at ≤ length xs → AllWithin (λ (s : Superinterface). class_before x.class s.class ≡ false) xs 0 at → AllWithin (λ (s : Superinterface). class_before x.class s.class ≡ true) xs at (length xs) → size_of (interface_of x) ≤ NODE_LIMIT → (Contains xs x → ⊥) → Adds (λ t. t ≡ interface_of x) xs (insert xs at x)
-adds_inserted xs at x le low high fits new = record {
+pub adds_inserted : (xs : List Superinterface) (at : ℕ) (x : Superinterface) → at ≤ length xs → AllWithin (λ (s : Superinterface). class_before x.class s.class ≡ false) xs 0 at → AllWithin (λ (s : Superinterface). class_before x.class s.class ≡ true) xs at (length xs) → (Contains xs x → ⊥) → Adds (λ t. t ≡ interface_of x) xs (insert xs at x)
+adds_inserted xs at x le low high new = record {
   kept = kept_in xs at x;
   added = λ t e. (x, inserted_in xs at x, sym e);
   no_other = λ s i. elim (only_in xs at x s i) as (λ _. Contains xs s ⊎ (interface_of s ≡ interface_of x)) [ inl k ↦ inl k | inr e ↦ inr (ap interface_of (sym e)) ];
   in_order = λ order. ordered_insert xs at x le low high order;
   once = λ o. once_insert xs at x le new o;
-  fitting = λ f. all_from Fits (insert xs at x) (λ s i. elim (only_in xs at x s i) as (λ _. Fits s) [ inl k ↦ All-contains Fits xs s f k | inr e ↦ subst Fits e fits ]);
 }
-  where
-    Fits : Superinterface → Type 0
-    Fits s = size_of (interface_of s) ≤ NODE_LIMIT
 
 -- nothing is added
 pub adds_nothing : (P : Ty → Type 0) (xs : List Superinterface) → ((t : Ty) → P t → ⊥) → Adds P xs xs
@@ -164,7 +157,6 @@ adds_nothing P xs none = record {
   no_other = λ s i. inl i;
   in_order = λ o. o;
   once = λ o. o;
-  fitting = λ f. f;
 }
 
 -- what is added first and what is added then
@@ -178,7 +170,6 @@ adds_both P Q R a b c f g split join = record {
   ];
   in_order = λ o. g.in_order (f.in_order o);
   once = λ o. g.once (f.once o);
-  fitting = λ o. g.fitting (f.fitting o);
 }
 
 -- the same types said otherwise
@@ -189,13 +180,7 @@ adds_same P Q a b f to from = record {
   no_other = λ s i. elim (f.no_other s i) as (λ _. Contains a s ⊎ Q (interface_of s)) [ inl k ↦ inl k | inr p ↦ inr (from (interface_of s) p) ];
   in_order = f.in_order;
   once = f.once;
-  fitting = f.fitting;
 }
-
--- a cause among some types is one among more
-pub cause_among : (P Q : Ty → Type 0) (c : ClassId) (r : RowsRefusal) → ((t : Ty) → P t → Q t) → IsCauseAmong P c r → IsCauseAmong Q c r
-cause_among P Q c (TooLarge class nodes) to h = (h.0, (h.1.0, to h.1.0 h.1.1, h.1.2, h.1.3))
-cause_among P Q c Memory to h = h
 
 -- what the elements of a list want, and what the first of them do
 abbrev pub Among : {X : Type 0} → (X → Ty → Type 0) → List X → Ty → Type 0
@@ -237,16 +222,17 @@ abbrev pub IsPlace : Superinterface → List Superinterface → ℕ → Type 0
 IsPlace x xs at =
     (at ≤ length xs) × IsPartitionPoint (λ (s : Superinterface). class_before x.class s.class ≡ false) (λ (s : Superinterface). class_before x.class s.class ≡ true) xs at
 
--- a refusal that is handed on has what the first had
-pub handed_on : {T : Type 0} (P : RowsRefusal → Type 0) (r : Result T RowsRefusal) (refusal : RowsRefusal) → IsErrAnd r (λ e. e ≡ refusal) → P refusal → IfErr r P
-handed_on P (Ok v) refusal h p = tt
-handed_on P (Err e) refusal h p = subst P (sym h) p
-
 -- what a call ensures, said otherwise
 pub on_ok : {T E : Type 0} {A B : Type 0} (r : Result T E) → OnOk r A → (A → B) → OnOk r B
 on_ok (Ok v) a f = f a
 on_ok (Err e) a f = tt
 
-pub if_err : {T E : Type 0} {P Q : E → Type 0} (r : Result T E) → IfErr r P → ((e : E) → P e → Q e) → IfErr r Q
-if_err (Ok v) p f = tt
-if_err (Err e) p f = f e p
+-- what is put into the list where it isn't too large
+pub adds_within : (t : Ty) (o : Option Superinterface) (a b : List Superinterface) → IsFormedWithin t o → ((s : Superinterface) → o ≡ Some s → Adds (λ u. u ≡ interface_of s) a b) → (o ≡ None → a ≡ b) → Adds (λ u. (u ≡ t) × (size_of u ≤ NODE_LIMIT)) a b
+adds_within t None a b large some none =
+    subst (λ (xs : List Superinterface). Adds (λ u. (u ≡ t) × (size_of u ≤ NODE_LIMIT)) a xs) (none refl)
+    (adds_nothing (λ u. (u ≡ t) × (size_of u ≤ NODE_LIMIT)) a (λ u h. let e : size_of u ≡ size_of t = ap size_of h.0 in absurd (omega (arith, e, large, h.1))))
+adds_within t (Some s) a b formed some none =
+    adds_same (λ u. u ≡ interface_of s) (λ u. (u ≡ t) × (size_of u ≤ NODE_LIMIT)) a b (some s refl)
+    (λ u h. h.0 ∙ sym formed.0)
+    (λ u e. let is = e ∙ formed.0 in (is, let k : size_of u ≡ size_of t = ap size_of is in omega (arith, k, formed.1)))

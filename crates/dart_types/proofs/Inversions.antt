@@ -1,18 +1,16 @@
 -- The rules read backwards, as the test of subtyping goes through them.
-use Rattle.std.proofs.Common.{◌≡◌, Bool, true, false, List, Some, refl, sym, subst, inl, inr}
+use Rattle.std.proofs.Common.{◌≡◌, Bool, true, false, Some, refl, sym, subst, inl, inr}
 use Rattle.std.specs.Prelude.{◌⊎◌}
 use Rattle.dart_types.specs.Ty.{Ty, Types, invalid, never, void, null, interface, function, variable, promoted, nullable}
 use Rattle.dart_types.specs.Heads.{object, is_object, is_top, is_plain}
-use Rattle.dart_types.specs.Substitution.{put, by_params}
 use Rattle.dart_types.specs.Tables.{Table, bound_of}
 use Rattle.dart_types.specs.Targets.{is_bare_target, or_nullable}
-use Rattle.dart_types.specs.WellFormed.{IsSupertype, IsWellFormed}
+use Rattle.dart_types.specs.WellFormed.{IsWellFormed}
 use Rattle.dart_types.specs.Sub.{Sub, reflexivity, right_top, left_bottom, left_null, right_object, left_nullable, right_nullable, left_promoted_variable, left_promoted_type, right_promoted, left_variable_bound, interface_arguments, super_interface, function_class, left_top}
 use Rattle.dart_types.specs.declared.ids.ClassId.{ClassId}
 use Rattle.dart_types.specs.declared.ids.VarId.{VarId}
-use Rattle.dart_types.proofs.Formed.{formed_super, object_has_none}
+use Rattle.dart_types.proofs.Supers.{object_inherits}
 use Rattle.dart_types.proofs.Above.{nullable_bare, nullable_null, void_top, object_args, class_of_object}
-use Rattle.dart_types.proofs.Transitive.{trans}
 
 -- a type that is bare is no top type
 pub bare_not_top : (t : Ty) → is_bare_target t ≡ true → is_top t ≡ true → ⊥
@@ -38,7 +36,6 @@ module _ (table : Table) where
   promoted_parts (left_promoted_type a) = let p = promoted_parts a in (left_promoted_type p.0, left_promoted_type p.1)
   promoted_parts (right_promoted a b) = (a, b)
   promoted_parts (left_variable_bound b e a) = let p = promoted_parts a in (left_variable_bound b e p.0, left_variable_bound b e p.1)
-  promoted_parts (super_interface row r v i k a) = let p = promoted_parts a in (super_interface row r v i k p.0, super_interface row r v i k p.1)
   promoted_parts (function_class e) = cc
   promoted_parts (left_top a) = let p = promoted_parts a in (left_top p.0, left_top p.1)
 
@@ -166,18 +163,18 @@ module _ (table : Table) where
   -- a second `?` adds nothing
   module _ (wf : IsWellFormed table) where
     pub nullable_twice : {s u : Ty} → Sub table s (nullable (nullable u)) → Sub table s (nullable u)
-    nullable_twice {s} {u} a = trans table wf (nullable (nullable u)) s (nullable u) a (left_nullable reflexivity left_null)
-
-    plain_super : (params : List VarId) (σ : VarId → Ty) (v : Ty) → IsSupertype params v → is_plain (put σ v) ≡ true
-    plain_super params σ invalid i = absurd i
-    plain_super params σ never i = absurd i
-    plain_super params σ void i = absurd i
-    plain_super params σ null i = absurd i
-    plain_super params σ (interface c ts) i = refl
-    plain_super params σ (function r o n e) i = absurd i
-    plain_super params σ (variable x) i = absurd i
-    plain_super params σ (promoted x t) i = absurd i
-    plain_super params σ (nullable t) i = absurd i
+    nullable_twice reflexivity = left_nullable reflexivity left_null
+    nullable_twice (right_top e) = cc
+    nullable_twice left_bottom = left_bottom
+    nullable_twice left_null = left_null
+    nullable_twice (right_object e p) = cc
+    nullable_twice (left_nullable a b) = left_nullable (nullable_twice a) (nullable_twice b)
+    nullable_twice (right_nullable a) = a
+    nullable_twice (left_promoted_variable a) = left_promoted_variable (nullable_twice a)
+    nullable_twice (left_promoted_type a) = left_promoted_type (nullable_twice a)
+    nullable_twice (left_variable_bound b e a) = left_variable_bound b e (nullable_twice a)
+    nullable_twice (function_class e) = cc
+    nullable_twice (left_top a) = left_top (nullable_twice a)
 
     -- an interface or a function type is a subtype of `T?` only where it is one of T
     pub plain_nullable : {s u : Ty} → Sub table s (nullable u) → is_plain s ≡ true → Sub table s u
@@ -191,7 +188,6 @@ module _ (table : Table) where
     plain_nullable (left_promoted_variable a) p = cc
     plain_nullable (left_promoted_type a) p = cc
     plain_nullable (left_variable_bound b e a) p = cc
-    plain_nullable (super_interface {c = c} {ss = ss} row r v i k a) p = super_interface row r v i k (plain_nullable a (plain_super row.params (by_params row.params ss) v (formed_super table wf c row v r i).0))
     plain_nullable (function_class e) p = cc
     plain_nullable (left_top a) p = cc
 
@@ -209,7 +205,6 @@ module _ (table : Table) where
     plain_var (left_promoted_variable a) p = cc
     plain_var (left_promoted_type a) p = cc
     plain_var (left_variable_bound b e a) p = cc
-    plain_var (super_interface {c = c} {ss = ss} row r v i k a) p = plain_var a (plain_super row.params (by_params row.params ss) v (formed_super table wf c row v r i).0)
     plain_var (function_class e) p = cc
     plain_var (left_top a) p = cc
 
@@ -224,7 +219,7 @@ module _ (table : Table) where
     object_only (right_nullable a) o h = cc
     object_only (right_promoted a b) o h = cc
     object_only (interface_arguments {c = c} a) o h = object_args table c a o
-    object_only (super_interface {c = c} {ss = ss} row r v i k a) o h = absurd (object_has_none table wf c row v r (class_of_object c ss o) i)
+    object_only (super_interface {c = c} {ss = ss} row r n k a) o h = object_inherits table wf (class_of_object c ss o) k.0
 
     -- void on the left
     object_bare : {t : Ty} → Sub table (nullable object) t → is_bare_target t ≡ true → ⊥

@@ -6,6 +6,10 @@ pub mod SameType
 pub mod SameLists
 pub mod Formed
 pub mod NamedParams
+pub mod Lists
+pub mod Supers
+pub mod Descents
+pub mod Keeping
 pub mod Above
 pub mod Transitive
 pub mod NormalForms
@@ -23,7 +27,6 @@ pub mod Replacing
 pub mod Frames
 pub mod Names
 pub mod Gathered
-pub mod Descents
 pub mod Giving
 pub mod Places
 pub mod Steps
@@ -44,3 +47,5 @@ pub mod Merged
 pub mod Found
 pub mod Extended
 pub mod HeadTests
+pub mod KeptOf
+pub mod TooLarge

@@ -11,8 +11,8 @@ use Rattle.dart_types.specs.Measure.{VarMeasure, weight, weights, deep, deeps, h
 use Rattle.dart_types.specs.declared.ids.ClassId.{ClassId}
 use Rattle.dart_types.specs.declared.ids.VarId.{VarId}
 use Rattle.dart_types.specs.declared.class_rows.ClassRow.{ClassRow}
+use Rattle.dart_types.proofs.Supers.{super_simple}
 use Rattle.dart_types.proofs.Formed.{found_in, formed_bound, formed_super, super_depth}
-use Rattle.dart_types.proofs.Transitive.{super_simple}
 use Rattle.dart_types.proofs.MeasureBounds.{most_ge, bound_le, bound_deepness, weight_local, heavy_local}
 
 mul_mono : (a b c : ℕ) → a ≤ b → a * c ≤ b * c
@@ -321,7 +321,7 @@ module _ (table : Table) (wf : IsWellFormed table) where
       (less_rank (step_of table) (deepness_of table (interface c ss)) (deepness_of table (put (by_params row.params ss) v)) (depth_of table c) (rank_of table (put (by_params row.params ss) v)) deeper (higher v (formed_super table wf c row v r i).0 (super_depth table wf c row v r i)))
     where
       simple : IsSimple row.params v
-      simple = super_simple table row.params v (formed_super table wf c row v r i).0
+      simple = super_simple row.params v (formed_super table wf c row v r i).0
 
       heavier : heaviest_of table (put (by_params row.params ss) v) ≤ heaviest_of table (interface c ss)
       heavier = heavy_put W (of_var (heavy W) table) row.params ss k v simple

@@ -1,5 +1,5 @@
 -- Rows of libraries that were put among others: they are well formed, and beside each class stand its superinterfaces.
-use Rattle.std.proofs.Common.{◌≡◌, ℕ, zero, suc, true, List, [], ◌∷◌, map, get_or, refl, sym, ◌∙◌, subst, arith, inl, inr}
+use Rattle.std.proofs.Common.{◌≡◌, ℕ, true, List, [], ◌∷◌, map, get_or, sym, ◌∙◌, subst, arith, inl, inr}
 use Rattle.std.specs.Prelude.{◌⊎◌, AllPairs, Contains}
 use Rattle.std.proofs.lemmas.List.{get_or-map, length-map}
 use Rattle.std.proofs.lemmas.List.Elements.{All-contains}
@@ -20,14 +20,9 @@ use Rattle.dart_types.proofs.Filled.{row_of, Contains-map}
 use Rattle.dart_types.proofs.Gathered.{all_from}
 use Rattle.dart_types.proofs.Groups.{merged_apart, merged_from, merged_left, merged_right, merged_order, in_all}
 use Rattle.dart_types.proofs.Joined.{wider_from, class_found}
+pub use Rattle.dart_types.proofs.Lists.{from_map}
 use Rattle.dart_types.proofs.Searches.{before_from}
 use Rattle.dart_types.proofs.Wider.{IsWider, class_wider, var_wider, list_wider}
-
--- what stands among the images is the image of an element
-pub from_map : {X Y : Type 0} (f : X → Y) (xs : List X) (y : Y) → Contains (map f xs) y → (x : X) × Contains xs x × (f x ≡ y)
-from_map f [] y i = absurd (omega (arith, i.1))
-from_map f (x ∷ xs) y (zero, lt, e) = (x, (0, omega arith, refl), e)
-from_map f (x ∷ xs) y (suc k, lt, e) = let r = from_map f xs y (k, omega arith, e) in (r.0, (suc r.1.0, omega (arith, r.1.1), r.1.2), r.2)
 
 -- what holds of all pairs holds of the pairs of their images
 pub map-pairs : {X Y : Type 0} (f : X → Y) (R : Y → Y → Type 0) (xs : List X) → AllPairs (λ (a b : X). R (f a) (f b)) xs → AllPairs R (map f xs)

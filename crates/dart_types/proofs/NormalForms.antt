@@ -5,10 +5,9 @@ use Rattle.dart_types.specs.Ty.{Ty, Types, Named, invalid, never, void, null, in
 use Rattle.dart_types.specs.Normal.{nullable_of, normal, normal_all, normal_named}
 use Rattle.dart_types.specs.Tables.{Table}
 use Rattle.dart_types.specs.WellFormed.{IsWellFormed}
-use Rattle.dart_types.specs.Sub.{Sub, Subs, SubParams, SubNamed, HasNamed, first, later, is_required, reflexivity, right_top, left_bottom, left_null, left_nullable, right_nullable, left_promoted_variable, left_promoted_type, right_promoted, interface_arguments, function_types, none_left, one_left, no_param, one_param, no_name, one_name}
+use Rattle.dart_types.specs.Sub.{Sub, Subs, SubParams, SubNamed, HasNamed, first, later, is_required, reflexivity, right_top, left_bottom, left_null, right_object, left_nullable, right_nullable, left_promoted_variable, left_promoted_type, right_promoted, left_variable_bound, interface_arguments, function_class, function_types, left_top, none_left, one_left, no_param, one_param, no_name, one_name}
 use Rattle.dart_types.specs.declared.ids.VarId.{VarId}
 use Rattle.dart_types.proofs.NamedParams.{required_from}
-use Rattle.dart_types.proofs.Transitive.{trans}
 
 -- what `?` makes of a normal form is one
 settled_nullable : (t : Ty) → normal t ≡ t → normal (nullable_of t) ≡ nullable_of t
@@ -65,31 +64,41 @@ has_normal first = first
 has_normal (later h) = later (has_normal h)
 
 module _ (table : Table) (wf : IsWellFormed table) where
-  -- `T?` and its normal form, of a T in normal form
-  nullable_below : (t : Ty) → Sub table (nullable t) (nullable_of t)
-  nullable_below invalid = reflexivity
-  nullable_below never = left_nullable left_bottom reflexivity
-  nullable_below void = right_top refl
-  nullable_below null = left_nullable reflexivity reflexivity
-  nullable_below (interface c ts) = reflexivity
-  nullable_below (function r o n e) = reflexivity
-  nullable_below (variable x) = reflexivity
-  nullable_below (promoted x t) = reflexivity
-  nullable_below (nullable t) = left_nullable reflexivity left_null
+  -- what Never is above, every type is above
+  never_any : {t : Ty} (u : Ty) → Sub table t never → Sub table t u
+  never_any u reflexivity = left_bottom
+  never_any u (right_top e) = cc
+  never_any u left_bottom = left_bottom
+  never_any u (right_object e p) = cc
+  never_any u (left_nullable a b) = left_nullable (never_any u a) (never_any u b)
+  never_any u (left_promoted_variable a) = left_promoted_variable (never_any u a)
+  never_any u (left_promoted_type a) = left_promoted_type (never_any u a)
+  never_any u (left_variable_bound b e a) = left_variable_bound b e (never_any u a)
+  never_any u (function_class e) = cc
+  never_any u (left_top a) = left_top (never_any u a)
 
-  nullable_above : (t : Ty) → Sub table (nullable_of t) (nullable t)
-  nullable_above invalid = reflexivity
-  nullable_above never = left_null
-  nullable_above void = right_nullable reflexivity
-  nullable_above null = left_null
-  nullable_above (interface c ts) = reflexivity
-  nullable_above (function r o n e) = reflexivity
-  nullable_above (variable x) = reflexivity
-  nullable_above (promoted x t) = reflexivity
-  nullable_above (nullable t) = right_nullable reflexivity
+  -- `T?` is below the normal form of `U?` where T is below U, which is in normal form, and above it where T is above U
+  nullable_below : {t : Ty} (u : Ty) → Sub table t u → Sub table (nullable t) (nullable_of u)
+  nullable_below invalid a = left_nullable (right_nullable a) left_null
+  nullable_below never a = left_nullable (never_any null a) reflexivity
+  nullable_below void a = right_top refl
+  nullable_below null a = left_nullable a reflexivity
+  nullable_below (interface c ts) a = left_nullable (right_nullable a) left_null
+  nullable_below (function r o n e) a = left_nullable (right_nullable a) left_null
+  nullable_below (variable x) a = left_nullable (right_nullable a) left_null
+  nullable_below (promoted x u) a = left_nullable (right_nullable a) left_null
+  nullable_below (nullable u) a = left_nullable a left_null
 
-  under_nullable : {s t : Ty} → Sub table s t → Sub table (nullable s) (nullable t)
-  under_nullable a = left_nullable (right_nullable a) left_null
+  nullable_above : {t : Ty} (u : Ty) → Sub table u t → Sub table (nullable_of u) (nullable t)
+  nullable_above invalid a = left_nullable (right_nullable a) left_null
+  nullable_above never a = left_null
+  nullable_above void a = right_nullable a
+  nullable_above null a = left_null
+  nullable_above (interface c ts) a = left_nullable (right_nullable a) left_null
+  nullable_above (function r o n e) a = left_nullable (right_nullable a) left_null
+  nullable_above (variable x) a = left_nullable (right_nullable a) left_null
+  nullable_above (promoted x u) a = left_nullable (right_nullable a) left_null
+  nullable_above (nullable u) a = right_nullable a
 
   under_promoted : {x : VarId} {s t : Ty} → Sub table s t → Sub table (promoted x s) (promoted x t)
   under_promoted a = right_promoted (left_promoted_variable reflexivity) (left_promoted_type a)
@@ -164,10 +173,7 @@ module _ (table : Table) (wf : IsWellFormed table) where
     )
     settles (variable x) = (reflexivity, reflexivity)
     settles (promoted x t) = (under_promoted (settles t).0, under_promoted (settles t).1)
-    settles (nullable t) = (
-      trans table wf (nullable (normal t)) (nullable t) (nullable_of (normal t)) (under_nullable (settles t).0) (nullable_below (normal t)),
-      trans table wf (nullable (normal t)) (nullable_of (normal t)) (nullable t) (nullable_above (normal t)) (under_nullable (settles t).1),
-    )
+    settles (nullable t) = (nullable_below (normal t) (settles t).0, nullable_above (normal t) (settles t).1)
 
     all_settle : (ts : Types) → AllSettle ts
     all_settle no_more = tt
@@ -176,3 +182,7 @@ module _ (table : Table) (wf : IsWellFormed table) where
     named_settle : (ns : Named) → NamedSettle ns
     named_settle no_named = tt
     named_settle (more_named n r t ts) = (settles t, named_settle ts)
+
+  -- types are subtypes of their normal forms, pair by pair
+  pub settle_below : (ts : Types) → Subs table ts (normal_all ts)
+  settle_below ts = all_below ts (all_settle ts)

@@ -1,15 +1,15 @@
 -- Types put in before and after normal forms are taken.
-use Rattle.std.proofs.Common.{◌≡◌, ◌≤◌, ◌+◌, List, refl, ◌∙◌, ap, subst, arith}
+use Rattle.std.proofs.Common.{◌≡◌, ◌≤◌, ◌+◌, List, refl, ◌∙◌, ap, arith}
 use Rattle.dart_types.specs.Ty.{Ty, Types, Named, invalid, never, void, null, interface, function, variable, promoted, nullable, no_more, more, no_named, more_named}
 use Rattle.dart_types.specs.Substitution.{put, put_all, put_named}
 use Rattle.dart_types.specs.Normal.{nullable_of, normal, normal_all, normal_named}
 use Rattle.dart_types.specs.Tables.{Table}
 use Rattle.dart_types.specs.WellFormed.{IsSimple, AreSimple, IsWellFormed}
 use Rattle.dart_types.specs.Measure.{VarMeasure, deep, deeps, heavy, heavies}
-use Rattle.dart_types.specs.Sub.{Sub, Subs, none_left, one_left}
+use Rattle.dart_types.specs.Sub.{Sub, reflexivity, left_bottom, left_nullable}
 use Rattle.dart_types.specs.declared.ids.VarId.{VarId}
-use Rattle.dart_types.proofs.NormalForms.{settles}
-use Rattle.dart_types.proofs.Transitive.{trans}
+use Rattle.dart_types.proofs.Above.{nullable_bare, nullable_null, above_top}
+use Rattle.dart_types.proofs.Transitive.{Moves, MovesAll, keep, step, in_nullable, in_interface, no_moves, one_move, moved}
 
 -- `?` on a normal form of a type, with σ put in, has the normal form of `?` on the type with σ put in
 nullable_put : (σ : VarId → Ty) (u : Ty) → normal (put σ (nullable_of u)) ≡ nullable_of (normal (put σ u))
@@ -61,25 +61,65 @@ mutual
   normal_named-put_named-normal_named σ (more_named n r t ts) = let a = normal-put-normal σ t in let b = normal_named-put_named-normal_named σ ts in cc
 
 module _ (table : Table) (wf : IsWellFormed table) (σ : VarId → Ty) where
-  -- a normal form with σ put in and the type with σ put in are subtypes of each other
-  pub put_normal_below : (t : Ty) → Sub table (put σ (normal t)) (put σ t)
-  put_normal_below t =
-      trans table wf (normal (put σ t)) (put σ (normal t)) (put σ t)
-      (subst (λ (u : Ty). Sub table (put σ (normal t)) u) (normal-put-normal σ t) (settles table wf (put σ (normal t))).0)
-      (settles table wf (put σ t)).1
+  -- what is above t is above s
+  by : {s t : Ty} → ((u : Ty) → Sub table t u → Sub table s u) → Moves table s t
+  by {t = t} go = step (go t reflexivity) go
 
-  pub put_normal_above : (t : Ty) → Sub table (put σ t) (put σ (normal t))
-  put_normal_above t =
-      trans table wf (normal (put σ t)) (put σ t) (put σ (normal t)) (settles table wf (put σ t)).0
-      (subst (λ (u : Ty). Sub table u (put σ (normal t))) (normal-put-normal σ t) (settles table wf (put σ (normal t))).1)
+  -- `T?` where T moves to U, which is in normal form, with σ put in
+  mark_to : {t : Ty} (u : Ty) → Moves table t (put σ u) → Moves table (nullable t) (put σ (nullable_of u))
+  mark_to invalid m = in_nullable m
+  mark_to never m = by (λ u h. left_nullable (moved table wf m left_bottom) h)
+  mark_to void m = by (λ u h. left_nullable (moved table wf m h) (above_top table wf h refl null))
+  mark_to null m = by (λ u h. left_nullable (moved table wf m h) h)
+  mark_to (interface c ts) m = in_nullable m
+  mark_to (function r o n e) m = in_nullable m
+  mark_to (variable x) m = in_nullable m
+  mark_to (promoted x u) m = in_nullable m
+  mark_to (nullable u) m = by (λ v h. left_nullable (moved table wf m h) (nullable_null table h))
 
-  pub put_all_normal_below : (ts : Types) → Subs table (put_all σ (normal_all ts)) (put_all σ ts)
-  put_all_normal_below no_more = none_left
-  put_all_normal_below (more t ts) = one_left (put_normal_below t) (put_all_normal_below ts)
+  mark_from : {t : Ty} (u : Ty) → Moves table (put σ u) t → Moves table (put σ (nullable_of u)) (nullable t)
+  mark_from invalid m = in_nullable m
+  mark_from never m = by (λ u h. nullable_null table h)
+  mark_from void m = by (λ u h. moved table wf m (nullable_bare table h))
+  mark_from null m = by (λ u h. nullable_null table h)
+  mark_from (interface c ts) m = in_nullable m
+  mark_from (function r o n e) m = in_nullable m
+  mark_from (variable x) m = in_nullable m
+  mark_from (promoted x u) m = in_nullable m
+  mark_from (nullable u) m = by (λ v h. moved table wf m (nullable_bare table h))
 
-  pub put_all_normal_above : (ts : Types) → Subs table (put_all σ ts) (put_all σ (normal_all ts))
-  put_all_normal_above no_more = none_left
-  put_all_normal_above (more t ts) = one_left (put_normal_above t) (put_all_normal_above ts)
+  -- a simple type with σ put in moves to its normal form with σ put in, and back
+  mutual
+    to_normal : (vars : List VarId) (t : Ty) → IsSimple vars t → Moves table (put σ t) (put σ (normal t))
+    to_normal vars invalid i = keep
+    to_normal vars never i = keep
+    to_normal vars void i = keep
+    to_normal vars null i = keep
+    to_normal vars (interface c ts) i = in_interface (all_to_normal vars ts i)
+    to_normal vars (function r o n e) i = absurd i
+    to_normal vars (variable x) i = keep
+    to_normal vars (promoted x t) i = absurd i
+    to_normal vars (nullable t) i = mark_to (normal t) (to_normal vars t i)
+
+    pub all_to_normal : (vars : List VarId) (ts : Types) → AreSimple vars ts → MovesAll table (put_all σ ts) (put_all σ (normal_all ts))
+    all_to_normal vars no_more i = no_moves
+    all_to_normal vars (more t ts) i = one_move (to_normal vars t i.0) (all_to_normal vars ts i.1)
+
+  mutual
+    from_normal : (vars : List VarId) (t : Ty) → IsSimple vars t → Moves table (put σ (normal t)) (put σ t)
+    from_normal vars invalid i = keep
+    from_normal vars never i = keep
+    from_normal vars void i = keep
+    from_normal vars null i = keep
+    from_normal vars (interface c ts) i = in_interface (all_from_normal vars ts i)
+    from_normal vars (function r o n e) i = absurd i
+    from_normal vars (variable x) i = keep
+    from_normal vars (promoted x t) i = absurd i
+    from_normal vars (nullable t) i = mark_from (normal t) (from_normal vars t i)
+
+    pub all_from_normal : (vars : List VarId) (ts : Types) → AreSimple vars ts → MovesAll table (put_all σ (normal_all ts)) (put_all σ ts)
+    all_from_normal vars no_more i = no_moves
+    all_from_normal vars (more t ts) i = one_move (from_normal vars t i.0) (all_from_normal vars ts i.1)
 
 -- the normal form of a simple type, with σ put in, measures no more
 module _ (σ : VarId → Ty) (f : VarMeasure) where

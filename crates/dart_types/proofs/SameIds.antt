@@ -1,5 +1,5 @@
 -- The tests of ids hold just at equal ids.
-use Rattle.std.proofs.Common.{◌≡◌, ℕ, Bool, true, false, nat_eq, refl, arith}
+use Rattle.std.proofs.Common.{◌≡◌, ◌≤◌, ℕ, Bool, true, false, nat_eq, nat_le, refl, arith}
 use Rattle.std.specs.Prelude.{◌&&◌}
 use Rattle.std.proofs.lemmas.Bool.Decides.{nat_tests}
 use Rattle.dart_types.specs.Same.{same_class, same_var}
@@ -16,6 +16,12 @@ nat_from_test m n h = grind (arith, nat_tests)
 
 pub nat_eq-refl : (n : ℕ) → nat_eq n n ≡ true
 nat_eq-refl n = grind (arith, nat_tests)
+
+pub le_from_test : (m n : ℕ) → nat_le m n ≡ true → m ≤ n
+le_from_test m n h = grind (arith, nat_tests)
+
+pub le_test : (m n : ℕ) → m ≤ n → nat_le m n ≡ true
+le_test m n h = grind (arith, nat_tests)
 
 pub equal_from_same_class : (c d : ClassId) → same_class c d ≡ true → c ≡ d
 equal_from_same_class c d h =

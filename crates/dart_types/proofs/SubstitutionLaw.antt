@@ -6,12 +6,13 @@ use Rattle.dart_types.specs.Same.{same_var}
 use Rattle.dart_types.specs.Substitution.{put, put_all, put_named, argument_of, by_params}
 use Rattle.dart_types.specs.Tables.{Table}
 use Rattle.dart_types.specs.WellFormed.{is_among, IsSimple, AreSimple, IsWellFormed}
+use Rattle.dart_types.specs.Superinterfaces.{LeavesNothingOut}
 use Rattle.dart_types.specs.Scope.{IsInScope, AreInScope, AreInScopeNamed, IsWithinBounds}
 use Rattle.dart_types.specs.Sub.{Sub, Subs, SubParams, SubNamed, HasNamed, first, later, reflexivity, right_top, left_bottom, left_null, right_object, left_nullable, right_nullable, left_promoted_variable, left_promoted_type, right_promoted, left_variable_bound, interface_arguments, super_interface, function_class, function_types, left_top, none_left, one_left, no_param, one_param, no_name, one_name}
 use Rattle.dart_types.specs.declared.ids.VarId.{VarId}
-use Rattle.dart_types.proofs.Formed.{formed_super}
-use Rattle.dart_types.proofs.Transitive.{trans, super_simple}
-use Rattle.dart_types.proofs.Substitutes.{count-put_all, put_all-join, put-by_params, object_put, function_class_put, top_put, plain_put, has_put, required_in-put_named}
+use Rattle.dart_types.proofs.Supers.{superinterface_simple, inherited}
+use Rattle.dart_types.proofs.Transitive.{trans}
+use Rattle.dart_types.proofs.Substitutes.{count-put_all, put_all-join, put_all-by_params, object_put, function_class_put, top_put, plain_put, has_put, required_in-put_named}
 
 module _ (scope : List VarId) (σ : VarId → Ty) where
   -- an argument of a class is in scope where all are
@@ -49,7 +50,7 @@ module _ (scope : List VarId) (σ : VarId → Ty) where
   named_in_scope f first = f.0
   named_in_scope f (later h) = named_in_scope f.1 h
 
-  module _ (table : Table) (wf : IsWellFormed table) (within : IsWithinBounds scope σ table) where
+  module _ (table : Table) (wf : IsWellFormed table) (nothing : LeavesNothingOut table) (within : IsWithinBounds scope σ table) where
     mutual
       pub put_sub : {s t : Ty} → Sub table s t → IsInScope scope σ s → IsInScope scope σ t → Sub table (put σ s) (put σ t)
       put_sub reflexivity f g = reflexivity
@@ -63,13 +64,13 @@ module _ (scope : List VarId) (σ : VarId → Ty) where
       put_sub (left_promoted_type a) f g = left_promoted_type (put_sub a f.2 g)
       put_sub {s = s} (right_promoted a b) f g = right_promoted (subst (λ (k : Ty). Sub table (put σ s) k) g.1 (put_sub a f g.0)) (put_sub b f g.2)
       put_sub {t = t} (left_variable_bound {x = x} b e a) f g =
-          trans table wf (put σ b) (σ x) (put σ t) (within.within x b f e) (put_sub a (within.closed x b f e) g)
+          trans table wf nothing (put σ b) (σ x) (put σ t) (within.within x b f e) (put_sub a (within.closed x b f e) g)
       put_sub (interface_arguments a) f g = interface_arguments (put_subs a f g)
-      put_sub {t = t} (super_interface {c = c} {ss = ss} row r v i k a) f g =
-          let simple = super_simple table row.params v (formed_super table wf c row v r i).0 in
-          super_interface row r v i (count-put_all σ ss ∙ k)
-          (subst (λ (l : Ty). Sub table l (put σ t)) (sym (put-by_params σ row.params ss k v simple))
-          (put_sub a (super_in_scope row.params ss k f v simple) g))
+      put_sub (super_interface {ss = ss} {us = us} {ts = ts} row r n k a) f g =
+          let simple = superinterface_simple table wf (inherited table wf k.0) row r in
+          super_interface row r (count-put_all σ ss ∙ n) k
+          (subst (λ (l : Types). Subs table l (put_all σ ts)) (sym (put_all-by_params σ row.params ss n us simple))
+          (put_subs a (supers_in_scope row.params ss n f us simple) g))
       put_sub {t = t} (function_class e) f g = function_class (function_class_put σ t e)
       put_sub (function_types {r = r} {o = o} {r' = r'} {o' = o'} {n = n} {n' = n'} le qs ns h a) f g =
           function_types (omega (arith, count-put_all σ r, count-put_all σ r'))

@@ -1,27 +1,31 @@
 -- Subtyping is transitive.
-use Rattle.std.proofs.Common.{◌≡◌, ℕ, ◌+◌, ◌≤◌, Bool, true, false, List, [], ◌∷◌, refl, ◌∙◌, ap, cond, arith, Some}
+use Rattle.std.proofs.Common.{◌≡◌, ℕ, ◌+◌, ◌≤◌, Bool, true, false, List, [], ◌∷◌, length, refl, ◌∙◌, ap, subst, cond, arith, Some}
 use Rattle.std.specs.Prelude.{unwrap_or}
 use Rattle.dart_types.specs.Ty.{Ty, Types, Named, invalid, never, void, null, interface, function, variable, promoted, nullable, no_more, more, no_named, more_named, count, join}
 use Rattle.dart_types.specs.Same.{same_var}
 use Rattle.dart_types.specs.Substitution.{put, put_all, argument_of, by_params}
-use Rattle.dart_types.specs.Tables.{Table}
-use Rattle.dart_types.specs.WellFormed.{IsSimple, AreSimple, IsSupertype, IsWellFormed}
+use Rattle.dart_types.specs.Tables.{Table, class_of}
+use Rattle.dart_types.specs.Superinterfaces.{Keeps, LeavesNothingOut}
+use Rattle.dart_types.specs.WellFormed.{IsSimple, AreSimple, IsWellFormed}
 use Rattle.dart_types.specs.Sub.{Sub, Subs, SubParams, SubNamed, HasNamed, first, later, required_in, reflexivity, right_top, left_bottom, left_null, right_object, left_nullable, right_nullable, left_promoted_variable, left_promoted_type, right_promoted, left_variable_bound, interface_arguments, super_interface, function_class, function_types, left_top, none_left, one_left, no_param, one_param, no_name, one_name}
 use Rattle.dart_types.specs.declared.ids.ClassId.{ClassId}
 use Rattle.dart_types.specs.declared.ids.VarId.{VarId}
-use Rattle.dart_types.proofs.Formed.{formed_super}
+use Rattle.dart_types.specs.declared.class_rows.ClassRow.{ClassRow}
+use Rattle.dart_types.proofs.Supers.{counted, superinterface_simple, superinterface_trans, inherited}
+use Rattle.dart_types.proofs.Keeping.{super_kept}
+use Rattle.dart_types.proofs.Substitutes.{put_all-by_params}
 use Rattle.dart_types.proofs.NamedParams.{required_trans}
 use Rattle.dart_types.proofs.Above.{nullable_bare, nullable_null, plain_then, above_top, above_function}
 
 mutual
   -- t with some parts, at places where they are covariant, replaced by what is below them
-  data Moves (table : Table) : Ty → Ty → Type 0 where
+  pub data Moves (table : Table) : Ty → Ty → Type 0 where
     keep : {s : Ty} → Moves table s s
     step : {s t : Ty} → Sub table s t → ((u : Ty) → Sub table t u → Sub table s u) → Moves table s t
     in_nullable : {s t : Ty} → Moves table s t → Moves table (nullable s) (nullable t)
     in_interface : {c : ClassId} {ss ts : Types} → MovesAll table ss ts → Moves table (interface c ss) (interface c ts)
 
-  data MovesAll (table : Table) : Types → Types → Type 0 where
+  pub data MovesAll (table : Table) : Types → Types → Type 0 where
     no_moves : MovesAll table no_more no_more
     one_move : {s t : Ty} {ss ts : Types} → Moves table s t → MovesAll table ss ts → MovesAll table (more s ss) (more t ts)
 
@@ -91,17 +95,6 @@ module _ (table : Table) where
     put_all_moves σ τ ms vars no_more i = no_moves
     put_all_moves σ τ ms vars (more v vs) i = one_move (put_moves σ τ ms vars v i.0) (put_all_moves σ τ ms vars vs i.1)
 
-  pub super_simple : (params : List VarId) (v : Ty) → IsSupertype params v → IsSimple params v
-  super_simple params invalid i = absurd i
-  super_simple params never i = absurd i
-  super_simple params void i = absurd i
-  super_simple params null i = absurd i
-  super_simple params (interface c ts) i = i
-  super_simple params (function r o n e) i = absurd i
-  super_simple params (variable x) i = absurd i
-  super_simple params (promoted x t) i = absurd i
-  super_simple params (nullable t) i = absurd i
-
   steps : {ss ts : Types} → Subs table ss ts → TransAll ts → MovesAll table ss ts
   steps none_left all = no_moves
   steps (one_left {s = s} a rest) all = one_move (step a (λ u q. all.0 s u a q)) (steps rest all.1)
@@ -120,7 +113,7 @@ module _ (table : Table) where
 
   module _ (wf : IsWellFormed table) where
     mutual
-      moved : {s t u : Ty} → Moves table s t → Sub table t u → Sub table s u
+      pub moved : {s t u : Ty} → Moves table s t → Sub table t u → Sub table s u
       moved keep q = q
       moved (step a go) q = go _ q
       moved (in_nullable m) reflexivity = moves_sub (in_nullable m)
@@ -135,11 +128,11 @@ module _ (table : Table) where
       moved (in_interface ms) (right_nullable a) = right_nullable (moved (in_interface ms) a)
       moved (in_interface ms) (right_promoted a b) = right_promoted (moved (in_interface ms) a) (moved (in_interface ms) b)
       moved (in_interface ms) (interface_arguments b) = interface_arguments (all_moved ms b)
-      moved (in_interface {c = c} {ss = ss} {ts = ts} ms) (super_interface row r v i k a) =
-          super_interface row r v i (count_moves ms ∙ k)
-          (moved (put_moves (by_params row.params ss) (by_params row.params ts) (λ x. arg_moves row.params x ms) row.params v (super_simple row.params v (formed_super table wf c row v r i).0)) a)
+      moved (in_interface {c = c} {ss = ss} {ts = ts} ms) (super_interface {us = us} row r n k a) =
+          super_interface row r (count_moves ms ∙ n) k
+          (all_moved (put_all_moves (by_params row.params ss) (by_params row.params ts) (λ x. arg_moves row.params x ms) row.params us (superinterface_simple table wf (inherited table wf k.0) row r)) a)
 
-      all_moved : {ss ts us : Types} → MovesAll table ss ts → Subs table ts us → Subs table ss us
+      pub all_moved : {ss ts us : Types} → MovesAll table ss ts → Subs table ts us → Subs table ss us
       all_moved no_moves q = q
       all_moved (one_move m ms) (one_left b rest) = one_left (moved m b) (all_moved ms rest)
 
@@ -173,40 +166,64 @@ module _ (table : Table) where
     after_function {r} {o} {r'} {o'} {n} {n'} le ps ns rs a all (function_types {n' = n''} le' ps' ns' rs' a') =
         function_types (omega arith) (params_trans ps' (join_trans r' o' all.0 all.1) ps) (named_trans ns' all.2 ns) (required_trans n n' n'' rs rs') (all.3 _ _ a a')
 
-    left : {s t u : Ty} → Sub table s t → Parts t → Sub table t u → Sub table s u
-    left reflexivity parts q = q
-    left {s} (right_top e) parts q = above_top table wf q e s
-    left left_bottom parts q = left_bottom
-    left left_null parts q = nullable_null table q
-    left {s} (right_object e p) parts q = plain_then table wf q e s p
-    left (left_nullable a b) parts q = left_nullable (left a parts q) (left b parts q)
-    left (right_nullable a) parts q = parts _ _ a (nullable_bare table q)
-    left (left_promoted_variable a) parts q = left_promoted_variable (left a parts q)
-    left (left_promoted_type a) parts q = left_promoted_type (left a parts q)
-    left (right_promoted a b) parts q = after_promoted a b parts q
-    left (left_variable_bound b e a) parts q = left_variable_bound b e (left a parts q)
-    left (interface_arguments a) parts q = moved (in_interface (steps a parts)) q
-    left (super_interface row r v i k a) parts q = super_interface row r v i k (left a parts q)
-    left (function_class {r = f} {o = o} {n = n} {e = e} k) parts q = above_function table wf q k f o n e
-    left (function_types le ps ns rs a) parts q = after_function le ps ns rs a parts q
-    left (left_top a) parts q = left_top (left a parts q)
+    pub subs_same : (ss : Types) → Subs table ss ss
+    subs_same no_more = none_left
+    subs_same (more s ss) = one_left reflexivity (subs_same ss)
 
-    mutual
-      pub trans : (t : Ty) → Trans t
-      trans invalid s u p q = left p tt q
-      trans never s u p q = left p tt q
-      trans void s u p q = left p tt q
-      trans null s u p q = left p tt q
-      trans (interface c ts) s u p q = left p (trans_all ts) q
-      trans (function r o n e) s u p q = left p (trans_all r, trans_all o, trans_named n, trans e) q
-      trans (variable x) s u p q = left p tt q
-      trans (promoted x e) s u p q = left p ((λ s' u' p' q'. left p' tt q'), trans e) q
-      trans (nullable e) s u p q = left p (trans e) q
+    -- where nothing is left out
+    module _ (nothing : LeavesNothingOut table) where
+      -- what is above a superinterface with the arguments put in is above the class with these arguments
+      climb_from : {c d : ClassId} {ss us vs : Types} {u : Ty} → (row : ClassRow) → class_of table c ≡ Some row → count ss ≡ length row.params → Keeps table c (interface d us) → vs ≡ put_all (by_params row.params ss) us → Sub table (interface d vs) u → Sub table (interface c ss) u
+      climb_from {vs = vs} row r n k e reflexivity = super_interface row r n k (subst (λ (xs : Types). Subs table xs vs) e (subs_same vs))
+      climb_from row r n k e (right_top t) = right_top t
+      climb_from row r n k e (right_object t p) = right_object t refl
+      climb_from row r n k e (right_nullable a) = right_nullable (climb_from row r n k e a)
+      climb_from row r n k e (right_promoted a b) = right_promoted (climb_from row r n k e a) (climb_from row r n k e b)
+      climb_from row r n k e (interface_arguments {ts = ts} a) = super_interface row r n k (subst (λ (xs : Types). Subs table xs ts) e a)
+      climb_from {ss = ss} {us = us} row r n k e (super_interface {us = ws} {ts = ts} row' r' n' k' a) =
+          let low = inherited table wf k.0 in
+          let high = inherited table wf k'.0 in
+          let once = put_all-by_params (by_params row.params ss) row'.params us (counted table wf low row' r') ws (superinterface_simple table wf high row' r') in
+          super_interface row r n (super_kept table wf nothing (superinterface_trans table wf low row' r' high))
+          (subst (λ (xs : Types). Subs table xs ts) (ap (λ (ys : Types). put_all (by_params row'.params ys) ws) e ∙ once) a)
 
-      trans_all : (ts : Types) → TransAll ts
-      trans_all no_more = tt
-      trans_all (more t ts) = (trans t, trans_all ts)
+      pub climb : {c d : ClassId} {ss us : Types} {u : Ty} → (row : ClassRow) → class_of table c ≡ Some row → count ss ≡ length row.params → Keeps table c (interface d us) → Sub table (interface d (put_all (by_params row.params ss) us)) u → Sub table (interface c ss) u
+      climb row r n k a = climb_from row r n k refl a
 
-      trans_named : (ts : Named) → TransNamed ts
-      trans_named no_named = tt
-      trans_named (more_named m r t ts) = (trans t, trans_named ts)
+      left : {s t u : Ty} → Sub table s t → Parts t → Sub table t u → Sub table s u
+      left reflexivity parts q = q
+      left {s} (right_top e) parts q = above_top table wf q e s
+      left left_bottom parts q = left_bottom
+      left left_null parts q = nullable_null table q
+      left {s} (right_object e p) parts q = plain_then table wf q e s p
+      left (left_nullable a b) parts q = left_nullable (left a parts q) (left b parts q)
+      left (right_nullable a) parts q = parts _ _ a (nullable_bare table q)
+      left (left_promoted_variable a) parts q = left_promoted_variable (left a parts q)
+      left (left_promoted_type a) parts q = left_promoted_type (left a parts q)
+      left (right_promoted a b) parts q = after_promoted a b parts q
+      left (left_variable_bound b e a) parts q = left_variable_bound b e (left a parts q)
+      left (interface_arguments a) parts q = moved (in_interface (steps a parts)) q
+      left (super_interface row r n k a) parts q = climb row r n k (moved (in_interface (steps a parts)) q)
+      left (function_class {r = f} {o = o} {n = n} {e = e} k) parts q = above_function table wf q k f o n e
+      left (function_types le ps ns rs a) parts q = after_function le ps ns rs a parts q
+      left (left_top a) parts q = left_top (left a parts q)
+
+      mutual
+        pub trans : (t : Ty) → Trans t
+        trans invalid s u p q = left p tt q
+        trans never s u p q = left p tt q
+        trans void s u p q = left p tt q
+        trans null s u p q = left p tt q
+        trans (interface c ts) s u p q = left p (trans_all ts) q
+        trans (function r o n e) s u p q = left p (trans_all r, trans_all o, trans_named n, trans e) q
+        trans (variable x) s u p q = left p tt q
+        trans (promoted x e) s u p q = left p ((λ s' u' p' q'. left p' tt q'), trans e) q
+        trans (nullable e) s u p q = left p (trans e) q
+
+        trans_all : (ts : Types) → TransAll ts
+        trans_all no_more = tt
+        trans_all (more t ts) = (trans t, trans_all ts)
+
+        trans_named : (ts : Named) → TransNamed ts
+        trans_named no_named = tt
+        trans_named (more_named m r t ts) = (trans t, trans_named ts)

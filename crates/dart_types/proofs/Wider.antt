@@ -8,14 +8,15 @@ use Rattle.dart_types.specs.Heads.{object}
 use Rattle.dart_types.specs.Tables.{Table, class_of, bound_of, depth_of, head_depth, depth_above}
 use Rattle.dart_types.specs.WellFormed.{HasArguments, IsOver, AreOver, AreOverNamed, IsFormedClass, IsFormedVar, IsWellFormed}
 use Rattle.dart_types.specs.Sub.{Sub, Subs, SubParams, SubNamed, HasNamed, first, later, reflexivity, right_top, left_bottom, left_null, right_object, left_nullable, right_nullable, left_promoted_variable, left_promoted_type, right_promoted, left_variable_bound, interface_arguments, super_interface, function_class, function_types, left_top, none_left, one_left, no_param, one_param, no_name, one_name}
-use Rattle.dart_types.specs.Superinterfaces.{IsSuperinterface, direct, further, AreSuperinterfaces}
+use Rattle.dart_types.specs.Superinterfaces.{IsSuperinterface, direct, further, Inherits, supertype, handed_on, AreSuperinterfaces}
 use Rattle.dart_types.specs.declared.ids.ClassId.{ClassId}
 use Rattle.dart_types.specs.declared.ids.VarId.{VarId}
 use Rattle.dart_types.specs.declared.ids.TheConstants.{OBJECT}
 use Rattle.dart_types.specs.declared.class_rows.ClassRow.{ClassRow}
 use Rattle.dart_types.specs.declared.class_rows.VarRow.{VarRow}
 use Rattle.dart_types.specs.declared.superinterfaces.Superinterface.{Superinterface}
-use Rattle.dart_types.proofs.Formed.{formed_super, formed_bound, object_has_none}
+use Rattle.dart_types.proofs.Formed.{formed_super, formed_bound}
+use Rattle.dart_types.proofs.Supers.{object_inherits}
 use Rattle.dart_types.proofs.OverPut.{over_put}
 
 -- what is looked up in the smaller table is found in the larger one
@@ -109,6 +110,12 @@ module _ (small large : Table) (wider : IsWider small large) where
   pub var_wider : (row : VarRow) → IsFormedVar small row → IsFormedVar large row
   var_wider row f = record { declared = f.declared; earlier = f.earlier; over = over_wider row.bound f.over }
 
+  -- what a class inherits over fewer rows it inherits over more
+  pub inherits_wider : {c : ClassId} {v : Ty} → Inherits small c v → Inherits large c v
+  inherits_wider {c} (supertype row r i) = supertype row (wider.classes c row r) i
+  inherits_wider {c} (handed_on {d = d} row above r i r' h fits) =
+      handed_on row above (wider.classes c row r) i (wider.classes d above r') (inherits_wider h) fits
+
   mutual
     -- a derivation over fewer rows is one over more
     pub sub_wider : {s t : Ty} → Sub small s t → Sub large s t
@@ -124,7 +131,7 @@ module _ (small large : Table) (wider : IsWider small large) where
     sub_wider (right_promoted a b) = right_promoted (sub_wider a) (sub_wider b)
     sub_wider (left_variable_bound {x = x} b e a) = left_variable_bound b (wider.vars x b e) (sub_wider a)
     sub_wider (interface_arguments a) = interface_arguments (subs_wider a)
-    sub_wider (super_interface {c = c} row r v i n a) = super_interface row (wider.classes c row r) v i n (sub_wider a)
+    sub_wider (super_interface {c = c} row r n k a) = super_interface row (wider.classes c row r) n (inherits_wider k.0, k.1) (subs_wider a)
     sub_wider (function_class e) = function_class e
     sub_wider (function_types n p m r e) = function_types n (params_wider p) (named_wider m) r (sub_wider e)
     sub_wider (left_top a) = left_top (sub_wider a)
@@ -172,13 +179,24 @@ module _ (small large : Table) (wider : IsWider small large) where
         let here = row_back d row ts above.1.0 r in
         (further above.0 here i, over_put small row.params ts above.1.1 v (formed_super small wf d row v here i).1)
 
+    -- so it is with what the class inherits
+    pub inherits_back : {c : ClassId} {v : Ty} → (own : ClassRow) → class_of small c ≡ Some own → Inherits large c v → Inherits small c v × IsOver small v
+    inherits_back {c} {v} own e (supertype row r i) =
+        let here : class_of small c ≡ Some row = e ∙ ap (λ (x : ClassRow). Some x) (same_row c own row e r) in
+        (supertype row here i, (formed_super small wf c row v here i).1)
+    inherits_back {c} own e (handed_on {d = d} {ts = ts} {v = v} row above r i r' h fits) =
+        let here : class_of small c ≡ Some row = e ∙ ap (λ (x : ClassRow). Some x) (same_row c own row e r) in
+        let over = (formed_super small wf c row (interface d ts) here i).1 in
+        let there = row_back d above ts over.0 r' in
+        let low = inherits_back above there h in
+        (handed_on row above here i there low.0 fits, over_put small above.params ts over.1 v low.1)
+
     pub list_wider : (c : ClassId) (own : ClassRow) (list : List Superinterface) → class_of small c ≡ Some own → AreSuperinterfaces small c list → AreSuperinterfaces large c list
     list_wider c own list e a = record {
-      every = λ v h. a.every v (super_back own e h).0;
-      no_other = λ s i. let k = a.no_other s i in (k.0, super_wider k.1, k.2);
+      every = λ v h. a.every v ((inherits_back own e h.0).0, h.1);
+      no_other = λ s i. let k = a.no_other s i in (k.0, (inherits_wider k.1.0, k.1.1), k.2);
       in_order = a.in_order;
       once = a.once;
-      within_limit = a.within_limit;
     }
 
     over_join : (ss ts : Types) → AreOver small ss → AreOver small ts → AreOver small (join ss ts)
@@ -204,7 +222,7 @@ module _ (small large : Table) (wider : IsWider small large) where
       null_back e (right_promoted a b) = right_promoted (null_back e a) (null_back e b)
       null_back e (left_variable_bound b h a) = cc
       null_back e (interface_arguments a) = cc
-      null_back e (super_interface row r v i n a) = cc
+      null_back e (super_interface row r n k a) = cc
       null_back e (function_class h) = function_class h
       null_back e (function_types n p m r a) = cc
       null_back e (left_top a) = cc
@@ -226,7 +244,7 @@ module _ (small large : Table) (wider : IsWider small large) where
       object_back e (right_promoted a b) = right_promoted (object_back e a) (object_back e b)
       object_back e (left_variable_bound b h a) = cc
       object_back e (interface_arguments {ss = ss} a) = let k : ss ≡ no_more = cc in interface_arguments (nothing_back k a)
-      object_back e (super_interface {c = c} row r v i n a) = let k : c ≡ OBJECT = cc in absurd (object_has_none large large_wf c row v r k i)
+      object_back e (super_interface {c = c} row r n k a) = let root : c ≡ OBJECT = cc in object_inherits large large_wf root k.0
       object_back e (function_class h) = function_class h
       object_back e (function_types n p m r a) = cc
       object_back e (left_top a) = cc
@@ -244,7 +262,7 @@ module _ (small large : Table) (wider : IsWider small large) where
       top_back e (right_promoted a b) = right_promoted (top_back e a) (top_back e b)
       top_back e (left_variable_bound b h a) = cc
       top_back e (interface_arguments a) = cc
-      top_back e (super_interface row r v i n a) = cc
+      top_back e (super_interface row r n k a) = cc
       top_back e (function_class h) = function_class h
       top_back e (function_types n p m r a) = cc
       top_back e (left_top a) = cc
@@ -266,9 +284,10 @@ module _ (small large : Table) (wider : IsWider small large) where
             let here = bound_back x b o e in
             left_variable_bound b here (sub_back (formed_bound small wf x b here).1 p a)
         sub_back o p (interface_arguments a) = interface_arguments (subs_back o.1 p.1 a)
-        sub_back o p (super_interface {c = c} {ss = ss} row r v i n a) =
+        sub_back o p (super_interface {c = c} {d = d} {ss = ss} {us = us} row r n k a) =
             let here = row_back c row ss o.0 r in
-            super_interface row here v i n (sub_back (over_put small row.params ss o.1 v (formed_super small wf c row v here i).1) p a)
+            let low = inherits_back row here k.0 in
+            super_interface row here n (low.0, k.1) (subs_back (over_put small row.params ss o.1 (interface d us) low.1).1 p.1 a)
         sub_back o p (function_class e) = function_class e
         sub_back o p (function_types {r = r} {o = q} {r' = r'} {o' = q'} n ps m h e) =
             function_types n (params_back (over_join r' q' p.0 p.1) (over_join r q o.0 o.1) ps) (named_back p.2 o.2 m) h (sub_back o.3 p.3 e)

@@ -8,7 +8,8 @@ use Rattle.dart_types.specs.Measure.{measure, weight_of, deepness_of, heaviest_o
 use Rattle.dart_types.specs.Sub.{Sub, HasNamed, is_required, required_in}
 use Rattle.dart_types.specs.SubTest.{sub}
 use Rattle.dart_types.specs.Substitution.{put, by_params}
-use Rattle.dart_types.specs.Superinterfaces.{IsSuperinterface}
+use Rattle.dart_types.specs.Superinterfaces.{IsSuperinterface, Inherits, Keeps, LeavesNothingOut}
+use Rattle.dart_types.specs.Kept.{kept_of}
 use Rattle.dart_types.specs.Tables.{Table, class_of, bound_of, depth_of, head_depth}
 use Rattle.dart_types.specs.WellFormed.{IsSupertype, IsEarlier, IsOver, IsFormedClass, IsWellFormed}
 use Rattle.dart_types.specs.declared.ids.ClassId.{ClassId}
@@ -55,9 +56,18 @@ pub record RowLaws (table : Table) : Type 0 where
   pub superinterface_simple : (c : ClassId) (row : ClassRow) (v : Ty) → class_of table c ≡ Some row → IsSuperinterface table c v → IsSupertype row.params v
   pub superinterface_counted : (c d : ClassId) (ts : Types) (row : ClassRow) → class_of table d ≡ Some row → IsSuperinterface table c (interface d ts) → count ts ≡ length row.params
   pub superinterface_further : (c d : ClassId) (ts : Types) (row : ClassRow) (v : Ty) → class_of table d ≡ Some row → IsSuperinterface table c (interface d ts) → IsSuperinterface table d v → IsSuperinterface table c (put (by_params row.params ts) v)
-  -- subtypes of subtypes are subtypes, and so is a class of what a superinterface of it is a subtype of; a type and its normal form are subtypes of each other; Null is a subtype of what a nullable type is
-  pub sub_transitive : (s t u : Ty) → Sub table s t → Sub table t u → Sub table s u
-  pub above_superinterface : (c : ClassId) (ss : Types) (row : ClassRow) (v t : Ty) → class_of table c ≡ Some row → count ss ≡ length row.params → IsSuperinterface table c v → Sub table (put (by_params row.params ss) v) t → Sub table (interface c ss) t
+  -- what a class inherits is a superinterface of it; what it keeps is what is computed, and all superinterfaces where nothing is left out
+  pub inherited : (c : ClassId) (v : Ty) → Inherits table c v → IsSuperinterface table c v
+  pub all_kept : LeavesNothingOut table → (c : ClassId) (v : Ty) → IsSuperinterface table c v → Keeps table c v
+  pub kept_sound : (c : ClassId) (v : Ty) → Contains (kept_of table c) v → Keeps table c v
+  pub kept_complete : (c : ClassId) (v : Ty) → Keeps table c v → Contains (kept_of table c) v
+  -- a class with arguments is a subtype of each superinterface that it keeps, with the arguments put in, and of the normal form of that
+  pub kept_below : (c : ClassId) (ss : Types) (row : ClassRow) (v : Ty) → class_of table c ≡ Some row → count ss ≡ length row.params → Keeps table c v → Sub table (interface c ss) (put (by_params row.params ss) v)
+  pub kept_normal_below : (c : ClassId) (ss : Types) (row : ClassRow) (v : Ty) → class_of table c ≡ Some row → count ss ≡ length row.params → Keeps table c v → Sub table (interface c ss) (normal (put (by_params row.params ss) v))
+  -- where nothing is left out, subtypes of subtypes are subtypes, and so is a class of what a superinterface of it is a subtype of
+  pub sub_transitive : LeavesNothingOut table → (s t u : Ty) → Sub table s t → Sub table t u → Sub table s u
+  pub above_superinterface : LeavesNothingOut table → (c : ClassId) (ss : Types) (row : ClassRow) (v t : Ty) → class_of table c ≡ Some row → count ss ≡ length row.params → IsSuperinterface table c v → Sub table (put (by_params row.params ss) v) t → Sub table (interface c ss) t
+  -- a type and its normal form are subtypes of each other; Null is a subtype of what a nullable type is
   pub below_normal : (t : Ty) → Sub table t (normal t)
   pub normal_below : (t : Ty) → Sub table (normal t) t
   pub nullable_null : (s t : Ty) → Sub table (nullable s) t → Sub table null t
@@ -65,7 +75,7 @@ pub record RowLaws (table : Table) : Type 0 where
   pub sub_sound : (s t : Ty) → sub table s t ≡ true → Sub table s t
   pub sub_complete : (s t : Ty) → Sub table s t → sub table s t ≡ true
 
--- more rows change nothing of the smaller ones: neither rows nor bounds, nor for types over them subtypes and superinterfaces, which are over them too
+-- more rows change nothing of the smaller ones: neither rows nor bounds, nor for types over them subtypes and superinterfaces, which are over them too, nor which of these are kept
 pub record MoreRows (small large : Table) : Type 0 where
   pub classes : (c : ClassId) (row : ClassRow) → class_of small c ≡ Some row → class_of large c ≡ Some row
   pub bounds : (x : VarId) (b : Ty) → bound_of small x ≡ Some b → bound_of large x ≡ Some b
@@ -74,3 +84,5 @@ pub record MoreRows (small large : Table) : Type 0 where
   pub sub_small : (s t : Ty) → IsOver small s → IsOver small t → Sub large s t → Sub small s t
   pub superinterface_large : (c : ClassId) (v : Ty) → IsSuperinterface small c v → IsSuperinterface large c v
   pub superinterface_small : (c : ClassId) (row : ClassRow) (v : Ty) → class_of small c ≡ Some row → IsSuperinterface large c v → IsSuperinterface small c v
+  pub kept_large : (c : ClassId) (v : Ty) → Keeps small c v → Keeps large c v
+  pub kept_small : (c : ClassId) (row : ClassRow) (v : Ty) → class_of small c ≡ Some row → Keeps large c v → Keeps small c v

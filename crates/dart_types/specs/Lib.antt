@@ -26,7 +26,6 @@ pub mod IdCode
 pub mod Scopes
 pub mod ScopeView
 pub mod Forms
-pub mod RowsCause
 pub mod Targets
 pub mod NamedSearch
 pub mod BoundVars
@@ -42,4 +41,5 @@ pub mod Known
 pub mod Invalid
 pub mod CoreClasses
 pub mod Parts
+pub mod Kept
 pub mod Laws

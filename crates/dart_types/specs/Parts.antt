@@ -1,5 +1,5 @@
 -- What stands in a list of types.
-use Rattle.dart_types.specs.Ty.{Ty, Types, no_more, more}
+use Rattle.dart_types.specs.Ty.{Ty, Types, more}
 
 -- the type is one of these
 pub data HasType : Types → Ty → Type 0 where

@@ -1,9 +1,10 @@
 -- Subtyping: the rules of the language specification, "Subtypes", as a relation. One constructor is one rule.
-use Rattle.std.specs.Prelude.{◌≡◌, ◌≤◌, ℕ, Bool, true, false, ◌&&◌, ◌||◌, List, length, Contains, Some, bytes_eq, if◌then◌else◌}
+use Rattle.std.specs.Prelude.{◌≡◌, ◌≤◌, ℕ, Bool, true, false, ◌&&◌, ◌||◌, List, length, Some, bytes_eq, if◌then◌else◌}
 use Rattle.dart_types.specs.Ty.{Ty, Types, Named, never, void, null, interface, function, variable, promoted, nullable, no_more, more, no_named, more_named, count, join}
 use Rattle.dart_types.specs.Heads.{object, is_object, is_function_class, is_top, is_plain}
-use Rattle.dart_types.specs.Substitution.{put, by_params}
+use Rattle.dart_types.specs.Substitution.{put_all, by_params}
 use Rattle.dart_types.specs.Tables.{Table, class_of, bound_of}
+use Rattle.dart_types.specs.Superinterfaces.{Keeps}
 use Rattle.dart_types.specs.declared.ids.ClassId.{ClassId}
 use Rattle.dart_types.specs.declared.ids.VarId.{VarId}
 use Rattle.dart_types.specs.declared.class_rows.ClassRow.{ClassRow}
@@ -50,8 +51,8 @@ mutual
     left_variable_bound : {x : VarId} {t : Ty} → (b : Ty) → bound_of table x ≡ Some b → Sub table b t → Sub table (variable x) t
     -- interface compositionality, one class on both sides: the arguments are subtypes, pair by pair
     interface_arguments : {c : ClassId} {ss ts : Types} → Subs table ss ts → Sub table (interface c ss) (interface c ts)
-    -- super-interface, an interface on the left: by a direct supertype of its class, which has as many parameters, with the arguments put in
-    super_interface : {c : ClassId} {ss : Types} {t : Ty} → (row : ClassRow) → class_of table c ≡ Some row → (v : Ty) → Contains row.supers v → count ss ≡ length row.params → Sub table (put (by_params row.params ss) v) t → Sub table (interface c ss) t
+    -- super-interface, an interface on the left and one of another class on the right: by a superinterface of that class which its class, that has as many parameters, keeps: with the arguments put in its arguments are subtypes, pair by pair
+    super_interface : {c d : ClassId} {ss us ts : Types} → (row : ClassRow) → class_of table c ≡ Some row → count ss ≡ length row.params → Keeps table c (interface d us) → Subs table (put_all (by_params row.params ss) us) ts → Sub table (interface c ss) (interface d ts)
     -- a function type on the left, and `Function` on the right
     function_class : {r o : Types} {n : Named} {e t : Ty} → is_function_class t ≡ true → Sub table (function r o n e) t
     -- positional and named function types, on both sides: the left one requires no more positional parameters and takes at least as many, has each named one of the right, and requires none that the right doesn't require; its parameters are supertypes, and its result is a subtype

@@ -6,11 +6,13 @@ use Rattle.std.proofs.Common.{zero, suc}
 use Rattle.dart_types.specs.Ty.{Ty, Types, Named, invalid, never, void, null, interface, function, variable, promoted, nullable, no_more, more, no_named, more_named, count, join}
 use Rattle.dart_types.specs.Same.{same_class, same_type}
 use Rattle.dart_types.specs.Heads.{object, is_object, is_function_class}
-use Rattle.dart_types.specs.Substitution.{put, by_params}
+use Rattle.dart_types.specs.Substitution.{put_all, by_params}
+use Rattle.dart_types.specs.Kept.{kept_of}
 use Rattle.dart_types.specs.Tables.{Table, class_of, bound_of}
 use Rattle.dart_types.specs.Sub.{required_in}
 use Rattle.dart_types.specs.Measure.{measure}
 use Rattle.dart_types.specs.declared.ids.ClassId.{ClassId}
+use Rattle.dart_types.specs.declared.ids.VarId.{VarId}
 
 -- whether `below` holds pair by pair of two lists that are as long
 abbrev pub pairwise : (Ty → Ty → Bool) → Types → Types → Bool
@@ -47,10 +49,22 @@ by_arguments below c ss (variable x) = false
 by_arguments below c ss (promoted x t) = false
 by_arguments below c ss (nullable t) = false
 
--- whether an interface is below a type by a direct supertype of its class
-abbrev pub by_supertypes : Table → (Ty → Ty → Bool) → ClassId → Types → Ty → Bool
-by_supertypes table below c ss t =
-    option_map_or (λ row. nat_eq (count ss) (length row.params) && list_any (λ v. below (put (by_params row.params ss) v) t) row.supers) (class_of table c) false
+-- whether a superinterface of a class, with these arguments put in for its parameters, is below another type of its class
+abbrev pub is_super_below : (Ty → Ty → Bool) → List VarId → Types → Ty → Ty → Bool
+is_super_below below ps ss t invalid = false
+is_super_below below ps ss t never = false
+is_super_below below ps ss t void = false
+is_super_below below ps ss t null = false
+is_super_below below ps ss t (interface d us) = by_arguments below d (put_all (by_params ps ss) us) t
+is_super_below below ps ss t (function r o n e) = false
+is_super_below below ps ss t (variable x) = false
+is_super_below below ps ss t (promoted x u) = false
+is_super_below below ps ss t (nullable u) = false
+
+-- whether an interface is below a type by a superinterface that its class keeps
+abbrev pub by_superinterfaces : Table → (Ty → Ty → Bool) → ClassId → Types → Ty → Bool
+by_superinterfaces table below c ss t =
+    option_map_or (λ row. nat_eq (count ss) (length row.params) && list_any (is_super_below below row.params ss t) (kept_of table c)) (class_of table c) false
 
 -- whether a function type is below another, where `below` tells of parameters and results
 abbrev pub by_signature : (Ty → Ty → Bool) → Types → Types → Named → Ty → Ty → Bool
@@ -71,7 +85,7 @@ by_left table below invalid t = false
 by_left table below never t = true
 by_left table below void t = below (nullable object) t
 by_left table below null t = false
-by_left table below (interface c ss) t = is_object t || by_arguments below c ss t || by_supertypes table below c ss t
+by_left table below (interface c ss) t = is_object t || by_arguments below c ss t || by_superinterfaces table below c ss t
 by_left table below (function r o n e) t = is_object t || is_function_class t || by_signature below r o n e t
 by_left table below (variable x) t = option_map_or (λ b. below b t) (bound_of table x) false
 by_left table below (promoted x u) t = below (variable x) t || below u t

@@ -1,17 +1,15 @@
 //! The superinterfaces of own classes over those below, formed one distance from `Object` after
 //! another.
 
-ghost use Rattle.std.specs.Prelude.{◌≡◌, ◌≤◌, ◌<◌, ◌+◌, IfErr, OnOk, All, length};
+ghost use Rattle.std.specs.Prelude.{◌≡◌, ◌≤◌, ◌<◌, ◌+◌, OnOk, All, length};
 ghost use Rattle.dart_types.specs.Entries.{table_of, among, AreAmong, AreBeside};
-ghost use Rattle.dart_types.specs.RowsCause.{IsCauseIn};
 ghost use Rattle.dart_types.specs.Gathering.{AreKnownBelow, AreKnownTo};
 
 use crate::class_rows::VarRow;
 use crate::entries::ClassEntry;
 use crate::hierarchy::superinterfaces_of;
-use crate::refusal::RowsRefusal;
 use crate::rows::Rows;
-use std::alloc::Global;
+use std::alloc::{AllocError, Global};
 
 /// Puts their superinterfaces beside all own classes.
 pub(crate) fn fill_all(
@@ -19,11 +17,10 @@ pub(crate) fn fill_all(
     below: &Rows,
     entries: &mut Vec<ClassEntry>,
     vars: &[VarRow],
-) -> Result<(), RowsRefusal>
+) -> Result<(), AllocError>
     requires { AreAmong below.now.table (table_of entries.old.items vars.now) }
     ensures rows { OnOk result (table_of entries.new.items vars.now ≡ table_of entries.old.items vars.now) }
     ensures ok { OnOk result (AreBeside (among below.now.table entries.old.items vars.now) entries.new.items) }
-    ensures err { IfErr result (IsCauseIn (among below.now.table entries.old.items vars.now) (table_of entries.old.items vars.now)) }
 {
     let top = greatest_depth(entries);
     for depth in 0..top {
@@ -51,12 +48,11 @@ fn fill(
     below: &Rows,
     entries: &mut Vec<ClassEntry>,
     vars: &[VarRow],
-) -> Result<(), RowsRefusal>
+) -> Result<(), AllocError>
     requires among { AreAmong below.now.table (table_of entries.old.items vars.now) }
     requires known { AreKnownBelow depth (among below.now.table entries.old.items vars.now) entries.old.items }
     ensures rows { OnOk result (table_of entries.new.items vars.now ≡ table_of entries.old.items vars.now) }
     ensures ok { OnOk result (AreKnownBelow (depth + 1) (among below.now.table entries.old.items vars.now) entries.new.items) }
-    ensures err { IfErr result (IsCauseIn (among below.now.table entries.old.items vars.now) (table_of entries.old.items vars.now)) }
 {
     for i in 0..entries.len() {
         fill_at(alloc, depth, i, below, entries, vars)?;
@@ -72,13 +68,12 @@ fn fill_at(
     below: &Rows,
     entries: &mut Vec<ClassEntry>,
     vars: &[VarRow],
-) -> Result<(), RowsRefusal>
+) -> Result<(), AllocError>
     requires place { i < length entries.old.items }
     requires among { AreAmong below.now.table (table_of entries.old.items vars.now) }
     requires known { AreKnownTo depth i (among below.now.table entries.old.items vars.now) entries.old.items }
     ensures rows { OnOk result (table_of entries.new.items vars.now ≡ table_of entries.old.items vars.now) }
     ensures ok { OnOk result (AreKnownTo depth (i + 1) (among below.now.table entries.old.items vars.now) entries.new.items) }
-    ensures err { IfErr result (IsCauseIn (among below.now.table entries.old.items vars.now) (table_of entries.old.items vars.now)) }
 {
     if entries[i].row.depth != depth {
         return Ok(());

@@ -1,27 +1,26 @@
 //! Superinterfaces of classes, formed from those of their direct supertypes.
 
-ghost use Rattle.std.specs.Prelude.{◌≡◌, ◌<◌, Some, IfOk, IfErr, OnOk, Contains};
+ghost use Rattle.std.specs.Prelude.{◌≡◌, ◌<◌, Some, IfOk, OnOk, Contains};
 ghost use Rattle.dart_types.specs.Ty.{interface, types_of};
 ghost use Rattle.dart_types.specs.Tables.{class_of};
 ghost use Rattle.dart_types.specs.Entries.{table_of, among, AreAmong};
 ghost use Rattle.dart_types.specs.Superinterfaces.{AreSuperinterfaces, AreOrdered};
-ghost use Rattle.dart_types.specs.RowsCause.{IsCauseIn};
-ghost use Rattle.dart_types.specs.Gathering.{Adds, IsCauseAmong, IsGiven, IsGivenBy, IsPut, AreKnownBelow};
+ghost use Rattle.dart_types.specs.Gathering.{Adds, IsGiven, IsGivenBy, IsPut, AreKnownBelow};
 ghost use Rattle.dart_types.specs.Known.{IsKnown};
 
 use crate::class_rows::{ClassRow, VarRow};
 use crate::entries::{ClassEntry, find_entry};
-use crate::gathering::{add, form, gather};
+use crate::gathering::{gather, put_one};
 use crate::ids::ClassId;
 use crate::pairs::replacements_for;
-use crate::refusal::RowsRefusal;
 use crate::rows::Rows;
 use crate::superinterfaces::Superinterface;
 use crate::types::{DartType, TypeList, TypeNode};
-use std::alloc::Global;
+use std::alloc::{AllocError, Global};
 
 // Puts what a direct supertype, a class with these arguments, gives another class into its list:
-// itself, and the superinterfaces of its class with the arguments put in.
+// itself, and the superinterfaces that its class keeps, with the arguments put in, as far as they aren't
+// too large.
 fn gather_interface(
     alloc: Global,
     row: &ClassRow,
@@ -31,22 +30,19 @@ fn gather_interface(
     entries: &[ClassEntry],
     vars: &[VarRow],
     list: &mut Vec<Superinterface>,
-) -> Result<(), RowsRefusal>
+) -> Result<(), AllocError>
     requires among { AreAmong below.now.table (table_of entries.now vars.now) }
     requires of_class { class_of (among below.now.table entries.now vars.now) row.now.id ≡ Some row.now }
     requires direct { Contains row.now.supers (interface class (types_of args.now)) }
     requires known { AreKnownBelow row.now.depth (among below.now.table entries.now vars.now) entries.now }
     requires in_order { AreOrdered list.old.items }
-    ensures ok { let given = IsGivenBy (among below.now.table entries.now vars.now) (interface class (types_of args.now)) in
+    ensures { let given = IsGivenBy (among below.now.table entries.now vars.now) (interface class (types_of args.now)) in
         OnOk result (Adds given list.old.items list.new.items) }
-    ensures err { let given = IsGivenBy (among below.now.table entries.now vars.now) (interface class (types_of args.now)) in
-        IfErr result (IsCauseAmong given row.now.id) }
 {
-    let own = form(alloc, row.id, class, args, &[])?;
-    add(list, own)?;
+    put_one(alloc, class, args, &[], list)?;
     match known_class(below, entries, vars, class, row.depth) {
         None => Ok(()),
-        Some(known) => gather_above(alloc, row.id, &known, args, list),
+        Some(known) => gather_above(alloc, &known, args, list),
     }
 }
 
@@ -85,20 +81,19 @@ fn known_class<'a>(
     }
 }
 
-// Puts the superinterfaces of a class into the list of another, with these arguments put in.
+// Puts the superinterfaces that a class keeps into the list of another, with these arguments put in, as
+// far as they aren't too large.
 fn gather_above(
     alloc: Global,
-    of: ClassId,
     known: &Known,
     args: &TypeList,
     list: &mut Vec<Superinterface>,
-) -> Result<(), RowsRefusal>
+) -> Result<(), AllocError>
     requires in_order { AreOrdered list.old.items }
-    ensures ok { OnOk result (Adds (IsPut known.now.row.now.params (types_of args.now) known.now.superinterfaces.now) list.old.items list.new.items) }
-    ensures err { IfErr result (IsCauseAmong (IsPut known.now.row.now.params (types_of args.now) known.now.superinterfaces.now) of) }
+    ensures { OnOk result (Adds (IsPut known.now.row.now.params (types_of args.now) known.now.superinterfaces.now) list.old.items list.new.items) }
 {
     let replacements = replacements_for(alloc, known.row.params.as_slice(), args.as_slice())?;
-    gather(alloc, of, known.superinterfaces, &replacements, list)
+    gather(alloc, known.superinterfaces, &replacements, list)
 }
 
 // Puts what a direct supertype of a class gives it into its list.
@@ -110,14 +105,13 @@ fn gather_super(
     entries: &[ClassEntry],
     vars: &[VarRow],
     list: &mut Vec<Superinterface>,
-) -> Result<(), RowsRefusal>
+) -> Result<(), AllocError>
     requires among { AreAmong below.now.table (table_of entries.now vars.now) }
     requires of_class { class_of (among below.now.table entries.now vars.now) row.now.id ≡ Some row.now }
     requires direct { Contains row.now.supers v.now }
     requires known { AreKnownBelow row.now.depth (among below.now.table entries.now vars.now) entries.now }
     requires in_order { AreOrdered list.old.items }
-    ensures ok { OnOk result (Adds (IsGivenBy (among below.now.table entries.now vars.now) v.now) list.old.items list.new.items) }
-    ensures err { IfErr result (IsCauseAmong (IsGivenBy (among below.now.table entries.now vars.now) v.now) row.now.id) }
+    ensures { OnOk result (Adds (IsGivenBy (among below.now.table entries.now vars.now) v.now) list.old.items list.new.items) }
 {
     match &v.node {
         TypeNode::Interface { class, args } => {
@@ -135,13 +129,12 @@ fn gather_supers(
     entries: &[ClassEntry],
     vars: &[VarRow],
     list: &mut Vec<Superinterface>,
-) -> Result<(), RowsRefusal>
+) -> Result<(), AllocError>
     requires among { AreAmong below.now.table (table_of entries.now vars.now) }
     requires of_class { class_of (among below.now.table entries.now vars.now) row.now.id ≡ Some row.now }
     requires known { AreKnownBelow row.now.depth (among below.now.table entries.now vars.now) entries.now }
     requires in_order { AreOrdered list.old.items }
-    ensures ok { OnOk result (Adds (IsGiven (among below.now.table entries.now vars.now) row.now.supers) list.old.items list.new.items) }
-    ensures err { IfErr result (IsCauseAmong (IsGiven (among below.now.table entries.now vars.now) row.now.supers) row.now.id) }
+    ensures { OnOk result (Adds (IsGiven (among below.now.table entries.now vars.now) row.now.supers) list.old.items list.new.items) }
 {
     for v in row.supers.as_slice() {
         gather_super(alloc, row, v, below, entries, vars, list)?;
@@ -149,19 +142,18 @@ fn gather_supers(
     Ok(())
 }
 
-/// The superinterfaces of a class, where those of all that are less far from `Object` are known.
+/// The superinterfaces that a class keeps, where those of all that are less far from `Object` are known.
 pub(crate) fn superinterfaces_of(
     alloc: Global,
     row: &ClassRow,
     below: &Rows,
     entries: &[ClassEntry],
     vars: &[VarRow],
-) -> Result<Vec<Superinterface>, RowsRefusal>
+) -> Result<Vec<Superinterface>, AllocError>
     requires among { AreAmong below.now.table (table_of entries.now vars.now) }
     requires of_class { class_of (table_of entries.now vars.now) row.now.id ≡ Some row.now }
     requires known { AreKnownBelow row.now.depth (among below.now.table entries.now vars.now) entries.now }
-    ensures ok { IfOk result (λ list. AreSuperinterfaces (among below.now.table entries.now vars.now) row.now.id list.items) }
-    ensures err { IfErr result (IsCauseIn (among below.now.table entries.now vars.now) (table_of entries.now vars.now)) }
+    ensures { IfOk result (λ list. AreSuperinterfaces (among below.now.table entries.now vars.now) row.now.id list.items) }
 {
     let mut list = Vec::new(alloc);
     gather_supers(alloc, row, below, entries, vars, &mut list)?;

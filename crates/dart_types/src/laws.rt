@@ -14,7 +14,8 @@ ghost use Rattle.dart_types.specs.Measure.{measure, weight_of, deepness_of, heav
 ghost use Rattle.dart_types.specs.Scope.{IsInScope, IsWithinBounds};
 ghost use Rattle.dart_types.specs.Sub.{Sub, HasNamed, is_required, required_in};
 ghost use Rattle.dart_types.specs.SubTest.{sub};
-ghost use Rattle.dart_types.specs.Superinterfaces.{IsSuperinterface};
+ghost use Rattle.dart_types.specs.Superinterfaces.{IsSuperinterface, Keeps, FormsTooLarge, LeavesNothingOut};
+ghost use Rattle.dart_types.specs.Kept.{kept_of, forms_too_large};
 ghost use Rattle.dart_types.specs.Tables.{Table, class_of, bound_of, depth_of, head_depth};
 ghost use Rattle.dart_types.specs.Unions.{Extends, IsUnion, IsView, AreViewsOfOne, HasClassOf, HasVarOf};
 ghost use Rattle.dart_types.specs.WellFormed.{IsSupertype, IsEarlier, IsOver, IsFormedClass};
@@ -115,14 +116,30 @@ pub fn superinterface_laws(_rows: &Rows)
         → IsSuperinterface _rows.now.table c (put (by_params row.params ts) v) }
 {}
 
-/// A type is a subtype of itself, and of all that a supertype of it is a subtype of. A nullable type is a
-/// subtype of what its bare type and Null are subtypes of, and of nothing else. What a superinterface of a
-/// class is a subtype of, with the arguments put in, the class with these arguments is a subtype of.
+/// A class keeps superinterfaces alone, those that are computed, and all where nothing is left out: where no
+/// class forms one that is too large, for which there is a test that computes.
+pub fn kept_laws(_rows: &Rows)
+    ensures kept { (c : ClassId) (v : Ty) → Keeps _rows.now.table c v → IsSuperinterface _rows.now.table c v × (size_of (normal v) ≤ NODE_LIMIT) }
+    ensures all_kept { LeavesNothingOut _rows.now.table → (c : ClassId) (v : Ty) → IsSuperinterface _rows.now.table c v → Keeps _rows.now.table c v }
+    ensures nothing_out { LeavesNothingOut _rows.now.table ↔ ((c : ClassId) → FormsTooLarge _rows.now.table c → ⊥) }
+    ensures computed { (c : ClassId) (v : Ty) → Keeps _rows.now.table c v ↔ Contains (kept_of _rows.now.table c) v }
+    ensures told { (c : ClassId) → IsTrue (forms_too_large _rows.now.table c) ↔ FormsTooLarge _rows.now.table c }
+{}
+
+/// A type is a subtype of itself. A nullable type is a subtype of what its bare type and Null are subtypes
+/// of, and of nothing else. A class with arguments is a subtype of each superinterface that it keeps, with
+/// the arguments put in. Where rows leave nothing out, a type is a subtype of all that a supertype of it is
+/// a subtype of, and a class with arguments of all that a superinterface of it is, with the arguments put in.
 pub fn subtype_laws(_rows: &Rows)
     ensures reflexive { (t : Ty) → Sub _rows.now.table t t }
-    ensures transitive { (s t u : Ty) → Sub _rows.now.table s t → Sub _rows.now.table t u → Sub _rows.now.table s u }
     ensures nullable { (s t : Ty) → Sub _rows.now.table (nullable s) t ↔ (Sub _rows.now.table s t × Sub _rows.now.table null t) }
-    ensures superinterfaces { (c : ClassId) (ss : Types) (row : ClassRow) (v t : Ty) → class_of _rows.now.table c ≡ Some row
+    ensures kept { (c : ClassId) (ss : Types) (row : ClassRow) (v : Ty) → class_of _rows.now.table c ≡ Some row
+        → count ss ≡ length row.params → Keeps _rows.now.table c v
+        → Sub _rows.now.table (interface c ss) (put (by_params row.params ss) v) }
+    ensures transitive { LeavesNothingOut _rows.now.table
+        → (s t u : Ty) → Sub _rows.now.table s t → Sub _rows.now.table t u → Sub _rows.now.table s u }
+    ensures superinterfaces { LeavesNothingOut _rows.now.table
+        → (c : ClassId) (ss : Types) (row : ClassRow) (v t : Ty) → class_of _rows.now.table c ≡ Some row
         → count ss ≡ length row.params → IsSuperinterface _rows.now.table c v
         → Sub _rows.now.table (put (by_params row.params ss) v) t → Sub _rows.now.table (interface c ss) t }
 {}
@@ -169,9 +186,10 @@ pub fn normal_form_laws(_rows: &Rows)
     ensures put { (σ : VarId → Ty) (t : Ty) → normal (put σ (normal t)) ≡ normal (put σ t) }
 {}
 
-/// Types over the variables in scope stay subtypes where each variable is replaced by a type within
-/// its bound.
+/// Where rows leave nothing out, types over the variables in scope stay subtypes where each variable is
+/// replaced by a type within its bound.
 pub fn substitution_keeps_subtypes(_rows: &Rows)
+    requires { LeavesNothingOut _rows.now.table }
     ensures { (scope : List VarId) (σ : VarId → Ty) (s t : Ty) → IsWithinBounds scope σ _rows.now.table → IsInScope scope σ s → IsInScope scope σ t
         → Sub _rows.now.table s t → Sub _rows.now.table (put σ s) (put σ t) }
 {}
@@ -182,8 +200,8 @@ pub fn row_laws(_rows: &Rows)
 {}
 
 /// More rows change nothing: types over the smaller rows are over the larger ones too, and there the
-/// same types are their subtypes, the rows of their classes are the same, and so are superinterfaces
-/// and bounds.
+/// same types are their subtypes, the rows of their classes are the same, and so are superinterfaces,
+/// those that are kept, and bounds.
 pub fn more_rows_laws(_small: &Rows, _large: &Rows)
     requires { Extends _small.now.table _large.now.table }
     ensures over { (t : Ty) → IsOver _small.now.table t → IsOver _large.now.table t }
@@ -193,6 +211,7 @@ pub fn more_rows_laws(_small: &Rows, _large: &Rows)
     ensures bounds { (x : VarId) → IsSome (bound_of _small.now.table x) → bound_of _small.now.table x ≡ bound_of _large.now.table x }
     ensures superinterfaces { (c : ClassId) (v : Ty) → IsSome (class_of _small.now.table c)
         → IsSuperinterface _small.now.table c v ↔ IsSuperinterface _large.now.table c v }
+    ensures kept { (c : ClassId) (v : Ty) → IsSome (class_of _small.now.table c) → Keeps _small.now.table c v ↔ Keeps _large.now.table c v }
 {}
 
 /// What larger rows leave as it is, as one value.

@@ -40,6 +40,7 @@ mod sizes;
 mod substitution;
 mod subtyping;
 mod superinterfaces;
+mod too_large;
 mod type_checks;
 mod types;
 mod var_libraries;
@@ -53,12 +54,12 @@ pub use ids::{
 };
 pub use laws::{
     bound_laws, class_row_laws, constants_are_those_of_the_rules, count_laws, equality_laws,
-    form_laws, measure_laws, more_rows_laws, named_parameter_laws, normal_form_laws, row_laws,
-    size_laws, substitution_keeps_subtypes, subtype_laws, subtype_test_law, superinterface_laws,
-    union_laws, view_law, views_law, wider_rows_laws,
+    form_laws, kept_laws, measure_laws, more_rows_laws, named_parameter_laws, normal_form_laws,
+    row_laws, size_laws, substitution_keeps_subtypes, subtype_laws, subtype_test_law,
+    superinterface_laws, union_laws, view_law, views_law, wider_rows_laws,
 };
-pub use refusal::{NODE_LIMIT, RowsRefusal, TypeRefusal};
-pub use rows::Rows;
+pub use refusal::{NODE_LIMIT, TypeRefusal};
+pub use rows::{ExtendedRows, Rows};
 pub use sizes::size;
 pub use substitution::substitute;
 pub use subtyping::{is_subtype, is_subtype_of_object};

@@ -1,6 +1,5 @@
 //! Why a type isn't formed.
 
-use crate::ids::ClassId;
 use std::alloc::AllocError;
 use thiserror::Error;
 
@@ -26,28 +25,5 @@ impl From<AllocError> for TypeRefusal {
 
     fn from(_refused: AllocError) -> TypeRefusal {
         TypeRefusal::Memory
-    }
-}
-
-/// Why rows aren't formed.
-#[derive(Clone, Copy, Debug, PartialEq, Eq, Drop, Error)]
-pub enum RowsRefusal {
-    /// A superinterface of the class has more than `NODE_LIMIT` types in it: so many, or 2^64 - 1
-    /// where there are more.
-    #[error("{nodes} types would stand in a superinterface of a class")]
-    TooLarge { class: ClassId, nodes: u64 },
-    /// Memory ran out.
-    #[error("out of memory")]
-    Memory,
-}
-
-impl From<AllocError> for RowsRefusal {
-    ghost use Rattle.std.specs.Prelude.{◌≡◌};
-    ghost use Rattle.dart_types.specs.declared.refusal.RowsRefusal.TheVariants.{Memory};
-
-    ghost from_gives = { λ e r. r ≡ Memory };
-
-    fn from(_refused: AllocError) -> RowsRefusal {
-        RowsRefusal::Memory
     }
 }

@@ -1,15 +1,14 @@
 //! The rows of classes and type variables.
 
-ghost use Rattle.std.specs.Prelude.{◌≡◌, ◌↔◌, [], None, IfOk, IfErr, OnOk, IsTrue, MatchOption};
+ghost use Rattle.std.specs.Prelude.{◌≡◌, ◌↔◌, [], None, map, filter, IfOk, IsTrue, MatchOption};
 ghost use Rattle.std.specs.Option.{option_copied};
 ghost use Rattle.dart_types.specs.Tables.{Table, class_of, bound_of};
-ghost use Rattle.dart_types.specs.Joined.{joined};
+ghost use Rattle.dart_types.specs.Kept.{forms_too_large};
 ghost use Rattle.dart_types.specs.Entries.{IsEntry};
 ghost use Rattle.dart_types.specs.Libraries.{table_in};
 ghost use Rattle.dart_types.specs.Others.{AreOthers};
 ghost use Rattle.dart_types.specs.WellFormed.{IsWellFormed};
 ghost use Rattle.dart_types.specs.Superinterfaces.{AreSuperinterfaces};
-ghost use Rattle.dart_types.specs.RowsCause.{IsCauseIn, OwnFit};
 ghost use Rattle.dart_types.specs.FormedProp.{IsWellFormed-prop};
 ghost use Rattle.dart_types.specs.Unions.{IsFormedOver, IsUnion, IsView, AreViewsOfOne, HasClassOf, HasVarOf};
 
@@ -20,8 +19,8 @@ use crate::class_rows::{ClassRow, VarRow};
 use crate::entries::{ClassEntry, entries_of, find_bound, find_entry};
 use crate::filling::fill_all;
 use crate::ids::{ClassId, LibId, VarId};
-use crate::refusal::RowsRefusal;
 use crate::superinterfaces::Superinterface;
+use crate::too_large::{ids_of, too_large_among};
 use crate::types::DartType;
 use crate::var_libraries::{SharedVars, copy_vars, find_vars, put_all_vars, vars_by_library};
 use std::alloc::{AllocError, Global};
@@ -38,6 +37,17 @@ pub struct Rows {
     classes: Vec<SharedClasses>,
     vars: Vec<SharedVars>,
     ghost formed: { IsWellFormed (table_in classes.items vars.items) } by { IsWellFormed-prop (table_in classes.items vars.items) },
+}
+
+/// Rows with own ones put over them.
+#[derive(Drop)]
+pub struct ExtendedRows {
+    /// All rows.
+    pub rows: Rows,
+    /// The own classes that form a superinterface that is too large, in the order of their ids: one that
+    /// they have as direct supertype, or that the class of one keeps, with the arguments put in. It is left
+    /// out.
+    pub too_large: Vec<ClassId>,
 }
 
 impl Model for Rows {
@@ -65,21 +75,36 @@ impl Rows {
         }
     }
 
-    /// The rows below with own ones of other libraries, and the superinterfaces of each own class. Both
-    /// lists are in the order of their ids. `TooLarge` comes exactly where some own class has a
-    /// superinterface, in its own parameters, in which more than `NODE_LIMIT` types stand; it names one
-    /// such class of the least depth. The rows below are a view of the result, as `union` wants it.
+    /// The rows below with own ones of other libraries, and the superinterfaces of each own class; and the
+    /// own classes that form a superinterface that is too large. Both lists are in the order of their ids.
+    /// The rows below are a view of the result, as `union` wants it.
     pub fn extend(
         alloc: Global,
         below: &Rows,
         classes: Vec<ClassRow>,
         vars: Vec<VarRow>,
-    ) -> Result<Rows, RowsRefusal>
+    ) -> Result<ExtendedRows, AllocError>
+        requires { IsFormedOver below.now.table (record { classes = classes.items; vars = vars.items }) }
+        ensures ok { IfOk result (λ e. IsUnion below.now.table (record { classes = classes.items; vars = vars.items }) e.rows.table) }
+        ensures view { IfOk result (λ e. IsView below.now.table e.rows.table) }
+        ensures too_large { IfOk result (λ e. e.too_large.items ≡ filter (forms_too_large e.rows.table) (map (λ row. row.id) classes.items)) }
+    {
+        let ids = ids_of(alloc, &classes)?;
+        let rows = Rows::over(alloc, below, classes, vars)?;
+        let too_large = too_large_among(alloc, &rows, &ids)?;
+        Ok(ExtendedRows { rows, too_large })
+    }
+
+    // The rows below with own ones of other libraries.
+    fn over(
+        alloc: Global,
+        below: &Rows,
+        classes: Vec<ClassRow>,
+        vars: Vec<VarRow>,
+    ) -> Result<Rows, AllocError>
         requires { IsFormedOver below.now.table (record { classes = classes.items; vars = vars.items }) }
         ensures ok { IfOk result (λ rows. IsUnion below.now.table (record { classes = classes.items; vars = vars.items }) rows.table) }
-        ensures fit { let own : Table = record { classes = classes.items; vars = vars.items } in OnOk result (OwnFit (joined below.now.table own) own) }
         ensures view { IfOk result (λ rows. IsView below.now.table rows.table) }
-        ensures err { let own : Table = record { classes = classes.items; vars = vars.items } in IfErr result (IsCauseIn (joined below.now.table own) own) }
     {
         let mut entries = entries_of(alloc, classes)?;
         fill_all(alloc, below, &mut entries, &vars)?;
@@ -156,7 +181,7 @@ impl Rows {
         }
     }
 
-    /// The superinterfaces of a class, in the order of their classes. It takes no memory.
+    /// The superinterfaces that a class keeps, in the order of their classes. It takes no memory.
     pub fn superinterfaces(&self, class: ClassId) -> &[Superinterface]
         ensures { AreSuperinterfaces self.now.table class result.now }
     {

@@ -1,15 +1,17 @@
 -- What tests promote a local to, and models that agree on what is known of one.
-use Rattle.std.proofs.Common.{◌≡◌, Bool, true, false, List, [], ◌∷◌, ◌++◌, if◌then◌else◌, Some, refl, sym, ap, ◌∙◌}
-use Rattle.std.specs.Option.{option_map}
-use Rattle.dart_types.specs.Ty.{Ty}
+use Rattle.std.proofs.Common.{◌≡◌, ◌≤◌, Bool, true, false, ◌&&◌, not, List, [], ◌∷◌, ◌++◌, length, if◌then◌else◌, Option, None, Some, refl, sym, ap, ◌∙◌, arith}
+use Rattle.std.specs.Prelude.{◌||◌}
+use Rattle.std.specs.Option.{option_map, option_map_or}
+use Rattle.dart_types.specs.Ty.{Ty, invalid, never, void, null, interface, function, variable, promoted, nullable}
 use Rattle.dart_types.specs.Same.{same_type}
-use Rattle.dart_types.specs.Tables.{Table}
+use Rattle.dart_types.specs.Tables.{Table, bound_of}
 use Rattle.dart_types.specs.Sub.{Sub, reflexivity}
+use Rattle.dart_types.specs.declared.ids.VarId.{VarId}
 use Rattle.type_bounds.specs.NonNull.{non_null_of}
 use Rattle.type_bounds.specs.Laws.{BoundLaws}
 use Rattle.flow_model.specs.TypeTests.{proper_sub, is_formed, is_in}
 use Rattle.flow_model.specs.Flow.{FlowModel, facts_of, last_or, current_of, current_in}
-use Rattle.flow_model.specs.Promote.{promoted_facts, tested_as, promote_facts, without_null_of, non_null_facts, below_current, append_facts}
+use Rattle.flow_model.specs.Promote.{promoted_facts, narrowed_variable, by_variable, tested_as, promote_facts, without_null_of, non_null_facts, below_current, append_facts}
 use Rattle.flow_model.specs.Assign.{kept_chain}
 use Rattle.flow_model.specs.Chains.{Descends}
 use Rattle.flow_model.specs.Order.{kept_in, tested_in}
@@ -82,33 +84,70 @@ module _ (table : Table) where
   pub non_null_promotes : (l : Facts) → l.captured ≡ false → is_formed (non_null_of table (current_of l)) ≡ true → current_of (non_null_facts table l) ≡ non_null_of table (current_of l)
   non_null_promotes l = without_null_at l (same_type (non_null_of table (current_of l)) (current_of l)) refl
 
+  -- a test promotes to one type at most
+  one_if : (t : Ty) (b : Bool) → length (if b then t ∷ [] else []) ≤ 1
+  one_if t true = omega arith
+  one_if t false = omega arith
+
+  one_unless : (t : Ty) (b : Bool) → length (if b then [] else t ∷ []) ≤ 1
+  one_unless t true = omega arith
+  one_unless t false = omega arith
+
+  one_either : (us vs : List Ty) (b : Bool) → length us ≤ 1 → length vs ≤ 1 → length (if b then us else vs) ≤ 1
+  one_either us vs true first second = first
+  one_either us vs false first second = second
+
+  bound_one : (x : VarId) (to : Ty) (bound : Option Ty) → length (option_map_or (narrowed_variable table (promoted x to) to) bound []) ≤ 1
+  bound_one x to None = omega arith
+  bound_one x to (Some b) = one_if (promoted x to) (proper_sub table to b && is_formed (promoted x to))
+
+  by_variable_one : (to t : Ty) → length (by_variable table to t) ≤ 1
+  by_variable_one to invalid = omega arith
+  by_variable_one to never = omega arith
+  by_variable_one to void = omega arith
+  by_variable_one to null = omega arith
+  by_variable_one to (interface c ts) = omega arith
+  by_variable_one to (function r o n e) = omega arith
+  by_variable_one to (variable x) = bound_one x to (bound_of table x)
+  by_variable_one to (promoted x u) = one_if (promoted x to) (proper_sub table to u && is_formed (promoted x to))
+  by_variable_one to (nullable u) = omega arith
+
+  tested_one : (to t : Ty) → length (tested_as table to t) ≤ 1
+  tested_one to t = one_either (to ∷ []) (by_variable table to t) (proper_sub table to t) (omega arith) (by_variable_one to t)
+
+  without_null_one : (t : Ty) → length (without_null_of table t) ≤ 1
+  without_null_one t = one_unless (non_null_of table t) (same_type (non_null_of table t) t || not (is_formed (non_null_of table t)))
+
+  known_one : (to t : Ty) → length (below_current table to t) ≤ 1
+  known_one to t = one_if to (proper_sub table to t)
+
+  -- and that one is below
+  last_below : (t : Ty) (us : List Ty) → length us ≤ 1 → Descends table t us → Sub table (last_or t us) t
+  last_below t [] one down = reflexivity
+  last_below t (u ∷ []) one down = down.0
+  last_below t (u ∷ v ∷ us) one down = absurd (omega arith)
+
+  last_below_if : (t : Ty) (us : List Ty) (captured : Bool) → length us ≤ 1 → Descends table t us → Sub table (last_or t (if captured then [] else us)) t
+  last_below_if t us true one down = reflexivity
+  last_below_if t us false one down = last_below t us one down
+
+  -- a promotion to a type below the current one
+  promoted_narrows : (types : List Ty) (l : Facts) → length types ≤ 1 → Descends table (current_of l) types → Sub table (current_of (promoted_facts types l)) (current_of l)
+  promoted_narrows types l one down =
+      rw (last_or-append l.ty l.chain (if l.captured then [] else types)) (last_below_if (current_of l) types l.captured one down)
+
   module _ (laws : BoundLaws table) where
-    -- the last of types that descend is below
-    last_below : (t : Ty) (us : List Ty) → Descends table t us → Sub table (last_or t us) t
-    last_below t [] down = reflexivity
-    last_below t (u ∷ us) down = laws.rows.sub_transitive (last_or u us) u t (last_below u us down.1) down.0
-
-    -- the last of types that stand only where a local isn't captured
-    last_below_if : (t : Ty) (us : List Ty) (captured : Bool) → Descends table t us → Sub table (last_or t (if captured then [] else us)) t
-    last_below_if t us true down = reflexivity
-    last_below_if t us false down = last_below t us down
-
-    -- a promotion to types that descend from the current one
-    promoted_narrows : (types : List Ty) (l : Facts) → Descends table (current_of l) types → Sub table (current_of (promoted_facts types l)) (current_of l)
-    promoted_narrows types l down =
-        rw (last_or-append l.ty l.chain (if l.captured then [] else types)) (last_below_if (current_of l) types l.captured down)
-
     -- a test
     pub test_narrows : (to : Ty) (l : Facts) → Sub table (current_of (promote_facts table to l)) (current_of l)
     test_narrows to l =
-        promoted_narrows (tested_as table to (current_of l)) l (tested_below table laws to (current_of l))
+        promoted_narrows (tested_as table to (current_of l)) l (tested_one to (current_of l)) (tested_below table laws to (current_of l))
 
     -- that it isn't null
     pub non_null_narrows : (l : Facts) → Sub table (current_of (non_null_facts table l)) (current_of l)
     non_null_narrows l =
-        promoted_narrows (without_null_of table (current_of l)) l (without_null_below table laws (current_of l))
+        promoted_narrows (without_null_of table (current_of l)) l (without_null_one (current_of l)) (without_null_below table laws (current_of l))
 
     -- that it has a type
     pub append_narrows : (to : Ty) (l : Facts) → Sub table (current_of (append_facts table to l)) (current_of l)
     append_narrows to l =
-        promoted_narrows (below_current table to (current_of l)) l (known_below table laws to (current_of l))
+        promoted_narrows (below_current table to (current_of l)) l (known_one to (current_of l)) (known_below table laws to (current_of l))

@@ -10,6 +10,7 @@ use Rattle.dart_types.specs.Same.{same_type}
 use Rattle.dart_types.specs.Tables.{Table, bound_of}
 use Rattle.dart_types.specs.Sub.{Sub, reflexivity, left_promoted_variable, left_promoted_type, right_promoted}
 use Rattle.dart_types.specs.SubTest.{sub}
+use Rattle.dart_types.specs.Superinterfaces.{LeavesNothingOut}
 use Rattle.dart_types.specs.declared.ids.VarId.{VarId}
 use Rattle.type_bounds.specs.NonNull.{non_null_of}
 use Rattle.type_bounds.specs.Laws.{BoundLaws}
@@ -105,21 +106,21 @@ module _ (table : Table) (laws : BoundLaws table) where
       (λ u h. below_from_proper u t (and_parts (sub table written u) (proper_sub table u t) h).1)
       between passes)))
 
-  -- types that descend from a subtype of a type descend from it
-  descends_higher : (s t : Ty) (us : List Ty) → Sub table s t → Descends table s us → Descends table t us
-  descends_higher s t [] below down = tt
-  descends_higher s t (u ∷ us) below down = (laws.rows.sub_transitive u s t down.0 below, down.1)
+  -- where rows leave nothing out, types that descend from a subtype of a type descend from it
+  descends_higher : LeavesNothingOut table → (s t : Ty) (us : List Ty) → Sub table s t → Descends table s us → Descends table t us
+  descends_higher nothing s t [] below down = tt
+  descends_higher nothing s t (u ∷ us) below down = (laws.rows.sub_transitive nothing u s t down.0 below, down.1)
 
   -- the step of the next lemma
-  descends_filter_at : (p : Ty → Bool) (t u : Ty) (us : List Ty) (b : Bool) → p u ≡ b → Sub table u t → Descends table u (filter p us) → Descends table t (filter p (u ∷ us))
-  descends_filter_at p t u us true e below down = rw e (below, down)
-  descends_filter_at p t u us false e below down = rw e (descends_higher u t (filter p us) below down)
+  descends_filter_at : LeavesNothingOut table → (p : Ty → Bool) (t u : Ty) (us : List Ty) (b : Bool) → p u ≡ b → Sub table u t → Descends table u (filter p us) → Descends table t (filter p (u ∷ us))
+  descends_filter_at nothing p t u us true e below down = rw e (below, down)
+  descends_filter_at nothing p t u us false e below down = rw e (descends_higher nothing u t (filter p us) below down)
 
-  -- where some of the types are left out, the others still descend
-  descends_filter : (p : Ty → Bool) (t : Ty) (us : List Ty) → Descends table t us → Descends table t (filter p us)
-  descends_filter p t [] down = tt
-  descends_filter p t (u ∷ us) down =
-      descends_filter_at p t u us (p u) refl down.0 (descends_filter p u us down.1)
+  -- and where some of the types are taken out, the others still descend
+  descends_filter : LeavesNothingOut table → (p : Ty → Bool) (t : Ty) (us : List Ty) → Descends table t us → Descends table t (filter p us)
+  descends_filter nothing p t [] down = tt
+  descends_filter nothing p t (u ∷ us) down =
+      descends_filter_at nothing p t u us (p u) refl down.0 (descends_filter nothing p u us down.1)
 
   -- types behind the last of others
   descends_append : (t : Ty) (us vs : List Ty) → Descends table t us → Descends table (last_or t us) vs → Descends table t (us ++ vs)
@@ -137,11 +138,11 @@ module _ (table : Table) (laws : BoundLaws table) where
       descends_append l.ty l.chain (if l.captured then [] else types) down (descends_unless (current_of l) types l.captured more)
 
   -- a write
-  descends_assign : (written : Ty) (l : Facts) → HasDescendingChain table l → HasDescendingChain table (assign_facts table written l)
-  descends_assign written l down =
+  descends_assign : LeavesNothingOut table → (written : Ty) (l : Facts) → HasDescendingChain table l → HasDescendingChain table (assign_facts table written l)
+  descends_assign nothing written l down =
       let kept = kept_chain table written l in
       let appended = appended_of table written (last_or l.ty kept) (interest_of table l) in
-      descends_append l.ty kept (if l.captured then [] else appended) (descends_filter (sub table written) l.ty l.chain down)
+      descends_append l.ty kept (if l.captured then [] else appended) (descends_filter nothing (sub table written) l.ty l.chain down)
       (descends_unless (last_or l.ty kept) appended l.captured (appended_below written (last_or l.ty kept) (interest_of table l)))
 
   -- either of two facts
@@ -155,20 +156,20 @@ module _ (table : Table) (laws : BoundLaws table) where
       descends_if (is_changed written captured l.var) (record l { chain = []; unassigned = false; captured = l.captured || is_listed captured l.var }) l tt down
 
   -- two paths
-  descends_join : (l m : Facts) → HasDescendingChain table l → HasDescendingChain table m → HasDescendingChain table (join_facts l m)
-  descends_join l m down other =
-      descends_unless l.ty (filter (is_in m.chain) l.chain) (l.captured || m.captured) (descends_filter (is_in m.chain) l.ty l.chain down)
+  descends_join : LeavesNothingOut table → (l m : Facts) → HasDescendingChain table l → HasDescendingChain table m → HasDescendingChain table (join_facts l m)
+  descends_join nothing l m down other =
+      descends_unless l.ty (filter (is_in m.chain) l.chain) (l.captured || m.captured) (descends_filter nothing (is_in m.chain) l.ty l.chain down)
 
   -- the step of the next lemma
-  proper_descend_at : (t u : Ty) (us : List Ty) (b : Bool) → proper_sub table u t ≡ b → Descends table u us → Descends table t (filter (λ v. proper_sub table v t) us) → Descends table t (filter (λ v. proper_sub table v t) (u ∷ us))
-  proper_descend_at t u us true e down more =
-      rw e (below_from_proper u t e, descends_filter (λ v. proper_sub table v t) u us down)
-  proper_descend_at t u us false e down more = rw e more
+  proper_descend_at : LeavesNothingOut table → (t u : Ty) (us : List Ty) (b : Bool) → proper_sub table u t ≡ b → Descends table u us → Descends table t (filter (λ v. proper_sub table v t) us) → Descends table t (filter (λ v. proper_sub table v t) (u ∷ us))
+  proper_descend_at nothing t u us true e down more =
+      rw e (below_from_proper u t e, descends_filter nothing (λ v. proper_sub table v t) u us down)
+  proper_descend_at nothing t u us false e down more = rw e more
 
   -- of types that descend, those that are proper subtypes of one descend from it
-  proper_descend : (s t : Ty) (us : List Ty) → Descends table s us → Descends table t (filter (λ v. proper_sub table v t) us)
-  proper_descend s t [] down = tt
-  proper_descend s t (u ∷ us) down = proper_descend_at t u us (proper_sub table u t) refl down.1 (proper_descend u t us down.1)
+  proper_descend : LeavesNothingOut table → (s t : Ty) (us : List Ty) → Descends table s us → Descends table t (filter (λ v. proper_sub table v t) us)
+  proper_descend nothing s t [] down = tt
+  proper_descend nothing s t (u ∷ us) down = proper_descend_at nothing t u us (proper_sub table u t) refl down.1 (proper_descend nothing u t us down.1)
 
   -- either of two lists
   descends_either : (t : Ty) (ss us : List Ty) (b : Bool) → Descends table t ss → Descends table t us → Descends table t (if b then ss else us)
@@ -176,19 +177,19 @@ module _ (table : Table) (laws : BoundLaws table) where
   descends_either t ss us false first second = second
 
   -- a body and a block
-  descends_restrict : (written captured : List LocalId) (l m : Facts) → l.ty ≡ m.ty → HasDescendingChain table l → HasDescendingChain table m → HasDescendingChain table (restrict_facts table written captured l m)
-  descends_restrict written captured l m same down other =
+  descends_restrict : LeavesNothingOut table → (written captured : List LocalId) (l m : Facts) → l.ty ≡ m.ty → HasDescendingChain table l → HasDescendingChain table m → HasDescendingChain table (restrict_facts table written captured l m)
+  descends_restrict nothing written captured l m same down other =
       let own : Descends table l.ty m.chain = rw same other in
       let further = further_of table l.ty l.chain m.chain in
-      let behind = descends_append l.ty l.chain (filter (λ v. proper_sub table v (current_of l)) m.chain) down (proper_descend l.ty (current_of l) m.chain own) in
+      let behind = descends_append l.ty l.chain (filter (λ v. proper_sub table v (current_of l)) m.chain) down (proper_descend nothing l.ty (current_of l) m.chain own) in
       descends_unless l.ty (if is_changed written captured l.var then m.chain else further) (l.captured || m.captured)
       (descends_either l.ty m.chain further (is_changed written captured l.var) own behind)
 
   module _ (m : FlowModel) (var : LocalId) where
     -- a write of one local
-    pub assign_keeps : (written : Ty) → HasDescendingChains table m → HasDescendingChains table (at_local m var (assign_facts table written))
-    assign_keeps written =
-        kept.at_local_keeps (HasDescendingChain table) m var (assign_facts table written) (descends_assign written)
+    pub assign_keeps : LeavesNothingOut table → (written : Ty) → HasDescendingChains table m → HasDescendingChains table (at_local m var (assign_facts table written))
+    assign_keeps nothing written =
+        kept.at_local_keeps (HasDescendingChain table) m var (assign_facts table written) (descends_assign nothing written)
 
     -- a test of one local
     pub promote_keeps : (to : Ty) → HasDescendingChains table m → HasDescendingChains table (at_local m var (promote_facts table to))
@@ -226,10 +227,10 @@ module _ (table : Table) (laws : BoundLaws table) where
   end_keeps = kept.end_keeps (HasDescendingChain table)
 
   -- where two paths meet
-  pub join_keeps : (a b : FlowModel) → HasDescendingChains table a → HasDescendingChains table b → HasDescendingChains table (join_of a b)
-  join_keeps = kept.join_keeps (HasDescendingChain table) descends_join
+  pub join_keeps : LeavesNothingOut table → (a b : FlowModel) → HasDescendingChains table a → HasDescendingChains table b → HasDescendingChains table (join_of a b)
+  join_keeps nothing = kept.join_keeps (HasDescendingChain table) (descends_join nothing)
 
   -- behind a body and a block
-  pub restrict_keeps : (a b : FlowModel) (written captured : List LocalId) → HaveSameScope a b → HasDescendingChains table a → HasDescendingChains table b → HasDescendingChains table (restrict_of table a b written captured)
-  restrict_keeps a b written captured same =
-      kept.same_paired_keeps (HasDescendingChain table) (restrict_facts table written captured) (descends_restrict written captured) a.locals b.locals same
+  pub restrict_keeps : LeavesNothingOut table → (a b : FlowModel) (written captured : List LocalId) → HaveSameScope a b → HasDescendingChains table a → HasDescendingChains table b → HasDescendingChains table (restrict_of table a b written captured)
+  restrict_keeps nothing a b written captured same =
+      kept.same_paired_keeps (HasDescendingChain table) (restrict_facts table written captured) (descends_restrict nothing written captured) a.locals b.locals same

@@ -78,8 +78,8 @@ pub(crate) fn rows(alloc: Global) -> Result<Rows, Fail> {
     if !none.takes(&classes, &vars) {
         return Err("rows that aren't well formed".into());
     }
-    let rows = Rows::extend(alloc, &none, classes, vars)?;
-    Ok(rows)
+    let extended = Rows::extend(alloc, &none, classes, vars)?;
+    Ok(extended.rows)
 }
 
 // A type variable, by its place.

@@ -7,7 +7,7 @@ use Rattle.dart_types.specs.Ty.{Ty, Types, Named, invalid, never, void, null, in
 use Rattle.dart_types.specs.Named.{has_name}
 use Rattle.dart_types.specs.Normal.{nullable_of}
 use Rattle.dart_types.specs.Tables.{Table}
-use Rattle.dart_types.specs.Sub.{Sub, Subs, SubParams, SubNamed, HasNamed, first, later, is_required, reflexivity, right_top, left_bottom, left_null, right_object, left_nullable, right_nullable, left_promoted_variable, left_promoted_type, left_variable_bound, interface_arguments, function_class, function_types, none_left, one_left, no_param, one_param, no_name, one_name}
+use Rattle.dart_types.specs.Sub.{Sub, Subs, SubParams, SubNamed, HasNamed, first, later, is_required, reflexivity, right_top, left_bottom, left_null, right_object, left_nullable, right_nullable, left_promoted_variable, left_promoted_type, left_variable_bound, interface_arguments, function_class, function_types, left_top, none_left, one_left, no_param, one_param, no_name, one_name}
 use Rattle.dart_types.specs.declared.ids.ClassId.{ClassId}
 use Rattle.dart_types.specs.declared.ids.VarId.{VarId}
 use Rattle.dart_types.specs.Laws.{RowLaws}
@@ -42,6 +42,43 @@ module _ (table : Table) where
   null_above (variable x) = left_null
   null_above (promoted x t) = left_null
   null_above (nullable t) = left_null
+
+  -- what is below Never is below every type
+  below_never : {t : Ty} (u : Ty) → Sub table t never → Sub table t u
+  below_never u reflexivity = left_bottom
+  below_never u (right_top e) = cc
+  below_never u left_bottom = left_bottom
+  below_never u (right_object e p) = cc
+  below_never u (left_nullable a b) = left_nullable (below_never u a) (below_never u b)
+  below_never u (left_promoted_variable a) = left_promoted_variable (below_never u a)
+  below_never u (left_promoted_type a) = left_promoted_type (below_never u a)
+  below_never u (left_variable_bound b e a) = left_variable_bound b e (below_never u a)
+  below_never u (function_class e) = cc
+  below_never u (left_top a) = left_top (below_never u a)
+
+  -- what is below a type is below the type with `?`
+  below_marked : {s : Ty} (u : Ty) → Sub table s u → Sub table s (nullable_of u)
+  below_marked invalid a = right_nullable a
+  below_marked never a = below_never null a
+  below_marked void a = a
+  below_marked null a = a
+  below_marked (interface c ts) a = right_nullable a
+  below_marked (function r o n e) a = right_nullable a
+  below_marked (variable x) a = right_nullable a
+  below_marked (promoted x t) a = right_nullable a
+  below_marked (nullable t) a = a
+
+  -- a type is below the upper bound of its bare type with `?`
+  marked_over : (s u : Ty) → Sub table (bare_of s) u → Sub table s (nullable_of u)
+  marked_over invalid u a = below_marked u a
+  marked_over never u a = below_marked u a
+  marked_over void u a = below_marked u a
+  marked_over null u a = below_marked u a
+  marked_over (interface c ts) u a = below_marked u a
+  marked_over (function r o n e) u a = below_marked u a
+  marked_over (variable x) u a = below_marked u a
+  marked_over (promoted x t) u a = below_marked u a
+  marked_over (nullable t) u a = left_nullable (below_marked u a) (null_above u)
 
   -- a lower bound with `?`
   pub marked_below : (u s : Ty) → Sub table u s → Sub table (nullable_of u) (nullable s)
@@ -138,21 +175,6 @@ module _ (table : Table) where
       (nat_from_test (count r) (count r') b.0, and_parts (required_are_in n n') (required_are_in n' n) b.1)
 
   module _ (laws : RowLaws table) where
-    go : {s t u : Ty} → Sub table s t → Sub table t u → Sub table s u
-    go {s} {t} {u} a b = laws.sub_transitive s t u a b
-
-    -- a type is below the upper bound of its bare type with `?`
-    marked_over : (s u : Ty) → Sub table (bare_of s) u → Sub table s (nullable_of u)
-    marked_over invalid u a = go a (marked_above u)
-    marked_over never u a = go a (marked_above u)
-    marked_over void u a = go a (marked_above u)
-    marked_over null u a = go a (marked_above u)
-    marked_over (interface c ts) u a = go a (marked_above u)
-    marked_over (function r o n e) u a = go a (marked_above u)
-    marked_over (variable x) u a = go a (marked_above u)
-    marked_over (promoted x t) u a = go a (marked_above u)
-    marked_over (nullable t) u a = left_nullable (go a (marked_above u)) (null_above u)
-
     mutual
       pub upper_above : {s t u : Ty} → Upper table s t u → IsValid u → Sub table s u × Sub table t u
       upper_above (right_above a) v = (a, reflexivity)

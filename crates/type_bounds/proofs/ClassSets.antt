@@ -4,10 +4,10 @@ use Rattle.std.specs.Prelude.{◌⊎◌, Contains}
 use Rattle.dart_types.specs.Ty.{Ty, Types, invalid, never, void, null, interface, function, variable, promoted, nullable, no_more, more}
 use Rattle.dart_types.specs.Heads.{is_object, is_top}
 use Rattle.dart_types.specs.Normal.{normal}
-use Rattle.dart_types.specs.Substitution.{put, by_params}
+use Rattle.dart_types.specs.Substitution.{put, put_all, by_params}
 use Rattle.dart_types.specs.Tables.{Table, class_of}
 use Rattle.dart_types.specs.Sub.{Sub, Subs, reflexivity, right_top, left_bottom, left_null, right_object, left_nullable, right_nullable, left_promoted_variable, left_promoted_type, right_promoted, left_variable_bound, interface_arguments, super_interface, function_class, function_types, left_top, none_left, one_left}
-use Rattle.dart_types.specs.Superinterfaces.{IsSuperinterface, direct, further}
+use Rattle.dart_types.specs.Superinterfaces.{Inherits, supertype, handed_on, Keeps}
 use Rattle.dart_types.specs.declared.ids.ClassId.{ClassId}
 use Rattle.dart_types.specs.declared.ids.VarId.{VarId}
 use Rattle.dart_types.specs.declared.ids.TheConstants.{OBJECT}
@@ -92,6 +92,12 @@ module _ (among : ClassId → Type 0) where
   normal_in = each_in (λ (t : Ty). IsIn among (normal t)) (λ c h. (h, refl))
 
   module _ (table : Table) (root : among OBJECT) (closed : (c : ClassId) (row : ClassRow) (v : Ty) → among c → class_of table c ≡ Some row → Contains row.supers v → IsIn among v) where
+    -- what a class of the set inherits is in it
+    inherited_in : {c : ClassId} {v : Ty} → among c → Inherits table c v → IsIn among v
+    inherited_in {c = c} {v = v} m (supertype row r i) = closed c row v m r i
+    inherited_in {c = c} m (handed_on {d = d} {ts = ts} {v = v} row above r i r' h small) =
+        put_in (by_params above.params ts) v (inherited_in (closed c row (interface d ts) m r i).0 h)
+
     -- a class of the set is a subtype of no type that is out of it
     pub not_below : {s t : Ty} → Sub table s t → IsIn among s → IsOut among t → ⊥
     not_below {s = s} reflexivity h o = in_and_out s h o
@@ -106,22 +112,23 @@ module _ (among : ClassId → Type 0) where
     not_below (right_promoted a b) h o = absurd o
     not_below (left_variable_bound b e a) h o = absurd h
     not_below (interface_arguments a) h o = o h.0
-    not_below (super_interface {c = c} {ss = ss} row r v i k a) h o = not_below a (put_in (by_params row.params ss) v (closed c row v h.0 r i)) o
+    not_below (super_interface row r n k a) h o = o (inherited_in h.0 k.0).0
     not_below (function_class e) h o = absurd h
     not_below (function_types le ps ns q a) h o = absurd h
     not_below (left_top a) h o = absurd h
 
     -- the superinterfaces of a class are in the set where the direct supertypes are
     module _ (c : ClassId) (ss : Types) (first : (row : ClassRow) (v : Ty) → class_of table c ≡ Some row → Contains row.supers v → IsIn among v) where
-      super_in : {v : Ty} → IsSuperinterface table c v → IsIn among v
-      super_in (direct {row = row} {v = v} r i) = first row v r i
-      super_in (further {d = d} {ts = ts} {row = row} {v = v} h r i) = put_in (by_params row.params ts) v (closed d row v (super_in h).0 r i)
+      pub super_in : {v : Ty} → Inherits table c v → IsIn among v
+      super_in {v = v} (supertype row r i) = first row v r i
+      super_in (handed_on {d = d} {ts = ts} {v = v} row above r i r' h small) =
+          put_in (by_params above.params ts) v (inherited_in (first row (interface d ts) r i).0 h)
 
       pub above_in : {u : Ty} → IsAbove table c ss u → IsIn among u
-      above_in a = subst (IsIn among) (sym a.is) (normal_in (put (by_params a.row.params ss) a.over) (put_in (by_params a.row.params ss) a.over (super_in a.superinterface)))
+      above_in a = subst (IsIn among) (sym a.is) (normal_in (put (by_params a.row.params ss) a.over) (put_in (by_params a.row.params ss) a.over (super_in a.superinterface.0)))
 
--- an interface is a subtype of another that isn't `Object` by its arguments, or by a direct supertype
-pub interface_below : (table : Table) {c d : ClassId} {ss ts : Types} → Sub table (interface c ss) (interface d ts) → (d ≡ OBJECT) ⊎ (((c ≡ d) × Subs table ss ts) ⊎ ((row : ClassRow) × (class_of table c ≡ Some row) × (v : Ty) × Contains row.supers v × Sub table (put (by_params row.params ss) v) (interface d ts)))
+-- an interface is a subtype of another that isn't `Object` by its arguments, or by a superinterface that its class keeps
+pub interface_below : (table : Table) {c d : ClassId} {ss ts : Types} → Sub table (interface c ss) (interface d ts) → (d ≡ OBJECT) ⊎ (((c ≡ d) × Subs table ss ts) ⊎ ((row : ClassRow) × (class_of table c ≡ Some row) × (us : Types) × Keeps table c (interface d us) × Subs table (put_all (by_params row.params ss) us) ts))
 interface_below table {ss = ss} reflexivity = inr (inl (refl, same ss))
   where
     same : (us : Types) → Subs table us us
@@ -130,4 +137,4 @@ interface_below table {ss = ss} reflexivity = inr (inl (refl, same ss))
 interface_below table (right_top e) = cc
 interface_below table {d = d} {ts = ts} (right_object e p) = inl (class_of_object d ts e)
 interface_below table (interface_arguments a) = inr (inl (refl, a))
-interface_below table (super_interface row r v i k a) = inr (inr (row, r, v, i, a))
+interface_below table (super_interface {us = us} row r n k a) = inr (inr (row, r, us, k, a))

@@ -97,8 +97,8 @@ module _ (p : Pair) (laws : RowLaws p.rows.now.table) (c d : ClassId) (ss ts : L
   some_alone bare left right none =
       let above = object_above table laws bare c (types_of ss) l.row l.row_is l.counted left in
       let common : Common object = (above, object_above table laws bare d (types_of ts) r.row r.row_is r.counted right) in
-      let root = reaches table laws c l.row l.row_is left in
-      let deep = root_depth table laws root.2.0 root.2.1 in
+      let root = reaches table laws bare c l.row l.row_is left in
+      let deep = root_depth table laws root.1.0 root.1.1 in
       let one : Alone object = λ v k e. object_alone table laws bare c (types_of ss) v k.0 (e ∙ deep) in
       let t = common_shared object common in
       All-contains (λ (x : Superinterface). IsShared p x → IsAloneIn p x → ⊥) p.left.superinterfaces.now t.0 none t.1 t.2 (alone_in t.0 (subst Alone (sym t.3) one))

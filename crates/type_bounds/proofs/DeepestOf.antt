@@ -139,8 +139,8 @@ module _ (table : Table) where
         let not_left = not_object table laws bare c ss l.0 l.1 l.2 (interface d ts) refl apart.1 in
         let not_right = not_object table laws bare d ts r.0 r.1 r.2 (interface c ss) refl apart.0 in
         let common : Common object = (object_above table laws bare c ss l.0 l.1 l.2 not_left, object_above table laws bare d ts r.0 r.1 r.2 not_right) in
-        let root = reaches table laws c l.0 l.1 not_left in
-        let at_root = root_depth table laws root.2.0 root.2.1 in
+        let root = reaches table laws bare c l.0 l.1 not_left in
+        let at_root = root_depth table laws root.1.0 root.1.1 in
         let one : Alone object = λ v k f. object_alone table laws bare c ss v k.0 (f ∙ at_root) in
         let empty : lone ≡ [] = subst (IsFarthest lone) e (farthest_is lone) in
         let none : Contains [] object = subst (λ (us : List Ty). Contains us object) empty (in_lone object common one) in

@@ -1,5 +1,5 @@
 -- What the definitions say of a few classes.
-use Rattle.std.proofs.Common.{◌≡◌, ℕ, List, [], ◌∷◌, refl, sym, ◌∙◌, ap, subst, length, ◌<◌, zero, suc, get_or, true, false, Some, inl, inr, arith}
+use Rattle.std.proofs.Common.{◌≡◌, ℕ, List, [], ◌∷◌, refl, sym, ◌∙◌, ap, subst, length, ◌<◌, ◌≤◌, zero, suc, get_or, true, false, Some, inl, inr, arith}
 use Rattle.std.specs.Prelude.{◌⊎◌, Contains}
 use Rattle.dart_types.specs.Substitution.{put, by_params}
 use Rattle.dart_types.specs.Ty.{Ty, Types, invalid, never, void, null, interface, function, variable, promoted, nullable, no_more, more, no_named, more_named}
@@ -7,20 +7,22 @@ use Rattle.dart_types.specs.Heads.{object}
 use Rattle.dart_types.specs.Normal.{normal}
 use Rattle.dart_types.specs.Tables.{Table, class_of, depth_of, head_depth}
 use Rattle.dart_types.specs.WellFormed.{IsOver}
-use Rattle.dart_types.specs.Sub.{Sub, Subs, SubParams, reflexivity, right_top, right_object, right_nullable, left_variable_bound, super_interface, function_class, function_types, one_left, one_param, left_null, left_nullable, right_promoted}
+use Rattle.dart_types.specs.Sub.{Sub, Subs, SubParams, reflexivity, right_top, right_object, right_nullable, left_variable_bound, function_class, function_types, one_left, one_param, left_null, left_nullable, right_promoted}
 use Rattle.dart_types.specs.SubTest.{sub}
-use Rattle.dart_types.specs.Superinterfaces.{IsSuperinterface, direct, further}
+use Rattle.dart_types.specs.Sizes.{size_of}
+use Rattle.dart_types.specs.Superinterfaces.{supertype, handed_on, Keeps}
 use Rattle.dart_types.specs.Measure.{measure, weight_of, deepness_of, heaviest_of, step_of, ranks_of}
 use Rattle.dart_types.specs.declared.ids.ClassId.{ClassId}
 use Rattle.dart_types.specs.declared.ids.VarId.{VarId}
 use Rattle.dart_types.specs.declared.ids.TheConstants.{CORE, OBJECT, FUNCTION}
 use Rattle.dart_types.specs.declared.class_rows.ClassRow.{ClassRow}
+use Rattle.dart_types.specs.declared.refusal.TheConstants.{NODE_LIMIT}
 use Rattle.type_bounds.specs.NonNull.{non_null_of}
 use Rattle.type_bounds.specs.Factor.{factor_of}
 use Rattle.type_bounds.specs.BoundsOf.{upper_of, lower_of}
 use Rattle.type_bounds.specs.Common.{IsAbove, IsCommon, IsAlone}
 use Rattle.type_bounds.specs.Bounds.{AreApart, Upper, right_above, left_above, upper_apart, null_left, upper_functions, upper_of_others, one_class, two_classes, unbound_left, no_upper, one_upper, no_upper_name, upper_name, Lower, right_below, lower_apart, lower_functions, nothing_below, left_ends, one_lower, no_lower_name, lower_name}
-use Rattle.type_bounds.proofs.ClassSets.{IsIn, IsOut, each_in, put_in, not_below, above_in, interface_below}
+use Rattle.type_bounds.proofs.ClassSets.{IsIn, IsOut, each_in, not_below, super_in, above_in, interface_below}
 
 abbrev class_at : ℕ → ClassId
 class_at n = record { lib = CORE; index = n }
@@ -149,17 +151,21 @@ module _ (c : ClassId) (ss : Types) (row : ClassRow) (r : class_of core c ≡ So
       let is : row' ≡ row = cc in
       only object v (subst (λ (vs : List Ty). Contains vs v) one (subst (λ (q : ClassRow). Contains q.supers v) is i))
 
+  first_in : (row' : ClassRow) (v : Ty) → class_of core c ≡ Some row' → Contains row'.supers v → IsIn IsObject v
+  first_in row' v r' i = subst (IsIn IsObject) (super_is_object row' v r' i) (refl, refl)
+
   above_is_object : {u : Ty} → IsAbove core c ss u → u ≡ object
-  above_is_object {u = u} a =
-      in_object u
-      (above_in IsObject core refl (λ d row' v e r' i. absurd (object_has_none d row' v e r' i)) c ss (λ row' v r' i. subst (IsIn IsObject) (super_is_object row' v r' i) (refl, refl)) a)
+  above_is_object {u = u} a = in_object u (above_in IsObject core refl (λ d row' v e r' i. absurd (object_has_none d row' v e r' i)) c ss first_in a)
+
+  kept_is_object : {d : ClassId} {us : Types} → Keeps core c (interface d us) → d ≡ OBJECT
+  kept_is_object k = (super_in IsObject core refl (λ d row' v e r' i. absurd (object_has_none d row' v e r' i)) c ss first_in k.0).0
 
   below_by_arguments : {d : ClassId} {ts : Types} → (d ≡ OBJECT → ⊥) → Sub core (interface c ss) (interface d ts) → (c ≡ d) × Subs core ss ts
   below_by_arguments {d = d} {ts = ts} other a = elim (interface_below core a) [
     | inl is ↦ absurd (other is)
     | inr k ↦ elim k [
       | inl is ↦ is
-      | inr up ↦ absurd (object_not (subst (λ (v : Ty). Sub core (put (by_params up.0.params ss) v) (interface d ts)) (sym (super_is_object up.0 up.2 up.1 up.3)) up.4) other)
+      | inr up ↦ absurd (other (kept_is_object up.3))
     ]
   ]
 
@@ -167,13 +173,10 @@ module _ (c : ClassId) (ss : Types) (row : ClassRow) (r : class_of core c ≡ So
 int_not_null : Sub core int null → ⊥
 int_not_null (right_top e) = cc
 int_not_null (right_object e p) = cc
-int_not_null (super_interface row r v i k a) = object_not (subst (λ (w : Ty). Sub core (put (by_params row.params no_more) w) null) (sym (super_is_object (class_at 5) no_more int_row refl refl row v r i)) a) tt
 
 int_not_variable : (v : VarId) → Sub core int (variable v) → ⊥
 int_not_variable v (right_top e) = cc
 int_not_variable v (right_object e p) = cc
-int_not_variable v (super_interface row r w i k a) =
-    object_not (subst (λ (t : Ty). Sub core (put (by_params row.params no_more) t) (variable v)) (sym (super_is_object (class_at 5) no_more int_row refl refl row w r i)) a) tt
 
 not_same : {m n : ℕ} → (m ≡ n → ⊥) → class_at m ≡ class_at n → ⊥
 not_same other e = other (ap (λ (c : ClassId). c.index) e)
@@ -221,7 +224,7 @@ upper_of_classes : Upper core int bool object
 upper_of_classes =
     upper_apart (int_not_bool, bool_not_int)
     (two_classes refl (record {
-      common = (record { row = int_row; row_is = refl; counted = refl; over = object; superinterface = direct {row = int_row} refl (0, omega arith, refl); is = refl }, record { row = bool_row; row_is = refl; counted = refl; over = object; superinterface = direct {row = bool_row} refl (0, omega arith, refl); is = refl });
+      common = (record { row = int_row; row_is = refl; counted = refl; over = object; superinterface = (supertype int_row refl (0, omega arith, refl), omega arith); is = refl }, record { row = bool_row; row_is = refl; counted = refl; over = object; superinterface = (supertype bool_row refl (0, omega arith, refl), omega arith); is = refl });
       alone = λ v both e. above_is_object (class_at 5) no_more int_row refl refl both.0;
       deepest = λ v both lt alone. absurd (omega (arith, lt, ap (head_depth core) (above_is_object (class_at 5) no_more int_row refl refl both.0)));
     }))
@@ -403,12 +406,15 @@ before_c m_shared = omega arith
 before_c p_shared = omega arith
 before_c q_shared = omega arith
 
+not_before_c : {n : ℕ} → IsShared (class_at n) → 20 ≤ n → ⊥
+not_before_c s le = omega (arith, before_c s)
+
 c_not_d : Sub layers c_type d_type → ⊥
 c_not_d a = elim (interface_below layers a) [
   | inl e ↦ not_same (λ k. omega (arith, k)) e
   | inr k ↦ elim k [
     | inl e ↦ not_same (λ n. omega (arith, n)) e.0
-    | inr up ↦ not_below IsShared layers object_shared shared_super up.4 (put_in IsShared (by_params up.0.params no_more) up.2 (direct_of_c up.0 up.2 up.1 up.3)) (λ s. absurd (omega (arith, before_c s)))
+    | inr up ↦ not_before_c (super_in IsShared layers object_shared shared_super (class_at 20) no_more direct_of_c up.3.0).0 (omega arith)
   ]
 ]
 
@@ -417,26 +423,29 @@ d_not_c a = elim (interface_below layers a) [
   | inl e ↦ not_same (λ k. omega (arith, k)) e
   | inr k ↦ elim k [
     | inl e ↦ not_same (λ n. omega (arith, n)) e.0
-    | inr up ↦ not_below IsShared layers object_shared shared_super up.4 (put_in IsShared (by_params up.0.params no_more) up.2 (direct_of_d up.0 up.2 up.1 up.3)) (λ s. absurd (omega (arith, before_c s)))
+    | inr up ↦ not_before_c (super_in IsShared layers object_shared shared_super (class_at 21) no_more direct_of_d up.3.0).0 (omega arith)
   ]
 ]
 
 -- P, Q and M lie above C and D
 module _ (n : ℕ) (row : ClassRow) (r : class_of layers (class_at n) ≡ Some row) (plain : row.params ≡ []) (supers : row.supers ≡ p_type ∷ q_type ∷ []) where
-  implements : (v : Ty) → Contains (p_type ∷ q_type ∷ []) v → IsSuperinterface layers (class_at n) v
-  implements v i = direct {row = row} r (subst (λ (vs : List Ty). Contains vs v) (sym supers) i)
+  written : (v : Ty) → Contains (p_type ∷ q_type ∷ []) v → Contains row.supers v
+  written v i = subst (λ (vs : List Ty). Contains vs v) (sym supers) i
 
-  is_above : (v : Ty) → IsSuperinterface layers (class_at n) v → put (by_params row.params no_more) v ≡ v → normal v ≡ v → IsAbove layers (class_at n) no_more v
+  implements : (v : Ty) → Contains (p_type ∷ q_type ∷ []) v → size_of (normal v) ≤ NODE_LIMIT → Keeps layers (class_at n) v
+  implements v i small = (supertype row r (written v i), small)
+
+  is_above : (v : Ty) → Keeps layers (class_at n) v → put (by_params row.params no_more) v ≡ v → normal v ≡ v → IsAbove layers (class_at n) no_more v
   is_above v s e k = record { row = row; row_is = r; counted = ap length (sym plain); over = v; superinterface = s; is = sym (ap normal e ∙ k) }
 
   p_above : IsAbove layers (class_at n) no_more p_type
-  p_above = is_above p_type (implements p_type (0, omega arith, refl)) refl refl
+  p_above = is_above p_type (implements p_type (0, omega arith, refl) (omega arith)) refl refl
 
   q_above : IsAbove layers (class_at n) no_more q_type
-  q_above = is_above q_type (implements q_type (1, omega arith, refl)) refl refl
+  q_above = is_above q_type (implements q_type (1, omega arith, refl) (omega arith)) refl refl
 
   m_above : IsAbove layers (class_at n) no_more m_type
-  m_above = is_above m_type (further {d = class_at 12} {ts = no_more} {row = p_row} {v = m_type} (implements p_type (0, omega arith, refl)) refl (0, omega arith, refl)) refl refl
+  m_above = is_above m_type (handed_on {d = class_at 12} {ts = no_more} {v = m_type} row p_row r (written p_type (0, omega arith, refl)) refl (supertype p_row refl (0, omega arith, refl)) (omega arith), omega arith) refl refl
 
 abbrev IsOfBoth : Ty → Type 0
 IsOfBoth v = IsCommon layers (class_at 20) no_more (class_at 21) no_more v

@@ -88,7 +88,7 @@ module _ (small large : Table) (more_rows : MoreRows small large) (laws : RowLaw
       let here = bound_down x b o e in
       left_variable_bound b here (object_down h a (laws.formed_bound x b here).1)
   object_down h (interface_arguments a) o = right_object h refl
-  object_down h (super_interface row r v i k a) o = right_object h refl
+  object_down h (super_interface row r n k a) o = right_object h refl
   object_down h (function_class e) o = right_object h refl
   object_down {c = c} {ts = ts} h (left_top a) o = absurd (no_null_interface large (large_laws.nullable_null object (interface c ts) a))
 
@@ -105,7 +105,7 @@ module _ (small large : Table) (more_rows : MoreRows small large) (laws : RowLaw
     row_is = row_up c a.row a.row_is;
     counted = a.counted;
     over = a.over;
-    superinterface = more_rows.superinterface_large c a.over a.superinterface;
+    superinterface = more_rows.kept_large c a.over a.superinterface;
     is = a.is;
   }
 
@@ -119,7 +119,7 @@ module _ (small large : Table) (more_rows : MoreRows small large) (laws : RowLaw
         row_is = own.1;
         counted = own.2;
         over = a.over;
-        superinterface = more_rows.superinterface_small c own.0 a.over own.1 a.superinterface;
+        superinterface = more_rows.kept_small c own.0 a.over own.1 a.superinterface;
         is = a.is ∙ ap (λ (row : ClassRow). normal (put (by_params row.params ts) a.over)) same;
       }
 

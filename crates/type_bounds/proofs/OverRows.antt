@@ -109,9 +109,9 @@ module _ (table : Table) where
 
     -- a superinterface of a class with arguments that are over rows is over them
     pub over_above : {c : ClassId} {ts : Types} {u : Ty} → AreOver table ts → IsAbove table c ts u → IsOver table u
-    over_above {ts = ts} f a =
+    over_above {c = c} {ts = ts} f a =
         let σ = by_params a.row.params ts in
-        subst (IsOver table) (sym a.is) (over_normal (put σ a.over) (over_put σ (λ x o. over_argument a.row.params ts x f o) a.over (over_super a.superinterface)))
+        subst (IsOver table) (sym a.is) (over_normal (put σ a.over) (over_put σ (λ x o. over_argument a.row.params ts x f o) a.over (over_super (laws.inherited c a.over a.superinterface.0))))
 
     -- where rows have `Function` without parameters, they have `Object` so too
     pub object_over : IsOver table (interface FUNCTION no_more) → IsOver table object

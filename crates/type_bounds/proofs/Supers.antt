@@ -1,8 +1,6 @@
 -- A superinterface of a class with arguments is a supertype.
 use Rattle.std.proofs.Common.{sym, subst}
 use Rattle.dart_types.specs.Ty.{Ty, Types, interface}
-use Rattle.dart_types.specs.Normal.{normal}
-use Rattle.dart_types.specs.Substitution.{put, by_params}
 use Rattle.dart_types.specs.Tables.{Table}
 use Rattle.dart_types.specs.Sub.{Sub}
 use Rattle.dart_types.specs.declared.ids.ClassId.{ClassId}
@@ -11,5 +9,4 @@ use Rattle.type_bounds.specs.Common.{IsAbove}
 
 pub is_above : (table : Table) → RowLaws table → (c : ClassId) (ts : Types) (u : Ty) → IsAbove table c ts u → Sub table (interface c ts) u
 is_above table laws c ts u a =
-    subst (λ (k : Ty). Sub table (interface c ts) k) (sym a.is)
-    (laws.above_superinterface c ts a.row a.over (normal (put (by_params a.row.params ts) a.over)) a.row_is a.counted a.superinterface (laws.below_normal (put (by_params a.row.params ts) a.over)))
+    subst (λ (k : Ty). Sub table (interface c ts) k) (sym a.is) (laws.kept_normal_below c ts a.row a.over a.row_is a.counted a.superinterface)

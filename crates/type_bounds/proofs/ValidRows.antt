@@ -7,7 +7,7 @@ use Rattle.dart_types.specs.Normal.{nullable_of, normal, normal_all, normal_name
 use Rattle.dart_types.specs.Same.{same_class, same_var}
 use Rattle.dart_types.specs.Substitution.{put, put_all, put_named, argument_of, by_params}
 use Rattle.dart_types.specs.Sub.{HasNamed, first, later}
-use Rattle.dart_types.specs.Superinterfaces.{IsSuperinterface, direct, further}
+use Rattle.dart_types.specs.Superinterfaces.{Inherits, supertype, handed_on}
 use Rattle.dart_types.specs.Tables.{Table, class_of, bound_of}
 use Rattle.dart_types.specs.declared.ids.ClassId.{ClassId}
 use Rattle.dart_types.specs.declared.ids.VarId.{VarId}
@@ -121,10 +121,10 @@ module _ (table : Table) (rows : HasValidRows table) where
       let g = found_in (λ (k : ClassRow). same_class k.id c) table.classes row r in
       All-contains IsValid row.supers v (All-contains (λ (k : ClassRow). All IsValid k.supers) table.classes row rows.supertypes g.0) i
 
-  valid_super : {c : ClassId} {v : Ty} → IsSuperinterface table c v → IsValid v
-  valid_super {c = c} (direct {row = row} {v = v} r i) = valid_direct c row v r i
-  valid_super (further {d = d} {ts = ts} {row = row} {v = v} h r i) = valid_put row.params ts (valid_super h) v (valid_direct d row v r i)
+  valid_super : {c : ClassId} {v : Ty} → Inherits table c v → IsValid v
+  valid_super {c = c} (supertype {v = v} row r i) = valid_direct c row v r i
+  valid_super {c = c} (handed_on {d = d} {ts = ts} {v = v} row above r i r' h small) = valid_put above.params ts (valid_direct c row (interface d ts) r i) v (valid_super h)
 
   -- nor one with arguments put in that hold none
   pub valid_above : {c : ClassId} {ts : Types} {u : Ty} → AreValid ts → IsAbove table c ts u → IsValid u
-  valid_above {ts = ts} f a = subst IsValid (sym a.is) (valid_normal (put (by_params a.row.params ts) a.over) (valid_put a.row.params ts f a.over (valid_super a.superinterface)))
+  valid_above {ts = ts} f a = subst IsValid (sym a.is) (valid_normal (put (by_params a.row.params ts) a.over) (valid_put a.row.params ts f a.over (valid_super a.superinterface.0)))

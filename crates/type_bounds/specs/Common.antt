@@ -3,18 +3,18 @@ use Rattle.std.specs.Prelude.{◌≡◌, ◌<◌, Some, length}
 use Rattle.dart_types.specs.Ty.{Ty, Types, count}
 use Rattle.dart_types.specs.Normal.{normal}
 use Rattle.dart_types.specs.Substitution.{put, by_params}
-use Rattle.dart_types.specs.Superinterfaces.{IsSuperinterface}
+use Rattle.dart_types.specs.Superinterfaces.{Keeps}
 use Rattle.dart_types.specs.Tables.{Table, class_of, head_depth}
 use Rattle.dart_types.specs.declared.ids.ClassId.{ClassId}
 use Rattle.dart_types.specs.declared.class_rows.ClassRow.{ClassRow}
 
--- a type, in normal form, is a superinterface of a class with these arguments: one of the class, which has as many parameters, with the arguments put in
+-- a type, in normal form, is a superinterface of a class with these arguments: one that the class, which has as many parameters, keeps, with the arguments put in
 pub record IsAbove (table : Table) (c : ClassId) (ts : Types) (u : Ty) : Type 0 where
   pub row : ClassRow
   pub row_is : class_of table c ≡ Some row
   pub counted : count ts ≡ length row.params
   pub over : Ty
-  pub superinterface : IsSuperinterface table c over
+  pub superinterface : Keeps table c over
   pub is : u ≡ normal (put (by_params row.params ts) over)
 
 -- a superinterface of both

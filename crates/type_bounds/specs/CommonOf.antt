@@ -1,40 +1,19 @@
 -- The superinterfaces that two interfaces have in common, for definitions that compute.
-use Rattle.std.specs.Prelude.{ℕ, Bool, ◌||◌, not, nat_eq, nat_lt, List, [], ◌∷◌, ◌++◌, length, map, filter, flat_map, Option, None, Some, if◌then◌else◌}
+use Rattle.std.specs.Prelude.{Bool, ◌||◌, not, nat_eq, nat_lt, List, [], ◌∷◌, length, map, filter, Option, None, Some, if◌then◌else◌}
 use Rattle.std.specs.List.{list_any, list_all}
 use Rattle.std.specs.Option.{option_map_or}
-use Rattle.std.proofs.Common.{zero, suc}
-use Rattle.dart_types.specs.Ty.{Ty, Types, invalid, never, void, null, interface, function, variable, promoted, nullable, count}
+use Rattle.dart_types.specs.Ty.{Ty, Types, count}
 use Rattle.dart_types.specs.Normal.{normal}
 use Rattle.dart_types.specs.Same.{same_type}
+use Rattle.dart_types.specs.Kept.{kept_of}
 use Rattle.dart_types.specs.Substitution.{put, by_params}
 use Rattle.dart_types.specs.Tables.{Table, class_of, head_depth}
 use Rattle.dart_types.specs.declared.ids.ClassId.{ClassId}
 
--- the direct supertypes of an interface, with its arguments put in; no other type has some
-abbrev pub supers_of : Table → Ty → List Ty
-supers_of table invalid = []
-supers_of table never = []
-supers_of table void = []
-supers_of table null = []
-supers_of table (interface c ts) = option_map_or (λ row. map (put (by_params row.params ts)) row.supers) (class_of table c) []
-supers_of table (function r o n e) = []
-supers_of table (variable x) = []
-supers_of table (promoted x t) = []
-supers_of table (nullable t) = []
-
--- types, their direct supertypes, and so on, so many times over
-abbrev pub climbed : Table → ℕ → List Ty → List Ty
-climbed table zero vs = []
-climbed table (suc times) vs = vs ++ climbed table times (flat_map (supers_of table) vs)
-
--- the superinterfaces of a class, over its parameters: no way up has more steps than the longest one to Object
-abbrev pub superinterfaces_of : Table → ClassId → List Ty
-superinterfaces_of table c = option_map_or (λ row. climbed table row.depth row.supers) (class_of table c) []
-
--- those of a class with these arguments, in normal form; none where the class has no row with as many parameters
+-- the superinterfaces that a class keeps, with these arguments put in and in normal form; none where the class has no row with as many parameters
 abbrev pub above_of : Table → ClassId → Types → List Ty
 above_of table c ts =
-    option_map_or (λ row. if nat_eq (count ts) (length row.params) then map (λ v. normal (put (by_params row.params ts) v)) (superinterfaces_of table c) else []) (class_of table c) []
+    option_map_or (λ row. if nat_eq (count ts) (length row.params) then map (λ v. normal (put (by_params row.params ts) v)) (kept_of table c) else []) (class_of table c) []
 
 -- the types of the first list that stand in the second too
 abbrev pub in_both : List Ty → List Ty → List Ty

@@ -6,14 +6,15 @@ ghost use Rattle.dart_types.specs.Normal.{normal};
 ghost use Rattle.dart_types.specs.WellFormed.{IsOver};
 ghost use Rattle.dart_types.specs.Sub.{Sub};
 ghost use Rattle.dart_types.specs.Measure.{weight_of};
-ghost use Rattle.dart_types.specs.Superinterfaces.{IsSuperinterface};
+ghost use Rattle.dart_types.specs.Superinterfaces.{Keeps};
+ghost use Rattle.dart_types.specs.Kept.{kept_of};
 ghost use Rattle.dart_types.specs.Unions.{Extends};
 ghost use Rattle.dart_types.specs.declared.ids.ClassId.{ClassId};
 ghost use Rattle.dart_types.specs.declared.ids.TheConstants.{FUNCTION};
 ghost use Rattle.type_bounds.specs.Bounds.{Upper, Lower};
 ghost use Rattle.type_bounds.specs.BoundsOf.{upper_of, lower_of, upper_row, lower_row, upper_within, lower_within};
 ghost use Rattle.type_bounds.specs.Common.{IsAbove};
-ghost use Rattle.type_bounds.specs.CommonOf.{above_of, superinterfaces_of};
+ghost use Rattle.type_bounds.specs.CommonOf.{above_of};
 ghost use Rattle.type_bounds.specs.Factor.{factor_of};
 ghost use Rattle.type_bounds.specs.Laws.{BoundLaws, MoreBounds};
 ghost use Rattle.type_bounds.specs.NonNull.{non_null_of, non_null_within};
@@ -45,10 +46,10 @@ pub fn bounds_go_row_by_row(_rows: &Rows, _s: &DartType, _t: &DartType)
     row_laws(_rows);
 }
 
-/// The superinterfaces of a class that are computed are those of the rules, over its parameters and with
+/// The superinterfaces of a class that are computed are those that it keeps, over its parameters and with
 /// arguments put in.
 pub fn superinterfaces_are_those_of_the_rules(_rows: &Rows)
-    ensures over_parameters { (c : ClassId) (v : Ty) → IsSuperinterface _rows.now.table c v ↔ Contains (superinterfaces_of _rows.now.table c) v }
+    ensures over_parameters { (c : ClassId) (v : Ty) → Keeps _rows.now.table c v ↔ Contains (kept_of _rows.now.table c) v }
     ensures with_arguments { (c : ClassId) (ts : Types) (u : Ty) → IsAbove _rows.now.table c ts u ↔ Contains (above_of _rows.now.table c ts) u }
 {
     row_laws(_rows);

@@ -76,7 +76,7 @@ module _ (table : Table) (laws : RowLaws table) (c : ClassId) (ts : Types) (d : 
           let entry = are.every a.over a.superinterface in
           let same_params : params ≡ a.row.params = own ∙ ap (λ (p : ClassRow). p.params) (sym (the_row a.row a.row_is)) in
           let is : interface d us ≡ normal (put σ a.over) = subst (λ (vs : List VarId). interface d us ≡ normal (put (by_params vs ts) a.over)) (sym same_params) a.is in
-          let same : entry.0.class ≡ d = entry_class us entry.0 a.over (laws.superinterface_simple c row a.over r a.superinterface) is entry.2 in
+          let same : entry.0.class ≡ d = entry_class us entry.0 a.over (laws.superinterface_simple c row a.over r (laws.inherited c a.over a.superinterface.0)) is entry.2 in
           (entry.0, entry.1, subst (λ (k : ClassId). same_class k d ≡ true) (sym same) (same_class-refl d), ap (λ (u : Ty). normal (put σ u)) entry.2 ∙ laws.types.normal-put-normal σ a.over ∙ sym is)
 
       module _ (counted : count ts ≡ length params) where

@@ -1,13 +1,11 @@
 -- What the definitions say of a few calls.
-use Rattle.std.proofs.Common.{◌≡◌, ℕ, zero, suc, ◌<◌, List, [], ◌∷◌, ◌++◌, get_or, None, Ok, Err, refl, sym, subst, arith}
-use Rattle.std.specs.Prelude.{Contains}
+use Rattle.std.proofs.Common.{◌≡◌, List, [], ◌∷◌, ◌++◌, None, Ok, Err, refl, arith}
 use Rattle.dart_types.specs.Ty.{Ty, Types, null, interface, variable, nullable, no_more, more}
 use Rattle.dart_types.specs.Heads.{object}
-use Rattle.dart_types.specs.Substitution.{put, by_params}
 use Rattle.dart_types.specs.SubTest.{sub}
-use Rattle.dart_types.specs.Superinterfaces.{direct}
+use Rattle.dart_types.specs.Superinterfaces.{supertype}
 use Rattle.dart_types.specs.Tables.{Table}
-use Rattle.dart_types.specs.Sub.{Sub, right_top, left_null, right_object, left_nullable, right_nullable, right_promoted, reflexivity, super_interface}
+use Rattle.dart_types.specs.Sub.{Sub, right_top, left_null, right_object, left_nullable, right_nullable, right_promoted, reflexivity}
 use Rattle.dart_types.specs.declared.ids.VarId.{VarId}
 use Rattle.dart_types.specs.declared.ids.TheConstants.{CORE, OBJECT}
 use Rattle.dart_types.specs.declared.class_rows.ClassRow.{ClassRow}
@@ -63,32 +61,10 @@ null_not_object : (bound : Ty) → Sub (rows_with bound) null object → ⊥
 null_not_object bound (right_top e) = cc
 null_not_object bound (right_object e p) = cc
 
--- what a list of one holds
-only : (v : Ty) → Contains (object ∷ []) v → v ≡ object
-only v c = at c.0 c.1 c.2
-  where
-    at : (j : ℕ) → j < 1 → get_or (object ∷ []) j v ≡ v → v ≡ object
-    at zero lt e = sym e
-    at (suc j) lt e = absurd (omega arith)
-
-none : (v : Ty) → Contains [] v → ⊥
-none v c = absurd (omega (arith, c.1))
-
--- Object and int are no subtypes of Null
-object_not_null : (bound : Ty) → Sub (rows_with bound) object null → ⊥
-object_not_null bound (right_top e) = cc
-object_not_null bound (right_object e p) = cc
-object_not_null bound (super_interface row r v i k a) =
-    let is : row ≡ object_row = cc in
-    none v (subst (λ (q : ClassRow). Contains q.supers v) is i)
-
+-- int is no subtype of Null
 int_not_null : (bound : Ty) → Sub (rows_with bound) int null → ⊥
 int_not_null bound (right_top e) = cc
 int_not_null bound (right_object e p) = cc
-int_not_null bound (super_interface row r v i k a) =
-    let is : row ≡ int_row = cc in
-    let same : v ≡ object = only v (subst (λ (q : ClassRow). Contains q.supers v) is i) in
-    object_not_null bound (subst (λ (w : Ty). Sub (rows_with bound) (put (by_params row.params no_more) w) null) same a)
 
 -- T is at least int and Null, so it is `int?`
 solution : (bound : Ty) → Solution (rows_with bound) (at_least int ∷ at_least null ∷ []) t (Ok (nullable int))
@@ -133,10 +109,10 @@ while_edited = record { classes = object_row ∷ int_row ∷ record { id = recor
 
 -- both are superinterfaces, so none is the only one
 a_box_of_int : IsAbove while_edited both_row.id no_more (box_of int)
-a_box_of_int = record { row = both_row; row_is = refl; counted = refl; over = box_of int; superinterface = direct refl (0, omega arith, refl); is = refl }
+a_box_of_int = record { row = both_row; row_is = refl; counted = refl; over = box_of int; superinterface = (supertype both_row refl (0, omega arith, refl), omega arith); is = refl }
 
 a_box_of_object : IsAbove while_edited both_row.id no_more (box_of object)
-a_box_of_object = record { row = both_row; row_is = refl; counted = refl; over = box_of object; superinterface = direct refl (1, omega arith, refl); is = refl }
+a_box_of_object = record { row = both_row; row_is = refl; counted = refl; over = box_of object; superinterface = (supertype both_row refl (1, omega arith, refl), omega arith); is = refl }
 
 none_alone : (us : Types) → IsOnlyAbove while_edited both_row.id no_more (record { lib = CORE; index = 9 }) us → ⊥
 none_alone us a =

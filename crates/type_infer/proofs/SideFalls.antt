@@ -237,8 +237,9 @@ module _ (table : Table) where
     above_falls : (c : ClassId) (ts : Types) (u t : Ty) → IsAbove table c ts u → measure table u t < measure table (interface c ts) t
     above_falls c ts u t a =
         let σ = by_params a.row.params ts in
-        let climbs = laws.measures.superinterfaces c ts a.row a.over t a.row_is a.counted a.superinterface in
-        let least = normal_least a.row.params a.over σ (laws.superinterface_simple c a.row a.over a.row_is a.superinterface) t in
+        let above = laws.inherited c a.over a.superinterface.0 in
+        let climbs = laws.measures.superinterfaces c ts a.row a.over t a.row_is a.counted above in
+        let least = normal_least a.row.params a.over σ (laws.superinterface_simple c a.row a.over a.row_is above) t in
         subst (λ (v : Ty). measure table v t < measure table (interface c ts) t) (sym a.is) (omega (arith, climbs, least))
 
     pub other_above_below : (c d : ClassId) (ts ss us : Types) → IsAbove table d ss (interface c us) → Ms (paired AtLeast ts us) < M AtLeast (interface c ts) (interface d ss)

@@ -4,8 +4,8 @@
 use crate::notation::type_in;
 use crate::sample_rows::{VARS, class_row, rows_of, sample_classes, sample_params, var, var_row};
 use dart_types::{
-    CORE, ClassId, ClassRow, DartType, LibId, Rows, RowsRefusal, TypeList, TypeNode, VarId, VarRow,
-    is_subtype,
+    CORE, ClassId, ClassRow, DartType, ExtendedRows, LibId, Rows, TypeList, TypeNode, VarId,
+    VarRow, is_subtype,
 };
 use std::alloc::Global;
 use std::rc::Rc;
@@ -204,9 +204,10 @@ fn doubled(alloc: Global, class: u32, above: u32, depth: u64) -> Result<ClassRow
     generic(alloc, class, supers, depth)
 }
 
-// Why classes each of which doubles what the one before it is of have no rows. The one that is so many
-// behind 0 has a superinterface of twice as many nodes for each.
-fn doubling(alloc: Global, count: u32) -> Result<Option<RowsRefusal>, Fail> {
+// Classes each of which doubles what the one before it is of, and one behind them that is the last of its
+// own parameter. The one that is so many behind another has it as superinterface with two types in it, and
+// with twice as many for each further one.
+fn doubling(alloc: Global, count: u32) -> Result<ExtendedRows, Fail> {
     let mut classes = roots(alloc)?;
     let mut depth: u64 = 1;
     for above in 0..count {
@@ -214,26 +215,75 @@ fn doubling(alloc: Global, count: u32) -> Result<Option<RowsRefusal>, Fail> {
         depth = depth.saturating_add(1);
         classes.push(doubled(alloc, class.saturating_add(1), class, depth)?)?;
     }
-    let vars = params(alloc, count.saturating_add(1))?;
+    let last = count.saturating_add(1);
+    classes.push(passing(alloc, last, &[count], depth.saturating_add(1))?)?;
+    let vars = params(alloc, last.saturating_add(1))?;
     let none = Rows::none(alloc);
     if !none.takes(&classes, &vars) {
         return Err("rows that aren't well formed".into());
     }
-    match Rows::extend(alloc, &none, classes, vars) {
-        Ok(_) => Ok(None),
-        Err(why) => Ok(Some(why)),
+    Ok(Rows::extend(alloc, &none, classes, vars)?)
+}
+
+// Whether a class of the tower, of int, is a subtype of another, of this type.
+fn is_below(alloc: Global, rows: &Rows, class: u32, above: u32, arg: &str) -> Result<bool, Fail> {
+    let s = applied_to(alloc, class, type_in(alloc, "i")?)?;
+    let t = applied_to(alloc, above, type_in(alloc, arg)?)?;
+    Ok(is_subtype(rows, &s, &t))
+}
+
+// Whether just these classes of the tower are told.
+fn tells(extended: &ExtendedRows, told: &[u32]) -> bool {
+    if extended.too_large.len() != told.len() {
+        return false;
     }
+    for (i, class) in extended.too_large.iter().enumerate() {
+        if class.lib != TOWER || class.index != told[i] {
+            return false;
+        }
+    }
+    true
+}
+
+// How many superinterfaces a class of the tower keeps.
+fn kept(rows: &Rows, class: u32) -> usize {
+    let class = ClassId {
+        lib: TOWER,
+        index: class,
+    };
+    rows.superinterfaces(class).len()
 }
 
 #[test]
-fn a_superinterface_of_too_many_nodes_is_refused(rt: HostRuntime) -> Result<(), Fail> {
+fn a_superinterface_of_too_many_types_is_left_out(rt: HostRuntime) -> Result<(), Fail> {
     let alloc = rt.alloc();
-    let class = ClassId {
-        lib: TOWER,
-        index: 12,
-    };
-    assert!(rt; doubling(alloc, 11)?.is_none());
-    let over = RowsRefusal::TooLarge { class, nodes: 8192 };
-    assert!(rt; doubling(alloc, 12)? == Some(over));
+    let within = doubling(alloc, 11)?;
+    assert!(rt; tells(&within, &[]));
+    assert_eq!(rt; kept(&within.rows, 11), 12);
+    assert!(rt; is_below(alloc, &within.rows, 11, 0, "o?")?);
+    let over = doubling(alloc, 12)?;
+    // The class 12 is told, and not 13, which inherits from it what it keeps.
+    assert!(rt; tells(&over, &[12]));
+    for class in [12, 13] {
+        assert!(rt; !is_below(alloc, &over.rows, class, 0, "o?")?);
+        assert!(rt; is_below(alloc, &over.rows, class, 1, "o?")?);
+        let s = applied_to(alloc, class, type_in(alloc, "i")?)?;
+        // `Object` stands behind what is left out.
+        assert!(rt; is_subtype(&over.rows, &s, &type_in(alloc, "o")?));
+    }
+    assert!(rt; is_below(alloc, &over.rows, 11, 0, "o?")?);
+    assert_eq!(rt; kept(&over.rows, 12), 12);
+    assert_eq!(rt; kept(&over.rows, 13), 13);
+    Ok(())
+}
+
+#[test]
+fn all_classes_with_too_large_a_superinterface_are_told(rt: HostRuntime) -> Result<(), Fail> {
+    let alloc = rt.alloc();
+    // Each is of twice as many types as the one before it.
+    let over = doubling(alloc, 14)?;
+    assert!(rt; tells(&over, &[12, 13, 14]));
+    assert!(rt; !is_below(alloc, &over.rows, 14, 2, "o?")?);
+    assert!(rt; is_below(alloc, &over.rows, 14, 3, "o?")?);
     Ok(())
 }

@@ -125,8 +125,8 @@ fn with_other(alloc: Global, below: &Rows, lib: LibId) -> Result<Rows, Fail>
     if !below.takes(&classes, &vars) {
         return Err("rows that aren't well formed".into());
     }
-    let rows = Rows::extend(alloc, below, classes, vars)?;
-    Ok(rows)
+    let extended = Rows::extend(alloc, below, classes, vars)?;
+    Ok(extended.rows)
 }
 
 #[test]

@@ -172,7 +172,7 @@ pub(crate) fn var_row(alloc: Global, lib: LibId, index: u32, bound: &str) -> Res
     })
 }
 
-/// The rows of these classes and type variables, which are well formed.
+/// The rows of these classes and type variables, which are well formed and leave nothing out.
 pub(crate) fn rows_of(
     alloc: Global,
     classes: Vec<ClassRow>,
@@ -182,8 +182,11 @@ pub(crate) fn rows_of(
     if !none.takes(&classes, &vars) {
         return Err("rows that aren't well formed".into());
     }
-    let rows = Rows::extend(alloc, &none, classes, vars)?;
-    Ok(rows)
+    let extended = Rows::extend(alloc, &none, classes, vars)?;
+    if !extended.too_large.is_empty() {
+        return Err("a superinterface that is too large".into());
+    }
+    Ok(extended.rows)
 }
 
 /// The rows of the classes with letters.

@@ -1,6 +1,7 @@
 //! Facts that hold at the start of a body and that every step keeps.
 
 ghost use Rattle.std.specs.Prelude.{List};
+ghost use Rattle.dart_types.specs.Superinterfaces.{LeavesNothingOut};
 ghost use Rattle.dart_types.specs.Ty.{Ty};
 ghost use Rattle.flow_model.specs.Flow.{FlowModel, PromotesNoCaptured, at_local, declare_of, end_of, start_of};
 ghost use Rattle.flow_model.specs.Promote.{append_facts, non_null_facts, promote_facts};
@@ -35,8 +36,9 @@ pub fn no_captured_local_is_promoted(_rows: &Rows)
 {}
 
 /// Each type that a local is promoted to is a subtype of the one before it, and the first of the
-/// declared type: at the start of a body, and after any step where it was so before. So the current
-/// type is a subtype of all of them.
+/// declared type: at the start of a body, and after any step where it was so before. A write, a join and
+/// a restrict take types out of the middle, so for these it holds where rows leave nothing out. So the
+/// current type is a subtype of all of them there.
 ///
 /// A step appends none but a proper subtype of the current type
 /// (`appended_types_are_proper_subtypes`). Where paths meet, a type between two
@@ -53,14 +55,14 @@ pub fn chains_descend(_rows: &Rows)
         → HasDescendingChains _rows.now.table (at_local m var (non_null_facts _rows.now.table)) }
     ensures append { (m : FlowModel) (var : LocalId) (to : Ty) → HasDescendingChains _rows.now.table m
         → HasDescendingChains _rows.now.table (at_local m var (append_facts _rows.now.table to)) }
-    ensures assign { (m : FlowModel) (var : LocalId) (written : Ty) → HasDescendingChains _rows.now.table m
+    ensures assign { LeavesNothingOut _rows.now.table → (m : FlowModel) (var : LocalId) (written : Ty) → HasDescendingChains _rows.now.table m
         → HasDescendingChains _rows.now.table (at_local m var (assign_facts _rows.now.table written)) }
     ensures conservative_join { (m : FlowModel) (written captured : List LocalId) → HasDescendingChains _rows.now.table m
         → HasDescendingChains _rows.now.table (conservative_of m written captured) }
-    ensures join { (a b : FlowModel) → HasDescendingChains _rows.now.table a → HasDescendingChains _rows.now.table b
+    ensures join { LeavesNothingOut _rows.now.table → (a b : FlowModel) → HasDescendingChains _rows.now.table a → HasDescendingChains _rows.now.table b
         → HasDescendingChains _rows.now.table (join_of a b) }
-    ensures restrict { (a b : FlowModel) (written captured : List LocalId) → HaveSameScope a b → HasDescendingChains _rows.now.table a
-        → HasDescendingChains _rows.now.table b
+    ensures restrict { LeavesNothingOut _rows.now.table → (a b : FlowModel) (written captured : List LocalId) → HaveSameScope a b
+        → HasDescendingChains _rows.now.table a → HasDescendingChains _rows.now.table b
         → HasDescendingChains _rows.now.table (restrict_of _rows.now.table a b written captured) }
 {
     bound_table_laws(_rows);

@@ -1,11 +1,9 @@
 use Rattle.std.proofs.Common.{◌+◌, arith, refl, sym, ◌∙◌, subst}
 use Rattle.dart_types.specs.Tables.{Table}
-use Rattle.dart_types.specs.Entries.{table_of, among, AreAmong}
+use Rattle.dart_types.specs.Entries.{among, AreAmong}
 use Rattle.dart_types.specs.Gathering.{AreKnownTo}
 use Rattle.dart_types.specs.Joined.{joined}
-use Rattle.dart_types.specs.RowsCause.{IsCauseIn}
 use Rattle.dart_types.proofs.Filled.{none_passed, all_passed, as_long}
-use Rattle.dart_types.proofs.Gathered.{handed_on}
 use Rattle.dart_types.proofs.filling.fill.Goals as goal
 
 pub loop-i-init : goal.loop-i-init
@@ -25,13 +23,6 @@ loop-i-preserved c = (
   c.in_ok-fill_at.ensures.rows ∙ c.loop-i.invariant.0,
   subst (λ (t : Table). AreKnownTo c.args.depth (c.loop-i.i + 1) (joined c.args.below.now.table t) c.fill_at.new.entries.items) c.loop-i.invariant.0 c.in_ok-fill_at.ensures.ok,
 )
-
-pub returns-in_err-fill_at-clause-err : goal.returns-in_err-fill_at-clause-err
-returns-in_err-fill_at-clause-err c =
-    let below = c.args.below.now.table in
-    let own = table_of c.args.entries.now.items c.args.vars.now in
-    handed_on (IsCauseIn (joined below own) own) c.from_residual.result c.in_err-fill_at.field-0.0 c.from_residual.ensures.1
-    (subst (λ (t : Table). IsCauseIn (joined below t) t c.in_err-fill_at.field-0.0) c.loop-i.invariant.0 c.in_err-fill_at.ensures.err)
 
 -- all classes of this depth were passed
 pub returns-clause-ok : goal.returns-clause-ok

@@ -1,13 +1,11 @@
 use Rattle.std.proofs.Common.{◌+◌, ◌≤◌, List, refl, sym, ◌∙◌, subst}
 use Rattle.std.specs.Prelude.{All}
 use Rattle.dart_types.specs.Tables.{Table}
-use Rattle.dart_types.specs.Entries.{table_of, among, AreAmong}
+use Rattle.dart_types.specs.Entries.{among, AreAmong}
 use Rattle.dart_types.specs.Gathering.{AreKnownBelow}
 use Rattle.dart_types.specs.Joined.{joined}
-use Rattle.dart_types.specs.RowsCause.{IsCauseIn}
 use Rattle.dart_types.specs.declared.entries.ClassEntry.{ClassEntry}
 use Rattle.dart_types.proofs.Filled.{on_both, all_known, none_known}
-use Rattle.dart_types.proofs.Gathered.{handed_on, if_err}
 use Rattle.dart_types.proofs.filling.fill_all.Goals as goal
 
 pub loop-depth-init : goal.loop-depth-init
@@ -26,18 +24,6 @@ loop-depth-preserved c = (
   c.in_ok-fill.ensures.rows ∙ c.loop-depth.invariant.0,
   subst (λ (t : Table). AreKnownBelow (c.loop-depth.depth + 1) (joined c.args.below.now.table t) c.fill.new.entries.items) c.loop-depth.invariant.0 c.in_ok-fill.ensures.ok,
 )
-
-pub returns-in_err-fill-clause-err : goal.returns-in_err-fill-clause-err
-returns-in_err-fill-clause-err c =
-    let below = c.args.below.now.table in
-    let own = table_of c.args.entries.now.items c.args.vars.now in
-    handed_on (IsCauseIn (joined below own) own) c.from_residual.result c.in_err-fill.field-0.0 c.from_residual.ensures.1
-    (subst (λ (t : Table). IsCauseIn (joined below t) t c.in_err-fill.field-0.0) c.loop-depth.invariant.0 c.in_err-fill.ensures.err)
-
-pub returns-clause-err : goal.returns-clause-err
-returns-clause-err c =
-    let below = c.args.below.now.table in
-    if_err c.fill-2.result c.fill-2.ensures.err (λ e h. subst (λ (t : Table). IsCauseIn (joined below t) t e) c.loop-depth.invariant.0 h)
 
 -- no class is farther from Object than the farthest
 pub returns-clause-ok : goal.returns-clause-ok

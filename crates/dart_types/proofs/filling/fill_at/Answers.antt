@@ -55,5 +55,5 @@ returns-clause-ok c =
     c.index-2.ensures ∙ get_or_default entries c.args.i c.index-2.result.now entry c.requires.place ∙ sym c.index_mut.ensures.value in
     let beside : AreSuperinterfaces table entry.row.id list.items =
     subst (λ (es : List ClassEntry). AreSuperinterfaces (among below es vars) entry.row.id list.items) c.deref.ensures.value
-    (subst (λ (e : ClassEntry). AreSuperinterfaces (among below c.deref.result.now vars) e.row.id list.items) same c.in_ok-list.ensures.ok) in
+    (subst (λ (e : ClassEntry). AreSuperinterfaces (among below c.deref.result.now vars) e.row.id list.items) same c.in_ok-list.ensures) in
     put_in below entries vars table c.args.depth c.args.i entry (record { row = entry.row; superinterfaces = list }) c.requires.place (ap (λ (x : ClassEntry). x.row) c.index_mut.ensures.value) beside c.requires.known

@@ -15,5 +15,5 @@ pub returns : goal.returns
 returns c =
     let parts = subst (λ (ss : List Superinterface). IsPlace c.args.found ss c.end_of_class-at.result) c.deref-2.ensures.value (c.end_of_class-at.ensures.bound, c.end_of_class-at.ensures.parts) in
     subst (Adds (λ t. t ≡ interface_of c.args.found) c.args.list.now.items) (sym c.in_ok-insert.ensures.items)
-    (adds_inserted c.args.list.now.items c.end_of_class-at.result c.args.found parts.0 parts.1.0 parts.1.1 c.requires.fits
+    (adds_inserted c.args.list.now.items c.end_of_class-at.result c.args.found parts.0 parts.1.0 parts.1.1
     (λ k. refused c.stands_in.ensures c.if-stands_in.false (subst (λ (ss : List Superinterface). Contains ss c.args.found) (sym c.deref.ensures.value) k)))

@@ -7,7 +7,7 @@ use Rattle.dart_types.specs.Replacements.{replaced}
 use Rattle.dart_types.specs.Gathering.{IsPut, IsReplaced}
 use Rattle.dart_types.specs.declared.ids.VarId.{VarId}
 use Rattle.dart_types.specs.declared.replacements.Replacement.{Replacement}
-use Rattle.dart_types.proofs.Gathered.{adds_same, cause_among, on_ok, if_err}
+use Rattle.dart_types.proofs.Gathered.{adds_same, on_ok}
 use Rattle.dart_types.proofs.hierarchy.gather_above.Goals as goal
 
 -- the replacements put the arguments in for the parameters
@@ -25,12 +25,9 @@ returns c =
     ∙ ap (λ (ts : List Ty). normal (put (by_params params (types_of ts)) t)) c.as_slice-2.ensures
     in
     let to : (t : Ty) → IsPut params (types_of args) items t → IsReplaced rs list t = λ t p.
-    (p.0, p.1, p.2 ∙ sym (same (interface_of p.0)))
+    (p.0, p.1, p.2 ∙ sym (same (interface_of p.0)), p.3)
     in
     let from : (t : Ty) → IsReplaced rs list t → IsPut params (types_of args) items t = λ t p.
-    (p.0, p.1, p.2 ∙ same (interface_of p.0))
+    (p.0, p.1, p.2 ∙ same (interface_of p.0), p.3)
     in
-    record {
-      ok = on_ok c.gather.result c.gather.ensures.ok (λ a. adds_same (IsReplaced rs list) (IsPut params (types_of args) items) c.args.list.now.items c.gather.new.list.items a to from);
-      err = if_err c.gather.result c.gather.ensures.err (λ e a. cause_among (IsReplaced rs list) (IsPut params (types_of args) items) c.args.of e from a);
-    }
+    on_ok c.gather.result c.gather.ensures (λ a. adds_same (IsReplaced rs list) (IsPut params (types_of args) items) c.args.list.now.items c.gather.new.list.items a to from)

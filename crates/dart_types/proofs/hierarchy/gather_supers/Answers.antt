@@ -2,8 +2,8 @@ use Rattle.std.proofs.Common.{◌+◌, List, sym, subst}
 use Rattle.std.specs.Prelude.{Contains}
 use Rattle.dart_types.specs.Ty.{Ty}
 use Rattle.dart_types.specs.Entries.{among}
-use Rattle.dart_types.specs.Gathering.{Adds, IsGivenBy, IsGiven, IsCauseAmong}
-use Rattle.dart_types.proofs.Gathered.{First, adds_nothing, adds_both, adds_same, cause_among, handed_on, first_none, first_next, next_first, first_all, all_first}
+use Rattle.dart_types.specs.Gathering.{Adds, IsGivenBy, IsGiven}
+use Rattle.dart_types.proofs.Gathered.{First, adds_nothing, adds_both, adds_same, first_none, first_next, next_first, first_all, all_first}
 use Rattle.dart_types.proofs.hierarchy.gather_supers.Goals as goal
 
 pub gather_super-requires-clause-direct : goal.gather_super-requires-clause-direct
@@ -21,23 +21,13 @@ loop-v-preserved c =
     let vs = c.as_slice-v-items.result.now in
     let i = c.loop-v.v-index in
     let v = c.v-item.result in
-    let one : Adds (want v) c.loop-v.list.items c.gather_super.new.list.items = c.in_ok-gather_super.ensures.ok in (
+    let one : Adds (want v) c.loop-v.list.items c.gather_super.new.list.items = c.in_ok-gather_super.ensures in (
       adds_both (First want vs i) (want v) (First want vs (i + 1)) c.args.list.now.items c.loop-v.list.items c.gather_super.new.list.items c.loop-v.invariant.0 one (first_next want vs i v c.loop-v-test.true c.v-item.is) (next_first want vs i v c.loop-v-test.true c.v-item.is),
       one.in_order c.loop-v.invariant.1,
     )
 
-pub returns-in_err-gather_super-clause-err : goal.returns-in_err-gather_super-clause-err
-returns-in_err-gather_super-clause-err c =
-    let table = among c.args.below.now.table c.args.entries.now c.args.vars.now in
-    let want = IsGivenBy table in
-    let vs = c.as_slice-v-items.result.now in
-    let i = c.loop-v.v-index in
-    let v = c.v-item.result in
-    handed_on (IsCauseAmong (IsGiven table c.args.row.now.supers) c.args.row.now.id) c.from_residual.result c.in_err-gather_super.field-0.0 c.from_residual.ensures.1
-    (cause_among (want v) (IsGiven table c.args.row.now.supers) c.args.row.now.id c.in_err-gather_super.field-0.0 (λ t g. (v, subst (λ (ws : List Ty). Contains ws v) c.as_slice-v-items.ensures (i, c.loop-v-test.true, sym c.v-item.is), g)) c.in_err-gather_super.ensures.err)
-
-pub returns-clause-ok : goal.returns-clause-ok
-returns-clause-ok c =
+pub returns : goal.returns
+returns c =
     let table = among c.args.below.now.table c.args.entries.now c.args.vars.now in
     let want = IsGivenBy table in
     let vs = c.as_slice-v-items.result.now in

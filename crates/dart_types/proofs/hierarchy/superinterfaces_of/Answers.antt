@@ -1,11 +1,8 @@
 use Rattle.std.proofs.Common.{List, subst}
 use Rattle.dart_types.specs.Entries.{table_of, among}
-use Rattle.dart_types.specs.RowsCause.{IsCauseIn}
 use Rattle.dart_types.specs.Gathering.{Adds, IsGiven}
 use Rattle.dart_types.specs.declared.superinterfaces.Superinterface.{Superinterface}
-use Rattle.dart_types.proofs.Filled.{known_fit}
-use Rattle.dart_types.proofs.Gathered.{handed_on}
-use Rattle.dart_types.proofs.Giving.{all_given, given_cause}
+use Rattle.dart_types.proofs.Giving.{all_given}
 use Rattle.dart_types.proofs.Joined.{class_there, own_found}
 use Rattle.dart_types.proofs.hierarchy.superinterfaces_of.Goals as goal
 
@@ -23,18 +20,4 @@ returns c =
     let row = c.args.row.now in
     let list = c.gather_supers.new.list.items in
     let found = own_found c.args.below.now.table own c.requires.among.formed row (class_there own row.id row c.requires.of_class).0 in
-    record {
-      ok = all_given table c.requires.among.formed row found list (subst (λ (xs : List Superinterface). Adds (IsGiven table row.supers) xs list) c.new-list.ensures.items c.in_ok-gather_supers.ensures.ok);
-      err = tt;
-    }
-
-pub returns-in_err-gather_supers-clause-err : goal.returns-in_err-gather_supers-clause-err
-returns-in_err-gather_supers-clause-err c =
-    let below = c.args.below.now.table in
-    let own = table_of c.args.entries.now c.args.vars.now in
-    let table = among below c.args.entries.now c.args.vars.now in
-    let row = c.args.row.now in
-    let found = own_found below own c.requires.among.formed row (class_there own row.id row c.requires.of_class).0 in
-    let refusal = c.in_err-gather_supers.field-0.0 in
-    handed_on (IsCauseIn table own) c.from_residual.result refusal c.from_residual.ensures.1
-    (given_cause table c.requires.among.formed row found own c.requires.of_class (known_fit below c.args.entries.now c.args.vars.now c.requires.among row.depth c.requires.known) refusal c.in_err-gather_supers.ensures.err)
+    all_given table c.requires.among.formed row found list (subst (λ (xs : List Superinterface). Adds (IsGiven table row.supers) xs list) c.new-list.ensures.items c.in_ok-gather_supers.ensures)

@@ -1,7 +1,11 @@
 use Rattle.dart_types.proofs.Above.{nullable_null}
-use Rattle.dart_types.proofs.Climb.{climb_up, climb_falls, counted, superinterface_simple, superinterface_trans}
+use Rattle.std.specs.Prelude.{◌+◌}
+use Rattle.dart_types.specs.Tables.{depth_of}
+use Rattle.dart_types.proofs.Climb.{climb_to, climb_to_normal, climb_up, climb_falls}
 use Rattle.dart_types.proofs.Derives.{sub_sound, sub_complete}
 use Rattle.dart_types.proofs.Formed.{row_id, formed_class, formed_super, super_depth, declared_var, formed_bound}
+use Rattle.dart_types.proofs.Keeping.{super_kept}
+use Rattle.dart_types.proofs.KeptOf.{kept_sound, kept_found}
 use Rattle.dart_types.proofs.MeasureBounds.{bound_weight, bound_deepness}
 use Rattle.dart_types.proofs.MeasureFalls.{not_above, left_bare_falls, right_bare_falls, left_promoted_falls, bound_falls}
 use Rattle.dart_types.proofs.MeasureParts.{arguments_fall, params_fall, names_fall, results_fall}
@@ -9,6 +13,7 @@ use Rattle.dart_types.proofs.NamedParams.{required_from}
 use Rattle.dart_types.proofs.NormalForms.{settles}
 use Rattle.dart_types.proofs.NormalPut.{normal-put-normal}
 use Rattle.dart_types.proofs.SameType.{same_type-refl, equal_from_same_type}
+use Rattle.dart_types.proofs.Supers.{counted, superinterface_simple, superinterface_trans, inherited}
 use Rattle.dart_types.proofs.Transitive.{trans}
 use Rattle.dart_types.proofs.laws.row_laws.Goals as goal
 
@@ -47,8 +52,14 @@ returns c =
       superinterface_simple = λ k row v r h. superinterface_simple table wf h row r;
       superinterface_counted = λ k d ts row r h. counted table wf h row r;
       superinterface_further = λ k d ts row v r h i. superinterface_trans table wf h row r i;
-      sub_transitive = λ s t u. trans table wf t s u;
-      above_superinterface = λ k ss row v t r n h a. climb_up table wf k ss row r n h a;
+      inherited = λ k v h. inherited table wf h;
+      all_kept = λ nothing k v h. super_kept table wf nothing h;
+      kept_sound = λ k v. kept_sound table (depth_of table k + 1) k v;
+      kept_complete = kept_found table wf;
+      kept_below = λ k ss row v r n h. climb_to table wf k ss row r n v h;
+      kept_normal_below = λ k ss row v r n h. climb_to_normal table wf k ss row r n v h;
+      sub_transitive = λ nothing s t u. trans table wf nothing t s u;
+      above_superinterface = λ nothing k ss row v t r n h a. climb_up table wf k ss row r n nothing v t h a;
       below_normal = λ t. (settles table wf t).0;
       normal_below = λ t. (settles table wf t).1;
       nullable_null = λ s t a. nullable_null table a;

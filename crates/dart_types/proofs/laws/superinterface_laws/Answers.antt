@@ -1,4 +1,4 @@
-use Rattle.dart_types.proofs.Climb.{counted, superinterface_simple, superinterface_trans}
+use Rattle.dart_types.proofs.Supers.{counted, superinterface_simple, superinterface_trans}
 use Rattle.dart_types.proofs.laws.superinterface_laws.Goals as goal
 
 pub returns : goal.returns

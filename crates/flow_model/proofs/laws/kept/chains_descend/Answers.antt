@@ -13,8 +13,8 @@ returns c =
       promote = λ m var to. promote_keeps table laws m var to;
       non_null = λ m var. non_null_keeps table laws m var;
       append = λ m var to. append_keeps table laws m var to;
-      assign = λ m var written. assign_keeps table laws m var written;
+      assign = λ nothing m var written. assign_keeps table laws m var nothing written;
       conservative_join = λ m written captured. conservative_keeps table laws m written captured;
-      join = λ a b. join_keeps table laws a b;
-      restrict = λ a b written captured. restrict_keeps table laws a b written captured;
+      join = λ nothing a b. join_keeps table laws nothing a b;
+      restrict = λ nothing a b written captured. restrict_keeps table laws nothing a b written captured;
     }
