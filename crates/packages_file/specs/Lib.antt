@@ -1,0 +1,2 @@
+pub mod PackagesFile
+pub mod Stored

@@ -1,0 +1,5 @@
+//! Tests of packages files, over the public calls of `packages_file` alone.
+#![tactic(auto)]
+
+#[cfg(test)]
+mod packages;
