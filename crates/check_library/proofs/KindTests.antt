@@ -4,14 +4,14 @@ use denote.Enum.Declared.{tag_of}
 use Rattle.small_readings.specs.Agreement.{Apart, Within}
 use Rattle.check_library.specs.declared.token.Token.{Token}
 use Rattle.check_library.specs.declared.token.Kind.{Kind}
-use Rattle.check_library.specs.declared.token.Kind.TheVariants.{Identifier, Integer, Void, Main, Int, Bool as BoolWord, Print, If, Else, While, True, False, Null, OpenParenthesis, CloseParenthesis, OpenBrace, CloseBrace, Equals, Semicolon, Question, Plus, Less, NotEqual, Other}
+use Rattle.check_library.specs.declared.token.Kind.TheVariants.{Identifier, Integer, Void, Main, Int, Bool as BoolWord, Print, If, Else, While, True, False, Null, OpenParenthesis, CloseParenthesis, OpenBrace, CloseBrace, Equals, Semicolon, Question, Plus, Less, NotEqual, Text, Comma, Period, Other}
 use Rattle.check_library.specs.contracts.token.Kind as kind
 
 -- each kind
 abbrev kinds : List Kind
 kinds =
     Identifier ∷ Integer ∷ Void ∷ Main ∷ Int ∷ BoolWord ∷ Print ∷ If ∷ Else ∷ While ∷ True ∷ False ∷ Null ∷ OpenParenthesis ∷ CloseParenthesis
-    ∷ OpenBrace ∷ CloseBrace ∷ Equals ∷ Semicolon ∷ Question ∷ Plus ∷ Less ∷ NotEqual ∷ Other ∷ []
+    ∷ OpenBrace ∷ CloseBrace ∷ Equals ∷ Semicolon ∷ Question ∷ Plus ∷ Less ∷ NotEqual ∷ Text ∷ Comma ∷ Period ∷ Other ∷ []
 
 abbrev all_pass : (Kind → Bool) → List Kind → Bool
 all_pass f [] = true

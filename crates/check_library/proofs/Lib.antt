@@ -7,6 +7,7 @@ pub mod ParseLemmas
 pub mod Lowering
 pub mod KindTests
 pub mod Agreement
+pub mod DirectiveLemmas
 pub mod Dispatch
 pub mod Reports
 pub mod SortedKeys

@@ -1,5 +1,5 @@
 -- Diagnostics put at their places, one after another.
-use Rattle.std.proofs.Common.{◌≡◌, ℕ, List, [], ◌∷◌, ◌++◌, refl, ap, subst, ◌∙◌, Contains, AllPairs, inl, inr}
+use Rattle.std.proofs.Common.{◌≡◌, ℕ, true, List, [], ◌∷◌, ◌++◌, map, Option, None, Some, is_some, IfSome, refl, ap, subst, ◌∙◌, Contains, AllPairs, inl, inr}
 use Rattle.std.proofs.lemmas.Map.Keys.{Less-from_sorted}
 use Rattle.std.specs.List.Sorted.{IsStrictlySortedBy}
 use Rattle.std.specs.Ordering.{ordering_then, is_eq, match_ordering, nat_cmp}
@@ -12,7 +12,14 @@ use Rattle.judgement.specs.contracts.DiagnosticCode.{the_type}
 use Rattle.judgement.specs.contracts.DiagnosticCodeOrd.TheImpl.Laws as codes
 use Rattle.judgement.specs.contracts.FaultOrd.TheImpl.Laws as laws
 use denote.Enum.Bare.{same_true}
-use Rattle.check_library.specs.Diagnostics.{lexical_faults, tree_faults, faults_in}
+use Rattle.std.specs.Option.{option_map_or}
+use Rattle.small_tree.specs.declared.places.Span.{Span}
+use Rattle.small_tree.specs.Tree.{Tree}
+use Rattle.small_flow.specs.Sub.{no_rows}
+use Rattle.judgement.specs.Judgement.{faults_of}
+use Rattle.check_library.specs.declared.token.Token.{Token}
+use Rattle.check_library.specs.Units.{front_of, tree_of}
+use Rattle.check_library.specs.Diagnostics.{lexical_faults, not_built, no_tree, tree_faults, faults_in}
 use Rattle.check_library.specs.Order.{span_cmp, code_cmp, fault_cmp, IsBefore, sorted_faults}
 use Rattle.check_library.proofs.SortedKeys.{sorted-insert_key, contains-into_insert_key, contains-from_insert_key, contains_later, contains_first, contains_cases}
 
@@ -100,6 +107,20 @@ right_of_none : (xs ys : List Fault) → xs ++ ys ≡ [] → ys ≡ []
 right_of_none [] ys none = none
 right_of_none (x ∷ xs) ys none = absurd (cc)
 
--- where nothing is wrong with a text, nothing is wrong with its tree
+-- where nothing is wrong with a text, nothing is wrong with its directives and its tree
 pub tree_faults-none : (text : List ℕ) → faults_in text ≡ [] → tree_faults text ≡ []
 tree_faults-none text none = right_of_none (lexical_faults text) (tree_faults text) none
+
+no_tree-some : (spans : List Span) (behind : List Token) (text : List ℕ) → no_tree spans behind text ≡ [] → ⊥
+no_tree-some [] behind text none = cc
+no_tree-some (span ∷ spans) [] text none = cc
+no_tree-some (span ∷ spans) (token ∷ tokens) text none = cc
+
+given_by : (directives : List Fault) (faults : Tree → List Fault) (none : List Fault) (tree : Option Tree) → (none ≡ [] → ⊥) → option_map_or (λ t. directives ++ faults t) tree none ≡ [] → IfSome tree (λ t. faults t ≡ []) × (is_some tree ≡ true)
+given_by directives faults none None some is = absurd (some is)
+given_by directives faults none (Some t) some is = (right_of_none directives (faults t) is, refl)
+
+-- and there is a tree, with which nothing is wrong
+pub tree_sound : (text : List ℕ) → faults_in text ≡ [] → IfSome (tree_of text) (λ tree. faults_of no_rows tree ≡ []) × (is_some (tree_of text) ≡ true)
+tree_sound text none =
+    given_by (map not_built (front_of text).0) (faults_of no_rows) (no_tree (front_of text).0 (front_of text).1 text) (tree_of text) (no_tree-some (front_of text).0 (front_of text).1 text) (tree_faults-none text none)

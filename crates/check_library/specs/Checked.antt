@@ -8,7 +8,7 @@ use Rattle.judgement.specs.NodeFacts.{NodeFacts}
 use Rattle.judgement.specs.Typed.{typed_unit}
 use Rattle.dart_text.specs.Edits.{max_text}
 use Rattle.check_library.specs.Tokens.{grammar_tokens}
-use Rattle.check_library.specs.Grammar.{tree_of}
+use Rattle.check_library.specs.Units.{tree_of}
 use Rattle.check_library.specs.Diagnostics.{faults_in, diagnostics}
 use Rattle.check_library.specs.declared.library.Checked.{Checked}
 

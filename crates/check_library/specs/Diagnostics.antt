@@ -14,10 +14,11 @@ use Rattle.dart_tokens.specs.Groups.{faults_of as faults_of_groups}
 use Rattle.dart_scan.specs.Scanned.{tokens_of, faults_of as faults_of_pieces}
 use Rattle.judgement.specs.declared.Fault.{Fault}
 use Rattle.judgement.specs.declared.DiagnosticCode.{DiagnosticCode}
-use Rattle.judgement.specs.declared.DiagnosticCode.TheVariants.{BadEscape, IllegalCharacter, ProfileIdentifier, SyntaxError, UnclosedGroup, UnopenedGroup, UnterminatedComment, UnterminatedString}
+use Rattle.judgement.specs.declared.DiagnosticCode.TheVariants.{BadEscape, IllegalCharacter, NotBuilt, ProfileIdentifier, SyntaxError, UnclosedGroup, UnopenedGroup, UnterminatedComment, UnterminatedString}
 use Rattle.small_flow.specs.Sub.{no_rows}
 use Rattle.judgement.specs.Judgement.{faults_of}
-use Rattle.check_library.specs.Grammar.{tree_of}
+use Rattle.check_library.specs.declared.token.Token.{Token}
+use Rattle.check_library.specs.Units.{front_of, tree_of}
 use Rattle.check_library.specs.Order.{sorted_faults}
 
 -- what is said of a lexeme, or of what stands between lexemes
@@ -54,9 +55,20 @@ lexical_faults text =
 abbrev pub no_unit : List ℕ → List Fault
 no_unit text = record { span = record { start = 0; end = units_in text }; code = SyntaxError } ∷ []
 
--- what is wrong with the tree of a text, or that there is none
+-- a directive isn't checked yet, and has one diagnostic for that
+abbrev pub not_built : Span → Fault
+not_built span = record { span = span; code = NotBuilt }
+
+-- what is wrong with a text without a tree, by where its directives stand and by what stands behind them: directives alone are as good as a unit
+abbrev pub no_tree : List Span → (behind : List Token) → (text : List ℕ) → List Fault
+no_tree [] behind text = no_unit text
+no_tree (span ∷ spans) [] text = not_built span ∷ map not_built spans
+no_tree (span ∷ spans) (token ∷ tokens) text = no_unit text
+
+-- what is wrong with the directives and the tree of a text, or that it is no unit
 abbrev pub tree_faults : List ℕ → List Fault
-tree_faults text = option_map_or (faults_of no_rows) (tree_of text) (no_unit text)
+tree_faults text =
+    option_map_or (λ tree. map not_built (front_of text).0 ++ faults_of no_rows tree) (tree_of text) (no_tree (front_of text).0 (front_of text).1 text)
 
 -- what is wrong with a text, in any order
 abbrev pub faults_in : List ℕ → List Fault

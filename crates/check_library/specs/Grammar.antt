@@ -8,16 +8,14 @@ use Rattle.small_tree.specs.declared.nodes.Operator.{Operator}
 use Rattle.small_tree.specs.declared.nodes.OperatorKind.{OperatorKind}
 use Rattle.small_tree.specs.declared.nodes.OperatorKind.TheVariants as operator
 use Rattle.small_tree.specs.Tree.{Tree, Part, name, integer, boolean, null_literal, binary, int_type, bool_type, declare, assign, eval, print, if_statement, while_statement, block, function, unit, trees_of, part_of}
-use Rattle.small_tree.specs.Numbers.{numbered}
-use Rattle.small_readings.specs.Readings.{Rule, token, ◌▹◌, ◌∣◌, make, turn, maybe, many, whole}
+use Rattle.small_readings.specs.Readings.{Rule, token, ◌▹◌, ◌∣◌, make, turn, maybe, many}
 use Rattle.check_library.specs.declared.token.Token.{Token}
 use Rattle.check_library.specs.declared.token.Kind.{Kind}
 use Rattle.check_library.specs.declared.token.Kind.TheVariants.{Identifier, Integer, Void, Main, Int, Bool as BoolWord, Print, If, Else, While, True, False, Null, OpenParenthesis, CloseParenthesis, OpenBrace, CloseBrace, Equals, Semicolon, Question, Plus, Less, NotEqual}
 use Rattle.check_library.specs.declared.parse.TheConstants.{DEEPEST}
 use Rattle.check_library.specs.contracts.token.Kind as kind
 use Rattle.check_library.specs.Literals.{literal_of}
-use Rattle.dart_scan.specs.Scanned.{words_of}
-use Rattle.check_library.specs.Tokens.{word_at, grammar_tokens}
+use Rattle.check_library.specs.Tokens.{word_at}
 
 -- the token is of the kind
 abbrev pub is : Kind → Token → Bool
@@ -217,7 +215,3 @@ below words (suc room) = record {
 -- how deep a node may lie, where the unit lies at depth 0
 abbrev pub deepest : ℕ
 deepest = DEEPEST
-
--- the tree of a whole text, its nodes numbered in reading order; none where the text is no unit
-abbrev pub tree_of : List ℕ → Option Tree
-tree_of text = option_map (numbered 0) (whole ((below (words_of text) (deepest + 1)).unit (grammar_tokens text)))

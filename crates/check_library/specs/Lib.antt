@@ -2,6 +2,8 @@
 pub mod Tokens
 pub mod Literals
 pub mod Grammar
+pub mod Directives
+pub mod Units
 pub mod Descents
 pub mod Order
 pub mod Diagnostics

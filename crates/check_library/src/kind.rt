@@ -80,6 +80,10 @@ pub fn kind_of(kind: TextKind, lexeme: &[u8]) -> Kind
         TextKind::Plus => Kind::Plus,
         TextKind::Less => Kind::Less,
         TextKind::BangEquals => Kind::NotEqual,
+        TextKind::StringLiteral => Kind::Text,
+        TextKind::UnterminatedString => Kind::Text,
+        TextKind::Comma => Kind::Comma,
+        TextKind::Period => Kind::Period,
         _ => Kind::Other,
     }
 }

@@ -8,6 +8,7 @@
 #![tactic(auto)]
 
 mod balance;
+mod directives;
 mod kind;
 mod laws;
 mod lexical;

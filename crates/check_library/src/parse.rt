@@ -13,7 +13,8 @@ mod expressions;
 mod leaves;
 mod statements;
 
-use crate::parse::leaves::{place_over, token};
+pub use crate::parse::leaves::place_over;
+use crate::parse::leaves::token;
 use crate::parse::statements::block;
 use crate::token::{Kind, Token};
 use dart_tokens::Words;

@@ -26,6 +26,10 @@ pub enum Kind {
     Plus,
     Less,
     NotEqual,
+    /// A string without interpolations, also one that never ends.
+    Text,
+    Comma,
+    Period,
     /// What no production of the grammar holds.
     Other,
 }

@@ -6,7 +6,7 @@ use Rattle.std.specs.declared.cmp.Ordering.{Ordering}
 use Rattle.std.specs.Str.{byte}
 use Rattle.std.specs.Char.{to_ascii_uppercase}
 use Rattle.judgement.specs.declared.DiagnosticCode.{DiagnosticCode}
-use Rattle.judgement.specs.declared.DiagnosticCode.TheVariants.{ArgumentType, BadEscape, ConditionNotBool, DuplicateDefinition, FileNotUtf8, IllegalCharacter, IntegerLiteralOutOfRange, InvalidAssignment, ProfileFileLength, ProfileIdentifier, ReferencedBeforeDeclaration, SyntaxError, UnassignedRead, UncheckedNullableUse, UnclosedGroup, UndefinedName, UndefinedOperator, UnopenedGroup, UnterminatedComment, UnterminatedString}
+use Rattle.judgement.specs.declared.DiagnosticCode.TheVariants.{ArgumentType, BadEscape, ConditionNotBool, DuplicateDefinition, FileNotUtf8, IllegalCharacter, IntegerLiteralOutOfRange, InvalidAssignment, NotBuilt, ProfileFileLength, ProfileIdentifier, ReferencedBeforeDeclaration, SyntaxError, UnassignedRead, UncheckedNullableUse, UnclosedGroup, UndefinedName, UndefinedOperator, UnopenedGroup, UnterminatedComment, UnterminatedString}
 use Rattle.proto_json.specs.declared.reply.ErrorKind.{ErrorKind}
 use Rattle.proto_json.specs.declared.reply.ErrorKind.TheVariants.{SyntacticError, CompileTimeError}
 
@@ -20,6 +20,7 @@ name_of FileNotUtf8 = codes "file_not_utf8"
 name_of IllegalCharacter = codes "illegal_character"
 name_of IntegerLiteralOutOfRange = codes "integer_literal_out_of_range"
 name_of InvalidAssignment = codes "invalid_assignment"
+name_of NotBuilt = codes "not_built"
 name_of ProfileFileLength = codes "profile_file_length"
 name_of ProfileIdentifier = codes "profile_identifier"
 name_of ReferencedBeforeDeclaration = codes "referenced_before_declaration"
@@ -60,6 +61,7 @@ kind_of FileNotUtf8 = CompileTimeError
 kind_of IllegalCharacter = SyntacticError
 kind_of IntegerLiteralOutOfRange = CompileTimeError
 kind_of InvalidAssignment = CompileTimeError
+kind_of NotBuilt = CompileTimeError
 kind_of ProfileFileLength = CompileTimeError
 kind_of ProfileIdentifier = CompileTimeError
 kind_of ReferencedBeforeDeclaration = CompileTimeError

@@ -19,6 +19,7 @@ pub fn code_name(code: DiagnosticCode) -> &'static str
         DiagnosticCode::IllegalCharacter => "illegal_character",
         DiagnosticCode::IntegerLiteralOutOfRange => "integer_literal_out_of_range",
         DiagnosticCode::InvalidAssignment => "invalid_assignment",
+        DiagnosticCode::NotBuilt => "not_built",
         DiagnosticCode::ProfileFileLength => "profile_file_length",
         DiagnosticCode::ProfileIdentifier => "profile_identifier",
         DiagnosticCode::ReferencedBeforeDeclaration => "referenced_before_declaration",
@@ -48,6 +49,7 @@ pub fn message(code: DiagnosticCode) -> &'static str
         DiagnosticCode::IllegalCharacter => "Illegal character.",
         DiagnosticCode::IntegerLiteralOutOfRange => "Integer literal out of range.",
         DiagnosticCode::InvalidAssignment => "Invalid assignment.",
+        DiagnosticCode::NotBuilt => "Not built.",
         DiagnosticCode::ProfileFileLength => "Profile file length.",
         DiagnosticCode::ProfileIdentifier => "Profile identifier.",
         DiagnosticCode::ReferencedBeforeDeclaration => "Referenced before declaration.",
@@ -81,6 +83,7 @@ pub fn error_kind(code: DiagnosticCode) -> ErrorKind
         | DiagnosticCode::FileNotUtf8
         | DiagnosticCode::IntegerLiteralOutOfRange
         | DiagnosticCode::InvalidAssignment
+        | DiagnosticCode::NotBuilt
         | DiagnosticCode::ProfileFileLength
         | DiagnosticCode::ProfileIdentifier
         | DiagnosticCode::ReferencedBeforeDeclaration

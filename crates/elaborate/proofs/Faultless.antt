@@ -1,28 +1,37 @@
 -- The tree of a text in which nothing is wrong.
-use Rattle.std.proofs.Common.{◌≡◌, ℕ, List, [], ◌∷◌, ◌++◌, map, length, Option, Some, None, option_map, subst, refl, sym, ap, ◌∙◌}
+use Rattle.std.proofs.Common.{◌≡◌, ℕ, List, [], ◌∷◌, ◌++◌, map, length, Option, true, Some, None, is_some, IfSome, option_map, subst, refl, sym, ap, ◌∙◌}
 use Rattle.std.proofs.lemmas.List.{length-map}
 use Rattle.std.specs.Prelude.{◌≢◌, AllPairs}
-use Rattle.std.specs.Option.{option_map_or}
 use Rattle.small_tree.specs.Tree.{Tree}
 use Rattle.small_tree.specs.Numbers.{numbered}
 use Rattle.small_flow.specs.Sub.{no_rows}
 use Rattle.judgement.specs.Judgement.{faults_of}
-use Rattle.check_library.specs.Grammar.{tree_of}
+use Rattle.check_library.specs.Units.{tree_of}
 use Rattle.dart_tokens.specs.Groups.{faults_of as faults_of_groups}
 use Rattle.dart_scan.specs.Scanned.{tokens_of, words_of, faults_of as faults_of_pieces}
 use Rattle.judgement.specs.declared.Fault.{Fault}
-use Rattle.check_library.specs.Diagnostics.{no_unit, fault_of_piece, fault_of_group, lexical_faults, tree_faults, faults_in, diagnostics}
+use Rattle.check_library.specs.Diagnostics.{fault_of_piece, fault_of_group, lexical_faults, tree_faults, faults_in, diagnostics}
+use Rattle.check_library.specs.Checked.{IsFaultless}
+use Rattle.check_library.specs.declared.library.Checked.{Checked}
 use Rattle.check_library.specs.Order.{sorted_faults}
 use Rattle.check_library.specs.declared.token.Token.{Token}
 use Rattle.check_library.specs.Tokens.{token_of, grammar_tokens}
-use Rattle.check_library.proofs.Reports.{none_found, tree_faults-none}
+use Rattle.check_library.proofs.Reports.{none_found, tree_sound}
 use Rattle.check_library.proofs.WholeGroups.{read_one_for_one}
 use Rattle.elaborate.specs.Frame.{locals_in}
 use Rattle.elaborate.proofs.Distinct.{numbered_distinct}
 
 -- nothing is wrong with the tree
 pub tree_faultless : (text : List ℕ) (tree : Tree) → faults_in text ≡ [] → tree_of text ≡ Some tree → faults_of no_rows tree ≡ []
-tree_faultless text tree none is = subst (λ (found : Option Tree). option_map_or (faults_of no_rows) found (no_unit text) ≡ []) is (tree_faults-none text none)
+tree_faultless text tree none is = subst (λ (found : Option Tree). IfSome found (λ t. faults_of no_rows t ≡ [])) is (tree_sound text none).0
+
+there_is_tree : (unit found : Option Tree) → unit ≡ found → is_some found ≡ true → unit ≡ None → ⊥
+there_is_tree unit None is some none = cc
+there_is_tree unit (Some tree) is some none = cc
+
+-- there is a tree
+pub faultless_has_tree : (checked : Checked) → IsFaultless checked → checked.unit ≡ None → ⊥
+faultless_has_tree checked faultless none = there_is_tree checked.unit (tree_of faultless.text) faultless.check.unit (tree_sound faultless.text faultless.none).1 none
 
 -- the locals of a tree that is numbered are pairwise different
 distinct_if_numbered : (found : Option Tree) (tree : Tree) → option_map (numbered 0) found ≡ Some tree → AllPairs (λ a b. a.var.0 ≢ b.var.0) (locals_in tree)

@@ -32,6 +32,8 @@ pub enum DiagnosticCode {
     IntegerLiteralOutOfRange,
     /// A value hasn't the type of the variable that it is written to.
     InvalidAssignment,
+    /// A directive isn't checked yet.
+    NotBuilt,
     /// A file has more than 4,194,304 bytes.
     ProfileFileLength,
     /// Characters beyond ASCII stand outside strings and comments.

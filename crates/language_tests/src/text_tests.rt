@@ -29,6 +29,13 @@ void main(){9223372036854775807;} ::
 void main(){int x=9223372036854775808;x;} :: IntegerLiteralOutOfRange@18+19
 void main(){0xFFFFFFFFFFFFFFFF;0X10000000000000000;} :: IntegerLiteralOutOfRange@31+19
 /*😀/**/*/void main(){int x;x;} :: UnassignedRead@28+1
+import 'b.dart';void main(){x;} :: NotBuilt@0+16 UndefinedName@28+1
+library a.b; export 'c.dart';part 'd.dart'; :: NotBuilt@0+12 NotBuilt@13+16 NotBuilt@29+14
+part of a.b; :: NotBuilt@0+12
+part of r\"a.dart\";void main(){} :: NotBuilt@0+18
+import'b.dart'as as show show,main hide hide,int;export''show a show b; :: NotBuilt@0+49 NotBuilt@49+22
+/**/ import 'b.dart' /**/ ; :: NotBuilt@5+22
+void main(){int import=1;import=2;} ::
 \u{feff}void\tmain\r¶(// a¶){x;} :: UndefinedName@20+1";
 
 // Texts that are no units: that is all that is wrong with them.
@@ -54,7 +61,24 @@ void main(){1.5;} :: SyntaxError@0+17
 void main(){1e5;} :: SyntaxError@0+17
 void main(){'a';} :: SyntaxError@0+17
 void main(){int class=1;} :: SyntaxError@0+25
-void main(){print(#a);} :: SyntaxError@0+23";
+void main(){print(#a);} :: SyntaxError@0+23
+import 'b.dart';int main(){} :: SyntaxError@0+28
+import 'b.dart' :: SyntaxError@0+15
+import 'b.dart' as; :: SyntaxError@0+19
+import 'b.dart' as p as q; :: SyntaxError@0+26
+import 'b.dart' show; :: SyntaxError@0+21
+import 'b.dart' show a,; :: SyntaxError@0+24
+import 'b.dart',a; :: SyntaxError@0+18
+import 'b.dart' 'c.dart'; :: SyntaxError@0+25
+import b; :: SyntaxError@0+9
+export 'b.dart' as p; :: SyntaxError@0+21
+library; :: SyntaxError@0+8
+library a.; :: SyntaxError@0+11
+library 'a'; :: SyntaxError@0+12
+part b; :: SyntaxError@0+7
+part of; :: SyntaxError@0+8
+import 'b${1}.dart';void main(){} :: SyntaxError@0+33
+void main(){}import 'b.dart'; :: SyntaxError@0+29";
 
 // Texts in which lexemes or groups are wrong.
 const LEXEMES: &str = "\
@@ -78,6 +102,9 @@ void main(){/*😀} :: UnclosedGroup@11+1 UnterminatedComment@12+5
 void main(){print('a¶);} :: SyntaxError@0+24 UnterminatedString@18+2
 void main(){r'a;} :: SyntaxError@0+17 UnclosedGroup@11+1 UnterminatedString@13+4
 void main(){print('\\xAg');} :: SyntaxError@0+27 BadEscape@19+3
+import 'b¶;void main(){} :: NotBuilt@0+11 UnterminatedString@7+2
+import'\\xg'; :: NotBuilt@0+12 BadEscape@7+2
+)import 'b.dart'];void main(){} :: UnopenedGroup@0+1 NotBuilt@1+17 UnopenedGroup@16+1
 void main(){'😀\\u{110000}';} :: SyntaxError@0+28 BadEscape@15+10";
 
 // How many blocks lie one in another, and what is wrong then: no node lies deeper than 200.
@@ -93,7 +120,9 @@ void main(){} :: tree 2
 void main(){int x;x=1;} :: tree 3 8 6 2
 void main(){if(true){}else{1;}} :: tree 4 5 8 7 6 3 2
 void main(){ :: tree 2
-void main(){1+;} :: none";
+void main(){1+;} :: none
+import 'b.dart';void main(){} :: tree 2
+import 'b.dart'; :: none";
 
 // What a table gives for its texts.
 #[derive(Clone, Copy)]

@@ -1,7 +1,7 @@
 use Rattle.std.proofs.Common.{◌≡◌, ◌≤◌, Some, length, sym, ◌∙◌, arith}
-use Rattle.check_library.specs.Grammar.{tree_of}
+use Rattle.check_library.specs.Units.{tree_of}
 use Rattle.elaborate.proofs.Accepted.{program_accepted, program_well_formed}
-use Rattle.elaborate.proofs.Faultless.{tree_distinct, tree_faultless, faults-none_again, tokens_counted}
+use Rattle.elaborate.proofs.Faultless.{faultless_has_tree, tree_distinct, tree_faultless, faults-none_again, tokens_counted}
 use Rattle.check_library.proofs.TokenCounts.{grammar_tokens-few}
 use Rattle.elaborate.proofs.elaborate.Goals as goal
 
@@ -11,6 +11,10 @@ elaborate_unit-requires-clause-small c =
     let nodes = c.requires.check.few c.in-Some.unit c.in-Some.is in
     let short = c.requires.check.short in
     omega (arith, nodes, short, grammar_tokens-few c.requires.text)
+
+-- there is a tree
+pub unreachable-requires : goal.unreachable-requires
+unreachable-requires c = faultless_has_tree c.args.checked.now c.requires c.in-None.is
 
 -- the program of a text in which nothing is wrong names what it has
 pub returns-clause-well_formed : goal.returns-clause-well_formed
