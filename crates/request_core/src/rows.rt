@@ -22,6 +22,7 @@ use proto_json::{
 };
 use protocol_rules::{Contents, CurrentFile, empty_text};
 use std::alloc::{AllocError, Global};
+use work_counts::Work;
 
 /// The client has given these texts from now on, unless they pass a limit.
 fn put_in_place(contents: &Contents, id: PlainText, overlays: Overlays) -> Result<Said, AllocError>
@@ -71,6 +72,7 @@ fn errors<C: Checker>(
     alloc: Global,
     contents: &Contents,
     checker: &mut C,
+    work: &mut Work,
     id: PlainText,
     file: &str,
 ) -> Result<Said, AllocError>
@@ -81,7 +83,7 @@ fn errors<C: Checker>(
     if !contents.is_analyzed(file) {
         return Ok(refused(id, Code::GetErrorsInvalidFile));
     }
-    let faults = checker.errors_of(alloc, file)?;
+    let faults = checker.errors_of(alloc, file, work)?;
     let rows = rows(alloc, contents, file, faults.as_slice())?;
     Ok(reply(id, ReplyBody::Errors(rows)))
 }
@@ -180,6 +182,7 @@ fn said_to_request<C: Checker, F: Files>(
     alloc: Global,
     contents: &Contents,
     checker: &mut C,
+    work: &mut Work,
     files: &mut F,
     asked: Asked,
 ) -> Result<Said, AllocError>
@@ -203,7 +206,7 @@ fn said_to_request<C: Checker, F: Files>(
         ),
         Request::Reanalyze => reanalyze(alloc, contents, files, id),
         Request::Update { files } => update(contents, id, files.as_slice()),
-        Request::GetErrors { file } => errors(alloc, contents, checker, id, file.as_str()),
+        Request::GetErrors { file } => { errors(alloc, contents, checker, work, id, file.as_str()) }
         Request::GetWork => Ok(refused(id, Code::UnknownRequest)),
     }
 }
@@ -213,6 +216,7 @@ pub fn said_to_line<C: Checker, F: Files>(
     alloc: Global,
     contents: &Contents,
     checker: &mut C,
+    work: &mut Work,
     files: &mut F,
     line: &[u8],
 ) -> Result<Said, AllocError>
@@ -225,7 +229,7 @@ pub fn said_to_line<C: Checker, F: Files>(
     ensures no_less { F.faults files.old ≤ F.faults files.new }
 {
     match read_request(alloc, line) {
-        Ok(asked) => said_to_request(alloc, contents, checker, files, asked),
+        Ok(asked) => said_to_request(alloc, contents, checker, work, files, asked),
         Err(RequestRefusal::Refused { id, code }) => Ok(refused(id, code)),
         Err(RequestRefusal::Memory) => Err(AllocError),
     }

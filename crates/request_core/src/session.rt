@@ -16,13 +16,16 @@ use protocol_rules::{Contents, is_skipped};
 use serve_loop::{Answerer, Heard};
 use std::alloc::{AllocError, Global};
 use std::marker::Model;
+use work_counts::Work;
 
 /// A session: the contents that its client has given and its roots have, and a checker that holds
-/// them. Contracts see the contents. After want of memory it isn't used.
+/// them, with the work that it has done so far. Contracts see the contents. After want of memory it
+/// isn't used.
 #[derive(Drop)]
 pub struct Session<C: Checker> {
     contents: Contents,
     checker: C,
+    work: Work,
 }
 
 impl<C: Checker> Model for Session<C> {
@@ -44,6 +47,7 @@ impl<C: Checker> Session<C> {
         Session {
             contents: Contents::new(alloc, packages),
             checker,
+            work: Work::new(),
         }
     }
 
@@ -75,7 +79,14 @@ impl<C: Checker> Session<C> {
         if is_skipped(line) {
             return Ok(None);
         }
-        let said = said_to_line(alloc, &self.contents, &mut self.checker, files, line)?;
+        let said = said_to_line(
+            alloc,
+            &self.contents,
+            &mut self.checker,
+            &mut self.work,
+            files,
+            line,
+        )?;
         let bytes = written(alloc, &said)?;
         self.take(alloc, said.after)?;
         Ok(bytes)

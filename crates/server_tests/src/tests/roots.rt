@@ -5,11 +5,17 @@ use super::{Run, cell, ends};
 use std::alloc::Global;
 use std::test::Fail;
 
-// Sessions over a store of the file `/a.dart`, each behind a line `FAILS|TEXT`: the call of the store that
-// fails, and the text of the file. A reading of the root `/` lists it and then reads the file, two calls.
+// Sessions over a store of one file, each behind a line `FAILS|PATH|TEXT`: the call of the store that
+// fails, the path of the file and its text. A reading of its folder lists that and then reads the file, two
+// calls.
 // Requests and replies are those of the tests of limits.
-const SESSIONS: &str = r#"store 3|void main(){}
+const SESSIONS: &str = r#"store 3|/r/a.dart|void main(){}
 -- The fourth call fails, and what was read before stays.
+roots "/r" = done
+roots "/r" = failed
+get /r/a.dart = clean
+
+store 3|/a.dart|void main(){}
 get /a.dart = not analyzed
 roots "/" = done
 get /a.dart = clean
@@ -20,7 +26,7 @@ get /a.dart = clean
 roots "/b" = done
 get /a.dart = not analyzed
 
-store 0|void main(){}
+store 0|/a.dart|void main(){}
 -- So does what was there before anything was read.
 add /b.dart void main(){} = done
 roots "/" = failed
@@ -31,13 +37,13 @@ get /a.dart = not analyzed
 roots "/a.dart" = done
 get /a.dart = clean
 
-store 1|void main(){}
+store 1|/a.dart|void main(){}
 roots "/" = failed
 get /a.dart = not analyzed
 roots "/" = done
 get /a.dart = clean
 
-|«#255»
+|/a.dart|«#255»
 -- Bytes that are no text, and one more than a text has; a text that is given stands before them.
 roots "/" = done
 get /a.dart = not UTF-8
@@ -48,11 +54,11 @@ get /a.dart = clean
 files "/a.dart":{"type":"remove"} = done
 get /a.dart = not UTF-8
 
-|«4194304: »x
+|/a.dart|«4194304: »x
 roots "/" = done
 get /a.dart = too long
 
-|x
+|/a.dart|x
 -- Texts of 67,108,864 bytes together leave no room for a file, and one byte less leaves room for one byte.
 add /0 «4194304:x» = done
 add /1 «4194304:x» = done
@@ -77,7 +83,7 @@ roots "/" = done
 get /a.dart = syntax error of 1
 edit /f {"offset":0,"length":0,"replacement":"x"} = limit
 
-|void main(){}
+|/a.dart|void main(){}
 -- Texts of 10,000 paths leave no room for another path; a path that has both counts once.
 files "/z":{"type":"remove"}«10000:,"/№":{"type":"add","content":""}» = done
 roots "/" = limit
@@ -93,12 +99,13 @@ add /0 x = limit"#;
 /// Whether a session has the replies of its lines.
 fn is_right(alloc: Global, block: &str) -> Result<bool, Fail> {
     let (head, requests) = block.split_once('\n').ok_or("no session")?;
-    let (fails, text) = cell(head)?;
+    let (fails, file) = cell(head)?;
+    let file = cell(file)?;
     let session = session_in(alloc, requests)?;
     let run = Run {
         words: " serve",
         fails,
-        file: ("/a.dart", text),
+        file,
     };
     ends(alloc, run, session.input, "Done", &session.output)
 }
