@@ -3,3 +3,4 @@ pub mod RunLemmas
 pub mod ProgramLemmas
 pub mod EndLemmas
 pub mod ShortageLemmas
+pub mod ServeLemmas

@@ -1,6 +1,5 @@
 -- Texts in which nothing is wrong, and their programs.
-use Rattle.std.proofs.Common.{◌≡◌, ◌≢◌, ℕ, suc, ◌==◌, Bool, true, false, if◌then◌else◌, nat_le, List, [], ◌∷◌, length, Option, None, Some, Result, Ok, Err, IfSome, inl, inr, refl, sym, subst, ◌∙◌}
-use Rattle.std.specs.Option.{option_map_or}
+use Rattle.std.proofs.Common.{◌≡◌, ◌≢◌, ℕ, suc, ◌==◌, Bool, true, false, if◌then◌else◌, nat_le, List, [], ◌∷◌, length, Option, None, Some, is_some, Result, Ok, Err, IfSome, inl, inr, refl, sym, subst, ◌∙◌}
 use Rattle.std.specs.Str.{is_utf8}
 use Rattle.dart_text.specs.Edits.{max_text, short_text, text_in_bytes}
 use Rattle.dart_text.specs.Results.{IsUnlessMemory}
@@ -9,9 +8,9 @@ use Rattle.dart_text.specs.declared.text.TextRefusal.TheVariants.{NotUtf8, TooLo
 use Rattle.small_tree.specs.Tree.{Tree}
 use Rattle.proto_json.specs.declared.reply.ErrorRow.{ErrorRow}
 use Rattle.judgement.specs.declared.Fault.{Fault}
-use Rattle.check_library.specs.Grammar.{tree_of}
-use Rattle.check_library.proofs.Reports.{none_found, tree_faults-none}
-use Rattle.check_library.specs.Diagnostics.{no_unit, faults_in, diagnostics}
+use Rattle.check_library.specs.Units.{tree_of}
+use Rattle.check_library.proofs.Reports.{none_found, tree_sound}
+use Rattle.check_library.specs.Diagnostics.{faults_in, diagnostics}
 use Rattle.check_library.specs.Checked.{IsCheckOf, IsFaultless}
 use Rattle.check_library.specs.declared.library.Checked.{Checked}
 use Rattle.core_ir.specs.Program.{Program}
@@ -46,16 +45,16 @@ pub faultless : (text : List ℕ) (checked : Checked) → IsCheckOf text checked
 faultless text checked check none = record { text = text; check = check; none = no_faults text (sym check.diagnostics ∙ none) }
 
 -- the program of a tree that a text without faults has
-given_by_tree : (faults : Tree → List Fault) (text : List ℕ) (steps : ℕ) (tree : Option Tree) (p : Program) → tree_of text ≡ tree → option_map_or faults tree (no_unit text) ≡ [] → IfSome tree (λ t. IsElaborationOf t p) → IsSound p → (output : List ℕ) (status : Status) → Prints (run_of p steps) output status → ProgramGives text steps output status
-given_by_tree faults text steps None p is none elaborated sound output status prints = cc
-given_by_tree faults text steps (Some tree) p is none elaborated sound output status prints = record { tree = tree; tree_is = is; program = p; program_is = elaborated; prints = prints; sound = sound }
+given_by_tree : (text : List ℕ) (steps : ℕ) (tree : Option Tree) (p : Program) → tree_of text ≡ tree → is_some tree ≡ true → IfSome tree (λ t. IsElaborationOf t p) → IsSound p → (output : List ℕ) (status : Status) → Prints (run_of p steps) output status → ProgramGives text steps output status
+given_by_tree text steps None p is some elaborated sound output status prints = cc
+given_by_tree text steps (Some tree) p is some elaborated sound output status prints = record { tree = tree; tree_is = is; program = p; program_is = elaborated; prints = prints; sound = sound }
 
 -- what the program of a text without diagnostics prints is the output of the text
 pub given_by_program : (file text : List ℕ) (steps : ℕ) (checked : Checked) (p : Program) → IsCheckOf text checked → checked.diagnostics ≡ [] → IfSome checked.unit (λ t. IsElaborationOf t p) → IsSound p → (output : List ℕ) (status : Status) → Prints (run_of p steps) output status → RowsGive text steps (rows_of file text (diagnostics text)) output status
 given_by_program file text steps checked p check none elaborated sound output status prints =
     let silent : diagnostics text ≡ [] = sym check.diagnostics ∙ none in
     let elaborated_tree : IfSome (tree_of text) (λ t. IsElaborationOf t p) = subst (λ (tree : Option Tree). IfSome tree (λ t. IsElaborationOf t p)) check.unit elaborated in
-    let given : ProgramGives text steps output status = given_by_tree _ text steps (tree_of text) p refl (tree_faults-none text (no_faults text silent)) elaborated_tree sound output status prints in
+    let given : ProgramGives text steps output status = given_by_tree text steps (tree_of text) p refl (tree_sound text (no_faults text silent)).1 elaborated_tree sound output status prints in
     subst (λ (faults : List Fault). RowsGive text steps (rows_of file text faults) output status) (sym silent) given
 
 -- the lines of rows are the output, where there are rows

@@ -1,16 +1,18 @@
 -- The whole output of the program.
-use Rattle.std.specs.Prelude.{◌≡◌, ℕ, ◌<◌, true, false, List, [], ◌∷◌, ◌++◌, codes, length, take, Option}
+use Rattle.std.specs.Prelude.{◌≡◌, ◌≢◌, ◌⊎◌, ℕ, ◌<◌, true, false, List, [], ◌∷◌, ◌++◌, codes, length, take, Option, None, Some}
 use Rattle.std.specs.Option.{ForSome}
 use Rattle.fault_io.specs.Bytes.{and_then}
 use Rattle.fault_io.specs.Faults.{Rose, one_more}
-use Rattle.fault_io.specs.Stored.{Stored}
+use Rattle.fault_io.specs.Stored.{Stored, bytes_at}
 use Rattle.fault_io.specs.Lines.{input_lines}
 use Rattle.load_files.specs.Paths.{is_library}
+use Rattle.load_files.specs.declared.packages.Package.{Package}
 use Rattle.serve_loop.specs.Replies.{UseNothing}
 use Rattle.serve_loop.specs.Served.{Served}
 use Rattle.proto_json.specs.declared.request.TheConstants.{MAX_LINE}
 use Rattle.serve_loop.specs.declared.end.ServeEnd.{ServeEnd}
 use Rattle.serve_loop.specs.declared.end.ServeEnd.TheVariants as End
+use Rattle.packages_file.specs.Stored.{packages_at}
 use Rattle.protocol_rules.specs.Answers.{uses_store, MayAnswer}
 use Rattle.protocol_rules.specs.State.{at_start}
 use Rattle.dart_server.specs.Words.{Command, Serve, Run, Refused as NoCommand, command_of}
@@ -44,38 +46,40 @@ CountsShortage End.ReadFault shortages shortages' = shortages' ≡ shortages
 CountsShortage End.WriteFault shortages shortages' = shortages' ≡ shortages
 CountsShortage End.Memory shortages shortages' = shortages' ≡ shortages
 
--- Under `serve`: the replies to the lines of the input, each over the contents then current, as far as the end of serving says; where no line asks for the store it isn't called.
-pub record ServeOutput (told : Option Stored) (input : List ℕ) (old new left : Option (List ℕ)) (faults faults' lists lists' reads reads' shortages shortages' : ℕ) (status : Status) : Type 0 where
+-- The lines are served over these packages: the replies to the lines of the input, each over the contents then current, as far as the end of serving says; where no line asks for the store it isn't called.
+pub record ServeOutput (packages : List Package) (told : Option Stored) (input : List ℕ) (old new left : Option (List ℕ)) (faults faults' lists lists' reads reads' shortages shortages' : ℕ) (status : Status) : Type 0 where
   pub end : ServeEnd
   pub status_is : status ≡ status_for end
   pub counts : CountsShortage end shortages shortages'
-  pub served : Served uses_store (MayAnswer told) MAX_LINE input_limit (at_start []) input old new left faults faults' end
+  pub served : Served uses_store (MayAnswer told) MAX_LINE input_limit (at_start packages) input old new left faults faults' end
   pub quiet : UseNothing uses_store MAX_LINE (input_lines input_limit input) → (lists' ≡ lists) × (reads' ≡ reads)
 
--- a front of the usage line that isn't all of it
-abbrev pub PartOfUsage : Option (List ℕ) → Option (List ℕ) → Type 0
-PartOfUsage old new = (n : ℕ) × (n < length usage_line) × (new ≡ and_then old (take n usage_line))
+-- a front of a line that isn't all of it
+abbrev pub PartOf : (line : List ℕ) → (old new : Option (List ℕ)) → Type 0
+PartOf line old new = (n : ℕ) × (n < length line) × (new ≡ and_then old (take n line))
 
--- what is written where the words are refused
-abbrev pub RefusedOutput : Status → Option (List ℕ) → Option (List ℕ) → Type 0
-RefusedOutput Refused old new = new ≡ and_then old usage_line
-RefusedOutput WriteFault old new = PartOfUsage old new
-RefusedOutput Memory old new = PartOfUsage old new
-RefusedOutput Done old new = ⊥
-RefusedOutput Errors old new = ⊥
-RefusedOutput Threw old new = ⊥
-RefusedOutput StepsSpent old new = ⊥
-RefusedOutput ReadFault old new = ⊥
-RefusedOutput FilesFault old new = ⊥
-RefusedOutput InputSpent old new = ⊥
+-- what is written where something is refused by a line
+abbrev pub RefusedBy : (line : List ℕ) → Status → (old new : Option (List ℕ)) → Type 0
+RefusedBy line Refused old new = new ≡ and_then old line
+RefusedBy line WriteFault old new = PartOf line old new
+RefusedBy line Memory old new = PartOf line old new
+RefusedBy line Done old new = ⊥
+RefusedBy line Errors old new = ⊥
+RefusedBy line Threw old new = ⊥
+RefusedBy line StepsSpent old new = ⊥
+RefusedBy line ReadFault old new = ⊥
+RefusedBy line FilesFault old new = ⊥
+RefusedBy line InputSpent old new = ⊥
 
--- The statuses that the program may have: under `serve` those of its ends, under `run` those of a run, for other words that of the refusal, or of a sink that didn't take the usage line.
+-- The statuses that the program may have: under `serve` those of its ends and, over a packages file, of one that is refused or can't be read, under `run` those of a run, for other words that of the refusal, or of a sink that didn't take the usage line.
 abbrev pub MayEnd : Command → Status → Type 0
-MayEnd Serve Done = Unit {0}
-MayEnd Serve Memory = Unit {0}
-MayEnd Serve ReadFault = Unit {0}
-MayEnd Serve WriteFault = Unit {0}
-MayEnd Serve InputSpent = Unit {0}
+MayEnd (Serve packages) Done = Unit {0}
+MayEnd (Serve packages) Memory = Unit {0}
+MayEnd (Serve packages) ReadFault = Unit {0}
+MayEnd (Serve packages) WriteFault = Unit {0}
+MayEnd (Serve packages) InputSpent = Unit {0}
+MayEnd (Serve (Some file)) Refused = Unit {0}
+MayEnd (Serve (Some file)) FilesFault = Unit {0}
 MayEnd (Run file steps) Done = Unit {0}
 MayEnd (Run file steps) Errors = Unit {0}
 MayEnd (Run file steps) Refused = Unit {0}
@@ -88,6 +92,63 @@ MayEnd NoCommand Memory = Unit {0}
 MayEnd NoCommand WriteFault = Unit {0}
 MayEnd _ _ = ⊥
 
+-- what is written where the packages file is refused
+abbrev pub packages_line : List ℕ
+packages_line = codes "dart_serve: packages refused" ++ 10 ∷ []
+
+-- the store's count of faults where the packages file couldn't be read: it rises exactly where the store failed, and else memory was wanting
+abbrev pub CountsUnread : Status → (faults faults' : ℕ) → Type 0
+CountsUnread FilesFault faults faults' = Rose faults faults'
+CountsUnread Memory faults faults' = faults' ≡ faults
+CountsUnread Done faults faults' = ⊥
+CountsUnread Errors faults faults' = ⊥
+CountsUnread Refused faults faults' = ⊥
+CountsUnread Threw faults faults' = ⊥
+CountsUnread StepsSpent faults faults' = ⊥
+CountsUnread ReadFault faults faults' = ⊥
+CountsUnread WriteFault faults faults' = ⊥
+CountsUnread InputSpent faults faults' = ⊥
+
+-- Nothing is served: nothing of the input is taken, and the store was asked for the packages file alone.
+pub record Unserved (from left : Option (List ℕ)) (lists lists' reads reads' : ℕ) : Type 0 where
+  pub untaken : left ≡ from
+  pub unlisted : lists' ≡ lists
+  pub read_once : reads' ≡ one_more reads
+
+-- The packages file couldn't be read: nothing is written.
+pub record UnreadFile (old new : Option (List ℕ)) (faults faults' shortages shortages' : ℕ) (status : Status) : Type 0 where
+  pub counts : CountsUnread status faults faults'
+  pub unwritten : new ≡ old
+  pub not_short : shortages' ≡ shortages
+
+-- The packages file is refused: its line is written, which is cut at the status of want of memory exactly where the sink's count of it rises.
+pub record RefusedFile (old new : Option (List ℕ)) (faults faults' shortages shortages' : ℕ) (status : Status) : Type 0 where
+  pub written : RefusedBy packages_line status old new
+  pub no_fault : faults' ≡ faults
+  pub short : status ≡ Memory → Rose shortages shortages'
+  pub not_short : status ≢ Memory → shortages' ≡ shortages
+
+-- by the packages that the file lists: it is refused, or the lines are served over them, after the one read
+abbrev pub OverListed : Option (List Package) → Option Stored → (from old new left : Option (List ℕ)) → (faults faults' lists lists' reads reads' shortages shortages' : ℕ) → Status → Type 0
+OverListed None told from old new left faults faults' lists lists' reads reads' shortages shortages' status =
+    RefusedFile old new faults faults' shortages shortages' status × Unserved from left lists lists' reads reads'
+OverListed (Some packages) told from old new left faults faults' lists lists' reads reads' shortages shortages' status =
+    MayEnd (Serve None) status × ForSome from (λ input. ServeOutput packages told input old new left faults faults' lists lists' (one_more reads) reads' shortages shortages' status)
+
+-- Under `serve --packages FILE`: what is served over the packages of the bytes that the store gives for the file, unless it couldn't be read.
+pub record ServeFileOutput (file : List ℕ) (told : Option Stored) (from old new left : Option (List ℕ)) (faults faults' lists lists' reads reads' shortages shortages' : ℕ) (status : Status) : Type 0 where
+  pub bytes : Option (List ℕ)
+  pub bytes_are : ForSome told (λ files. bytes ≡ bytes_at files file)
+  pub ends : (UnreadFile old new faults faults' shortages shortages' status × Unserved from left lists lists' reads reads')
+      ⊎ OverListed (packages_at file bytes) told from old new left faults faults' lists lists' reads reads' shortages shortages' status
+
+-- Under `serve`, over no packages or over those of a file.
+abbrev pub Serves : Option (List ℕ) → Option Stored → (from old new left : Option (List ℕ)) → (faults faults' lists lists' reads reads' shortages shortages' : ℕ) → Status → Type 0
+Serves None told from old new left faults faults' lists lists' reads reads' shortages shortages' status =
+    ForSome from (λ input. ServeOutput [] told input old new left faults faults' lists lists' reads reads' shortages shortages' status)
+Serves (Some file) told from old new left faults faults' lists lists' reads reads' shortages shortages' status =
+    ServeFileOutput file told from old new left faults faults' lists lists' reads reads' shortages shortages' status
+
 -- How often the store is asked for a file, but under `serve`: once for a run of a library, and else never.
 pub record Reads (words : List (List ℕ)) (reads reads' : ℕ) : Type 0 where
   pub runs : (file : List ℕ) (steps : ℕ) → command_of words ≡ Run file steps → is_library file ≡ true → reads' ≡ one_more reads
@@ -96,6 +157,6 @@ pub record Reads (words : List (List ℕ)) (reads reads' : ℕ) : Type 0 where
 
 -- What the program writes, and its status: one field for each command.
 pub record Output (words : List (List ℕ)) (told : Option Stored) (from : Option (List ℕ)) (old new left : Option (List ℕ)) (faults faults' lists lists' reads reads' shortages shortages' : ℕ) (status : Status) : Type 0 where
-  pub serves : command_of words ≡ Serve → ForSome from (λ input. ServeOutput told input old new left faults faults' lists lists' reads reads' shortages shortages' status)
+  pub serves : (packages : Option (List ℕ)) → command_of words ≡ Serve packages → Serves packages told from old new left faults faults' lists lists' reads reads' shortages shortages' status
   pub runs : (file : List ℕ) (steps : ℕ) → command_of words ≡ Run file steps → RunOutput file steps told old new status
-  pub refuses : command_of words ≡ NoCommand → RefusedOutput status old new
+  pub refuses : command_of words ≡ NoCommand → RefusedBy usage_line status old new

@@ -11,7 +11,7 @@ use Rattle.fault_io.specs.declared.traits.WriteRefusal.TheVariants as Cut
 use Rattle.proto_json.specs.declared.reply.ErrorRow.{ErrorRow}
 use Rattle.judgement.specs.declared.DiagnosticCode.TheVariants.{FileNotUtf8, ProfileFileLength}
 use Rattle.small_tree.specs.Tree.{Tree}
-use Rattle.check_library.specs.Grammar.{tree_of}
+use Rattle.check_library.specs.Units.{tree_of}
 use Rattle.check_library.specs.Diagnostics.{diagnostics}
 use Rattle.diagnostics.specs.Rendering.{rows_of, lines_of_rows}
 use Rattle.core_ir.specs.Program.{Program}

@@ -1,5 +1,5 @@
 -- The commands.
-use Rattle.std.specs.Prelude.{ℕ, Bool, not, ◌&&◌, ◌==◌, List, [], ◌∷◌, Option, Some, None, if◌then◌else◌, codes, bytes_eq, length, nat_le}
+use Rattle.std.specs.Prelude.{ℕ, Bool, true, false, not, ◌&&◌, ◌==◌, List, [], ◌∷◌, Option, Some, None, if◌then◌else◌, codes, bytes_eq, length, nat_le}
 use Rattle.std.specs.Char.{is_ascii_digit}
 use Rattle.std.specs.List.{list_all}
 use Rattle.std.specs.Str.Parse.{digits_value}
@@ -7,8 +7,8 @@ use Rattle.fault_io.specs.Paths.{is_path}
 
 -- what the words behind the program's name ask for
 pub data Command : Type 0 where
-  -- the lines of the input are served
-  Serve : Command
+  -- the lines of the input are served, over the packages of a file if one is named
+  Serve : (packages : Option (List ℕ)) → Command
   -- the program of a file is run, for at most so many steps
   Run : (file : List ℕ) → (steps : ℕ) → Command
   -- they are no command
@@ -31,12 +31,23 @@ abbrev pub run_command : List ℕ → Option ℕ → Command
 run_command file None = Refused
 run_command file (Some steps) = if is_path file then Run file steps else Refused
 
--- the commands: `serve`, `run FILE` and `run FILE --steps N`
+-- serving over the packages of a file whose path is absolute and normalized
+abbrev pub serve_command : List ℕ → Command
+serve_command file = if is_path file then Serve (Some file) else Refused
+
+-- whether the lines of the input are served
+abbrev pub serves : Command → Bool
+serves (Serve packages) = true
+serves (Run file steps) = false
+serves Refused = false
+
+-- the commands: `serve`, `serve --packages FILE`, `run FILE` and `run FILE --steps N`
 abbrev pub command_of : List (List ℕ) → Command
 command_of [] = Refused
-command_of (word ∷ []) = if bytes_eq word (codes "serve") then Serve else Refused
+command_of (word ∷ []) = if bytes_eq word (codes "serve") then Serve None else Refused
 command_of (word ∷ (file ∷ [])) = if bytes_eq word (codes "run") then run_command file (Some default_steps) else Refused
-command_of (word ∷ (file ∷ (option ∷ []))) = Refused
+command_of (word ∷ (option ∷ (file ∷ []))) =
+    if bytes_eq word (codes "serve") && bytes_eq option (codes "--packages") then serve_command file else Refused
 command_of (word ∷ (file ∷ (option ∷ (number ∷ [])))) =
     if bytes_eq word (codes "run") && bytes_eq option (codes "--steps") then run_command file (number_of number) else Refused
 command_of (word ∷ (file ∷ (option ∷ (number ∷ (more ∷ words))))) = Refused

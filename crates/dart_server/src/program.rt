@@ -1,17 +1,18 @@
 //! The program over a source, a sink and a store of files.
 
-ghost use Rattle.std.specs.Prelude.{◌≡◌, ◌≢◌, []};
+ghost use Rattle.std.specs.Prelude.{◌≡◌, ◌≢◌, false, None, Some, []};
 ghost use Rattle.std.specs.Option.{ForSome};
 ghost use Rattle.fault_io.specs.Faults.{Rose};
-ghost use Rattle.dart_server.specs.Words.{Serve, Refused, command_of};
-ghost use Rattle.dart_server.specs.Output.{Output, ServeOutput, RefusedOutput, MayEnd, Reads};
+ghost use Rattle.dart_server.specs.Words.{Serve, Refused, serves, command_of};
+ghost use Rattle.dart_server.specs.Output.{Output, ServeOutput, ServeFileOutput, RefusedBy, MayEnd, Reads};
 
 use crate::run::run;
 use crate::status::{Status, status_of};
 use crate::words::{Command, command_of};
 use analysis_store::Plain;
-use fault_io::{Files, Sink, Source, WriteRefusal, write_all_of};
+use fault_io::{Files, FilesRefusal, Sink, Source, WriteRefusal, write_all_of};
 use load_files::Packages;
+use packages_file::packages_at;
 use plain_text::PlainText;
 use request_core::Session;
 use serve_loop::serve;
@@ -26,14 +27,19 @@ const INPUT_LIMIT: u64 = 1_099_511_627_776;
 /// What is written where the words are no command.
 const USAGE: &[u8] = b"usage: dart_serve serve|check FILE|run FILE|make N [options]\n";
 
-/// Writes the usage line.
-fn refuse<K: Sink>(alloc: Global, sink: &mut K) -> Status
-    ensures output { RefusedOutput result (K.written sink.old) (K.written sink.new) }
+/// What is written where the packages file is refused.
+const PACKAGES_REFUSED: &[u8] = b"dart_serve: packages refused\n";
+
+/// Writes the line of a refusal.
+fn refuse<K: Sink>(alloc: Global, sink: &mut K, line: &[u8]) -> Status
+    ensures output { RefusedBy line.now result (K.written sink.old) (K.written sink.new) }
     ensures fault { result ≡ Status.WriteFault → Rose (K.faults sink.old) (K.faults sink.new) }
     ensures no_fault { result ≢ Status.WriteFault → K.faults sink.new ≡ K.faults sink.old }
+    ensures short { result ≡ Status.Memory → Rose (K.shortages sink.old) (K.shortages sink.new) }
+    ensures not_short { result ≢ Status.Memory → K.shortages sink.new ≡ K.shortages sink.old }
     ensures statuses { MayEnd Refused result }
 {
-    match write_all_of(alloc, sink, USAGE) {
+    match write_all_of(alloc, sink, line) {
         Ok(()) => Status::Refused,
         Err(WriteRefusal::Failed) => Status::WriteFault,
         Err(WriteRefusal::Memory) => Status::Memory,
@@ -47,25 +53,25 @@ fn no_packages(alloc: Global) -> Packages
     Packages::from_vec(Vec::new(alloc))
 }
 
-/// Answers the lines of the source.
+/// Answers the lines of the source over these packages.
 fn serve_lines<S: Source, K: Sink, F: Files>(
     alloc: Global,
+    packages: Packages,
     source: &mut S,
     sink: &mut K,
     files: &mut F,
 ) -> Status
     ensures output { ForSome (S.left source.old) (λ input.
-        ServeOutput (F.told files.old) input (K.written sink.old) (K.written sink.new) (S.left source.new)
+        ServeOutput packages (F.told files.old) input (K.written sink.old) (K.written sink.new) (S.left source.new)
         (F.faults files.old) (F.faults files.new) (F.lists files.old) (F.lists files.new) (F.reads files.old) (F.reads files.new)
         (K.shortages sink.old) (K.shortages sink.new) result) }
-    ensures statuses { MayEnd Serve result }
+    ensures statuses { MayEnd (Serve None) result }
     ensures read_fault { result ≡ Status.ReadFault → Rose (S.faults source.old) (S.faults source.new) }
     ensures no_read_fault { result ≢ Status.ReadFault → S.faults source.new ≡ S.faults source.old }
     ensures write_fault { result ≡ Status.WriteFault → Rose (K.faults sink.old) (K.faults sink.new) }
     ensures no_write_fault { result ≢ Status.WriteFault → K.faults sink.new ≡ K.faults sink.old }
     ensures told { F.told files.new ≡ F.told files.old }
 {
-    let packages = no_packages(alloc);
     let mut session = Session::new(alloc, packages, Plain::new(alloc));
     let end = serve(
         alloc,
@@ -79,21 +85,53 @@ fn serve_lines<S: Source, K: Sink, F: Files>(
     status_of(end)
 }
 
+/// Answers the lines of the source over the packages of a file.
+fn serve_file<S: Source, K: Sink, F: Files>(
+    alloc: Global,
+    source: &mut S,
+    sink: &mut K,
+    files: &mut F,
+    file: &str,
+) -> Status
+    ensures output { ServeFileOutput file.now (F.told files.old)
+        (S.left source.old) (K.written sink.old) (K.written sink.new) (S.left source.new)
+        (F.faults files.old) (F.faults files.new) (F.lists files.old) (F.lists files.new) (F.reads files.old) (F.reads files.new)
+        (K.shortages sink.old) (K.shortages sink.new) result }
+    ensures statuses { MayEnd (Serve (Some file.now)) result }
+    ensures read_fault { result ≡ Status.ReadFault → Rose (S.faults source.old) (S.faults source.new) }
+    ensures no_read_fault { result ≢ Status.ReadFault → S.faults source.new ≡ S.faults source.old }
+    ensures write_fault { result ≡ Status.WriteFault → Rose (K.faults sink.old) (K.faults sink.new) }
+    ensures no_write_fault { result ≢ Status.WriteFault → K.faults sink.new ≡ K.faults sink.old }
+    ensures files_fault { result ≡ Status.FilesFault → Rose (F.faults files.old) (F.faults files.new) }
+    ensures unread_refused { result ≡ Status.Refused → source.new ≡ source.old }
+    ensures unread_fault { result ≡ Status.FilesFault → source.new ≡ source.old }
+    ensures told { F.told files.new ≡ F.told files.old }
+{
+    match packages_at(alloc, files, file) {
+        Ok(Some(packages)) => serve_lines(alloc, packages, source, sink, files),
+        Ok(None) => refuse(alloc, sink, PACKAGES_REFUSED),
+        Err(FilesRefusal::Failed) => Status::FilesFault,
+        Err(FilesRefusal::Memory) => Status::Memory,
+    }
+}
+
 /// The program: `words` are those behind its name. Under `serve` it answers the lines of the
 /// source, one by one, until the source ends; under `run` it runs the program of a file; other words
 /// are refused by the usage line.
 ///
-/// `output` is the theorem of the program. Under `serve` what was written, for every input in
-/// whatever pieces, is the replies that the rules of the protocol allow, and each reply to
-/// `analysis.getErrors` lists exactly the diagnostics that the rules of the language define, from
-/// nothing, for what the file then had: its overlay, or else what the store had there when the roots
-/// were last read. Under `run` it is the diagnostics of the file, or where it has none, what its
-/// program prints, of which no number of steps goes wrong. The other clauses say when each fault
-/// comes: the count of faults of the source or the sink rises, or stands at its end, exactly where the
-/// status says so; only `serve` reads the source. Under `serve` a reply is cut at the status of want of
+/// `output` is the theorem of the program. Under `serve`, over no packages or over those that a
+/// packages file lists, what was written, for every input in whatever pieces, is the replies that the
+/// rules of the protocol allow, and each reply to `analysis.getErrors` lists exactly the diagnostics
+/// that the rules of the language define, from nothing, for what the file then had: its overlay, or
+/// else what the store had there when the roots were last read. Under `run` it is the diagnostics of
+/// the file, or where it has none, what its program prints, of which no number of steps goes wrong. The
+/// other clauses say when each fault comes: the count of faults of the source or the sink rises, or
+/// stands at its end, exactly where the status says so; only `serve` reads the source, and not where
+/// its packages file is refused or can't be read. Under `serve` a reply is cut at the status of want of
 /// memory only where the sink's count of it rose. The store is called once for a run of a library, by
-/// `read`; under `serve` only for lines of `analysis.setAnalysisRoots` and `analysis.reanalyze`, whose
-/// replies say where it failed; and else never.
+/// `read`; under `serve` once for a packages file, by `read`, and then only for lines of
+/// `analysis.setAnalysisRoots` and `analysis.reanalyze`, whose replies say where it failed; and else
+/// never.
 pub fn dart_main<S: Source, K: Sink, F: Files>(
     alloc: Global,
     words: &[PlainText],
@@ -111,15 +149,22 @@ pub fn dart_main<S: Source, K: Sink, F: Files>(
     ensures write_fault { result ≡ Status.WriteFault → Rose (K.faults sink.old) (K.faults sink.new) }
     ensures no_write_fault { result ≢ Status.WriteFault → K.faults sink.new ≡ K.faults sink.old }
     ensures files_fault { result ≡ Status.FilesFault → Rose (F.faults files.old) (F.faults files.new) }
-    ensures no_files_fault { command_of words.now ≢ Serve → result ≢ Status.FilesFault → F.faults files.new ≡ F.faults files.old }
-    ensures unread { command_of words.now ≢ Serve → source.new ≡ source.old }
-    ensures unlisted { command_of words.now ≢ Serve → F.lists files.new ≡ F.lists files.old }
+    ensures no_files_fault { serves (command_of words.now) ≡ false → result ≢ Status.FilesFault → F.faults files.new ≡ F.faults files.old }
+    ensures unread { serves (command_of words.now) ≡ false → source.new ≡ source.old }
+    ensures unread_refused { result ≡ Status.Refused → source.new ≡ source.old }
+    ensures unread_fault { result ≡ Status.FilesFault → source.new ≡ source.old }
+    ensures unlisted { serves (command_of words.now) ≡ false → F.lists files.new ≡ F.lists files.old }
     ensures reads { Reads words.now (F.reads files.old) (F.reads files.new) }
     ensures told { F.told files.new ≡ F.told files.old }
 {
     match command_of(words) {
-        Command::Serve => serve_lines(alloc, source, sink, files),
+        Command::Serve { packages: None } => {
+            serve_lines(alloc, no_packages(alloc), source, sink, files)
+        }
+        Command::Serve {
+            packages: Some(file),
+        } => serve_file(alloc, source, sink, files, file),
         Command::Run { file, steps } => run(alloc, sink, files, file, steps),
-        Command::Refused => refuse(alloc, sink),
+        Command::Refused => refuse(alloc, sink, USAGE),
     }
 }

@@ -3,7 +3,7 @@
 ghost use Rattle.std.specs.Prelude.{◌≡◌};
 ghost use Rattle.std.specs.Char.{is_ascii_digit};
 ghost use Rattle.std.specs.List.{list_all};
-ghost use Rattle.dart_server.specs.Words.{is_number, number_of, run_command, command_of};
+ghost use Rattle.dart_server.specs.Words.{is_number, number_of, run_command, serve_command, command_of};
 ghost use Rattle.dart_server.specs.Lent.{command_view};
 
 use fault_io::is_path;
@@ -19,7 +19,10 @@ const MOST_DIGITS: usize = 15;
 #[derive(Clone, Copy)]
 pub enum Command<'w> {
     /// The lines of the source are served.
-    Serve,
+    Serve {
+        /// The path of the packages file, absolute and normalized, if there is one.
+        packages: Option<&'w str>,
+    },
     /// The program of a file is run.
     Run {
         /// Its path, which is absolute and normalized.
@@ -66,12 +69,28 @@ fn run_command(file: &str, steps: Option<u64>) -> Command<'_>
     }
 }
 
+/// Serving over the packages of a file.
+fn serve_command(file: &str) -> Command<'_>
+    ensures { command_view result ≡ serve_command file.now }
+{
+    if is_path(file) {
+        Command::Serve {
+            packages: Some(file),
+        }
+    } else {
+        Command::Refused
+    }
+}
+
 /// The command that the words are.
 pub fn command_of(words: &[PlainText]) -> Command<'_>
     ensures { command_view result ≡ command_of words.now }
 {
     match words {
-        [word] if word.as_str() == "serve" => Command::Serve,
+        [word] if word.as_str() == "serve" => Command::Serve { packages: None },
+        [word, option, file] if word.as_str() == "serve" && option.as_str() == "--packages" => {
+            serve_command(file.as_str())
+        }
         [word, file] if word.as_str() == "run" => run_command(file.as_str(), Some(DEFAULT_STEPS)),
         [word, file, option, number] if word.as_str() == "run" && option.as_str() == "--steps" => {
             run_command(file.as_str(), number_of(number.as_str()))
