@@ -1,9 +1,9 @@
 -- No statement, declaration or text that is read is higher than the room that it was read in.
 use Rattle.std.proofs.Common.{ℕ, zero, suc, ◌≤◌, Bool, true, false, List, [], length, map, Option, Some, None, arith}
-use Rattle.readings.specs.Readings.{Rule, token, ◌▹◌, maybe, many, longest_of}
+use Rattle.readings.specs.Readings.{Rule, token, turn, ◌▹◌, maybe, many, chain, longest_of}
 use Rattle.readings.specs.Leading.{Each}
 use Rattle.readings.specs.Lists.{each_map}
-use Rattle.readings.specs.Values.{Gives, Maybe, gives_any, gives_none, gives_seq, gives_or, gives_make, gives_turn, gives_maybe, gives_many, gives_longest, gives_inside, gives_within, gives_where, gives_prefer, gives_exactly, gives_before, gives_only, gives_items, all_items_are}
+use Rattle.readings.specs.Values.{Gives, Maybe, gives_any, gives_none, gives_seq, gives_or, gives_make, gives_turn, gives_maybe, gives_many, gives_chain, gives_longest, gives_inside, gives_within, gives_where, gives_prefer, gives_exactly, gives_before, gives_only, gives_items, all_items_are}
 use Rattle.dart_tokens.specs.declared.token.Kind.TheVariants as kind
 use Rattle.dart_tree.specs.Tree.{Tree}
 use Rattle.dart_tree.specs.Heights.{height}
@@ -12,9 +12,9 @@ use Rattle.grammar.specs.declared.level.Setting.TheVariants as setting
 use Rattle.grammar.specs.Tokens.{is, is_name, is_type_name, heads, heads_name, anything, width, past}
 use Rattle.grammar.specs.Operators.{table}
 use Rattle.grammar.specs.Types.{Below, inner, behind_token, listed_or_none, annotation_rule, heads_field}
-use Rattle.grammar.specs.Expressions.{heads_label, heads_closure, heads_nullable}
+use Rattle.grammar.specs.Expressions.{heads_label, heads_closure, heads_nullable, one_time}
 use Rattle.grammar.specs.Below.{below}
-use Rattle.grammar.specs.Statements.{Header, counted, assigned, declaring, each_with, for_with, clause_with, segment, error_of, block_of, block_rule, final_of, var_of, typed_of, declared_rule, variable_of, variable_rule, variables_of, variables_rule, ended, variable_statement_of, variable_statement_rule, arrow_body_of, local_body_rule, plain_function_of, local_rest_rule, local_function_rule, function_statement_of, function_statement_rule, expression_statement_of, expression_statement_rule, return_of, return_rule, break_of, break_rule, continue_of, continue_rule, rethrow_of, rethrow_rule, labeled_of, labeled_rule, condition_rule, if_of, if_rule, while_of, while_rule, do_of, do_rule, each_of, each_rule, start_rule, counted_of, counted_rule, for_of, for_rule, label_of, label_rule, labels_of, default_of, labels_rule, case_of, case_size, case_rule, cases_end_with_default, cases_rule, switch_of, switch_rule, catch_rule, on_of, clause_of, clause_rule, has_clause, try_of, try_rule, other_statement_rule, statement_rule}
+use Rattle.grammar.specs.Statements.{Header, counted, assigned, declaring, each_with, for_with, clause_with, If, without_else, is_nearest, with_else, segment, error_of, block_of, block_rule, final_of, var_of, typed_of, declared_rule, variable_of, variable_rule, variables_of, variables_rule, ended, variable_statement_of, variable_statement_rule, arrow_body_of, local_body_rule, plain_function_of, local_rest_rule, local_function_rule, function_statement_of, function_statement_rule, expression_statement_of, expression_statement_rule, return_of, return_rule, break_of, break_rule, continue_of, continue_rule, rethrow_of, rethrow_rule, labeled_of, labeled_rule, condition_rule, if_of, if_rule, while_of, while_rule, do_of, do_rule, each_of, each_rule, start_rule, counted_of, counted_rule, for_of, for_rule, label_of, label_rule, labels_of, default_of, labels_rule, case_of, case_size, case_rule, cases_end_with_default, cases_rule, switch_of, switch_rule, catch_rule, on_of, clause_of, clause_rule, has_clause, try_of, try_rule, other_statement_rule, statement_rule}
 use Rattle.grammar.specs.Declarations.{Signature, getting, setting_of, plain, function_with, constructed, made_by_factory, method, fields, operated_by, member_with, of_class, of_mixin, of_type, of_function, of_variables, declaration_with, Member, Declaration, native_of, empty_of, body_rule, getting_of, set_of, plain_of, heads_getter, heads_setter, signature_rule, function_of, function_rule, constructor_name_rule, field_initializer_of, super_of, redirection_of, initializer_rule, constructor_of, constructor_rule, factory_of, factory_rule, operator_rule, operator_member_of, operator_member_rule, heads_static, method_of, fields_of, plain_member_rule, behind_word, static_member_rule, member_of, member_rule, members_rule, types_behind, class_of, class_with_rule, class_word, class_rule, mixin_of, mixin_rule, alias_of, alias_rule, declared_function_of, declared_variables_of, plain_declaration_rule, heads_class, heads_word, declaration_of, declaration_rule, library_names_rule, library_of, library_rule, combinator_rule, import_of, import_rule, export_of, export_rule, part_directive_of, part_rule, part_of_uri_of, part_of_library_of, part_of_rule, directive_rule, item_rule, unit_below}
 use Rattle.grammar.proofs.Depths.{Low, Lows, up, first_node, hi, ls, pt, bt, lo, tok, separated_low, type_parameters_low, parameter_list_low, plain_type_low, type_low, string_low, arguments_low, simple_low, unary_low, operand_low, section_head_low, section_low, expression_low}
 
@@ -144,14 +144,23 @@ try_low n d a =
     (gives_only has_clause
     (gives_longest (gives_seq (gives_seq (tok (is kind.Try)) (gives_seq a.block (gives_many (clause_low n d a)))) (gives_maybe (gives_seq (tok (is kind.Finally)) a.block)))))
 
+abbrev IfLow : ℕ → If → Type 0
+IfLow n x = (Unit {0} × (Low n x.0.1.0 × Low n x.0.1.1)) × Maybe (Low n) x.1
+
+if_low : (n : ℕ) (d : Below) → Lows n d →
+    Gives (IfLow n) (chain one_time is_nearest with_else (longest_of (turn without_else (token (is kind.If) ▹ condition_rule d ▹ d.statement))) (longest_of (token (is kind.Else) ▹ d.statement)))
+if_low n d a =
+    gives_chain one_time is_nearest with_else
+    (gives_longest (gives_turn {R = IfLow n} without_else (λ x h. (h, tt)) (gives_seq (tok (is kind.If)) (gives_seq (condition_low n d a) a.statement))))
+    (gives_longest (gives_seq (tok (is kind.Else)) a.statement)) (λ read left side e h k. (h.0, k.1))
+
 statement_low : (n : ℕ) (d : Below) → Lows n d → Gives (Low (suc n)) (statement_rule d)
 unfolding statement_rule if_rule while_rule do_rule return_rule break_rule continue_rule rethrow_rule other_statement_rule labeled_rule function_statement_rule variable_statement_rule expression_statement_rule
 statement_low n d a =
     gives_longest
     (gives_where (heads kind.OpenBrace) (block_low n)
     (gives_or
-    (gives_make if_of (λ read x h. up (hi {n = n} h.1.0 (hi {n = n} h.1.1.0 (bt {n = n} x.1.1.1 h.1.1.1))))
-    (gives_seq (tok (is kind.If)) (gives_seq (condition_low n d a) (gives_seq a.statement (gives_maybe (gives_seq (tok (is kind.Else)) a.statement))))))
+    (gives_make if_of (λ read x h. up (hi {n = n} h.0.1.0 (hi {n = n} h.0.1.1 (pt {n = n} x.1 h.1)))) (if_low n d a))
     (gives_or (gives_make while_of (λ read x h. up (hi {n = n} h.1.0 h.1.1)) (gives_seq (tok (is kind.While)) (gives_seq (condition_low n d a) a.statement)))
     (gives_or
     (gives_make do_of (λ read x h. up (hi {n = n} h.1.0 h.1.1.1.0))

@@ -4,7 +4,7 @@ use Rattle.std.proofs.lemmas.Bool.Decides.{nat_tests}
 use Rattle.readings.specs.Readings.{Rule, Test, token, given, ◌▹◌, maybe, many, where_next, turn}
 use Rattle.readings.specs.Leading.{Each}
 use Rattle.readings.specs.Lists.{each_append, each_implies, each_map}
-use Rattle.readings.specs.Values.{Gives, Maybe, gives_any, gives_seq, gives_or, gives_make, gives_turn, gives_maybe, gives_many, gives_chain, gives_once, gives_longest, gives_inside, gives_where, gives_prefer, gives_exactly, gives_before, gives_elements, gives_levels}
+use Rattle.readings.specs.Values.{Gives, Maybe, gives_any, gives_none, gives_seq, gives_or, gives_make, gives_turn, gives_maybe, gives_many, gives_chain, gives_once, gives_longest, gives_inside, gives_where, gives_prefer, gives_exactly, gives_before, gives_elements, gives_levels}
 use Rattle.dart_tokens.specs.declared.token.Kind.TheVariants as kind
 use Rattle.dart_tree.specs.Tree.{Tree, trees_of, part_of}
 use Rattle.dart_tree.specs.Heights.{higher, height, heights, height_of_part, fits}
@@ -18,7 +18,7 @@ use Rattle.grammar.specs.declared.level.Setting.TheVariants as setting
 use Rattle.grammar.specs.Tokens.{is, is_either, is_name, is_type_name, width, past}
 use Rattle.grammar.specs.Types.{tail, Tail, function_type_with, listed_or_none, behind_token, Below, separated, separated_rule, inner, type_arguments_of, type_arguments_rule, type_parameter_of, type_parameter_rule, type_parameters_of, type_parameters_rule, void_of, type_name_rule, question_rule, named_type_of, plain_type_rule, annotation_rule, heads_required, heads_field, parameter_of, parameter_rule, parameters_rule, optional_parameters_rule, parameter_list_of, parameter_list_rule, parameter_type_of, parameter_type_rule, tail_of, tail_rule, tail_before_rule, first_tail_of, next_tail_of, every_time, type_rule}
 use Rattle.grammar.specs.Operators.{binary_rule, prefix_rule, postfix_rule, table, assignment_rule}
-use Rattle.grammar.specs.Expressions.{Selector, member, element, check, called, Side, operated, tested, cast, choices, Contents, listed, entries, collection_with, side_with, simple_string_of, string_text_of, simple_interpolation_of, interpolation_rule, string_part_rule, interpolated_of, string_rule, strings_of, strings_rule, heads_label, positional_of, named_of, argument_rule, arguments_of, arguments_rule, integer_of, boolean_of, null_of, this_of, super_of, identifier_of, simple_rule, generic_of, heads_use, name_rule, parenthesis_of, parenthesis_rule, arrow_of, closure_of, heads_closure, closure_rule, new_of, new_rule, entry_of, entry_rule, listed_of, entries_of, collection_of, collection_rule, primary_rule, member_of, element_of, check_of, plain_call_of, generic_call_of, behind_call, selector_rule, select_with, selected_rule, one_time, postfix_of, unary_of, incremented_rule, unary_rule, operated_of, tested_of, cast_of, choices_of, operated_rule, right_rule, times, side_with, operand_rule, assign_of, assignment_expression_rule, throw_of, throw_rule, cascaded_name_of, cascaded_index_of, section_head_rule, section_rule, cascade_of, section_of, cascade_section_rule, cascade_rule, expression_rule}
+use Rattle.grammar.specs.Expressions.{Selector, member, element, check, called, Side, operated, tested, cast, choices, Contents, listed, entries, collection_with, side_with, simple_string_of, string_text_of, simple_interpolation_of, interpolation_rule, string_part_rule, interpolated_of, string_rule, strings_of, strings_rule, heads_label, positional_of, named_of, argument_rule, arguments_of, arguments_rule, integer_of, boolean_of, null_of, this_of, super_of, identifier_of, simple_rule, generic_of, heads_generic, name_rule, parenthesis_of, parenthesis_rule, arrow_of, closure_of, heads_closure, closure_rule, new_of, new_rule, entry_of, entry_rule, listed_of, entries_of, collection_of, collection_rule, primary_rule, member_of, element_of, check_of, plain_call_of, generic_call_of, heads_call, selector_rule, select_with, selected_rule, one_time, postfix_of, unary_of, incremented_rule, unary_rule, operated_of, tested_of, cast_of, choices_of, operated_rule, right_rule, times, side_with, operand_rule, assign_of, assignment_expression_rule, throw_of, throw_rule, cascaded_name_of, cascaded_index_of, section_head_rule, section_rule, cascade_of, section_of, cascade_section_rule, cascade_rule, expression_rule}
 
 -- a tree of at most this height
 abbrev pub Low : ℕ → Tree → Type 0
@@ -190,7 +190,7 @@ simple_low n = gives_or (gives_turn identifier_of (λ x h. first_node n) (tok is
 name_low : (n : ℕ) (d : Below) → Lows n d → Gives (Low (suc n)) (name_rule d)
 unfolding name_rule
 name_low n d a =
-    gives_prefer (gives_make generic_of (λ read x h. up h.1) (gives_before heads_use (gives_longest (gives_seq (tok is_name) (type_arguments_low n d a)))))
+    gives_where heads_generic (gives_make generic_of (λ read x h. up h.1) (gives_seq (tok is_name) (type_arguments_low n d a)))
     (gives_turn identifier_of (λ x h. first_node n) (tok is_name))
 
 parenthesis_low : (n : ℕ) (d : Below) → Lows n d → Gives (Low (suc n)) (parenthesis_rule d)
@@ -258,7 +258,7 @@ selector_low n m d a =
     (gives_or (gives_turn {R = SelectorLow n} (element_of true) (λ x h. h) (gives_inside (is kind.QuestionBracket) width past (a.expression setting.Plain)))
     (gives_or (gives_turn {R = SelectorLow n} check_of (λ x h. tt) (tok (is kind.Bang)))
     (gives_or (gives_turn {R = SelectorLow n} plain_call_of (λ x h. (tt, h)) (arguments_low n d a))
-    (gives_turn {R = SelectorLow n} generic_call_of (λ x h. (h.0, h.1)) (gives_before (behind_call m) (gives_longest (gives_seq (type_arguments_low n d a) (arguments_low n d a))))))))))
+    (gives_where (heads_call m) (gives_turn {R = SelectorLow n} generic_call_of (λ x h. (h.0, h.1)) (gives_seq (type_arguments_low n d a) (arguments_low n d a))) (gives_none (SelectorLow n))))))))
 
 select_low : (n : ℕ) (read : List Token) (left : Tree) (s : Selector) → Low n left → SelectorLow n s → Low (suc n) (select_with read left s)
 select_low n read left (member null_aware name) h k = up h
@@ -296,7 +296,7 @@ right_low n m d a level.Or above = operated_low n m d a level.Or above
 right_low n m d a level.And above = operated_low n m d a level.And above
 right_low n m d a level.Equality above = operated_low n m d a level.Equality above
 right_low n m d a level.Relation above =
-    gives_or (operated_low n m d a level.Relation above)
+    gives_or (gives_where (heads_call m) (gives_none (SideLow n)) (operated_low n m d a level.Relation above))
     (gives_or (gives_turn {R = SideLow n} tested_of (λ x h. h.1.1) (gives_seq (tok (is kind.Is)) (gives_seq (gives_any (maybe (token (is kind.Bang)))) (a.tested m))))
     (gives_turn {R = SideLow n} cast_of (λ x h. h.1) (gives_seq (tok (is kind.As)) (a.tested m))))
 right_low n m d a level.BitOr above = operated_low n m d a level.BitOr above

@@ -1,12 +1,11 @@
 -- The parser's way finds what the rules of expressions read.
-use Rattle.std.proofs.Common.{◌≡◌, ℕ, ◌<◌, ◌++◌, Bool, true, false, ◌||◌, List, [], ◌∷◌, Option, Some, length, if◌then◌else◌, refl, ap, subst, sym, ◌∙◌, inr, arith}
-use Rattle.readings.specs.Readings.{Reading, Rule, Test, next, nothing, either, optional, token, ◌▹◌, ◌∣◌}
-use Rattle.readings.specs.Descent.{Descent, bind, climb, take_token, ◌▸◌, take_where, take_onto}
+use Rattle.std.proofs.Common.{◌≡◌, ℕ, ◌<◌, ◌++◌, Bool, true, false, ◌||◌, List, [], ◌∷◌, Option, Some, None, length, if◌then◌else◌, refl, ap, subst, sym, ◌∙◌, inr, arith}
+use Rattle.readings.specs.Readings.{Reading, Rule, Test, next, nothing, either, optional, token, turn, ◌▹◌, ◌∣◌}
+use Rattle.readings.specs.Descent.{Descent, bind, climb, take_token, take_turn, ◌▸◌, take_where, take_onto}
 use Rattle.readings.specs.Leading.{Each, Apart, Within, Late, Parses, Sole}
-use Rattle.readings.specs.Combinators.{parses_within, parses_token, parses_make, parses_turn, parses_seq, parses_sole, sole_longest}
+use Rattle.readings.specs.Combinators.{parses_none, parses_within, parses_token, parses_make, parses_turn, parses_seq, parses_sole, sole_longest}
 use Rattle.readings.specs.Choices.{Wins, parses_first, parses_switch, parses_where}
 use Rattle.readings.specs.Repetition.{parses_last, parses_offered, offers_maybe, offers_many}
-use Rattle.readings.specs.Commits.{parses_prefer, sole_before}
 use Rattle.readings.specs.Chains.{parses_chain, sole_once, once_found}
 use Rattle.readings.specs.Groups.{sole_inside}
 use Rattle.readings.specs.Falls.{parses_falls, parses_begins, parses_misses}
@@ -22,9 +21,9 @@ use Rattle.grammar.specs.declared.level.Setting.TheVariants as setting
 use Rattle.dart_tree.specs.Heights.{fits}
 use Rattle.grammar.specs.Tokens.{is, is_either, is_name, heads, heads_name, width, past}
 use Rattle.grammar.specs.Operators.{table, heads_sign, is_binary, is_assignment, take_assignment, assignment_rule}
-use Rattle.grammar.specs.Types.{Below, every_time}
-use Rattle.grammar.specs.Expressions.{begins_expression, simple_string_of, string_text_of, simple_interpolation_of, interpolation_rule, string_part_rule, interpolated_of, string_rule, strings_of, strings_rule, heads_label, positional_of, named_of, argument_rule, arguments_of, arguments_rule, integer_of, boolean_of, null_of, this_of, super_of, identifier_of, simple_rule, generic_of, heads_use, name_rule, parenthesis_of, parenthesis_rule, arrow_of, closure_of, heads_closure, closure_rule, new_of, new_rule, entry_of, entry_rule, listed_of, entries_of, collection_of, collection_rule, primary_rule, member_of, element_of, check_of, plain_call_of, generic_call_of, behind_call, selector_rule, select_with, selected_rule, one_time, postfix_of, unary_of, incremented_rule, unary_rule, operated_of, tested_of, cast_of, choices_of, operated_rule, right_rule, times, side_with, operand_rule, assign_of, assignment_expression_rule, throw_of, throw_rule, cascaded_name_of, cascaded_index_of, section_head_rule, section_rule, cascade_of, section_of, cascade_section_rule, cascade_rule, expression_rule}
-use Rattle.grammar.specs.Descents.{Lower, begins_string, take_interpolation, take_string_part, take_string, take_strings, take_argument, take_arguments, take_simple, take_name, take_parenthesis, take_closure, take_new, take_entry, take_collection, take_primary, take_selector, take_selected, take_incremented, take_unary, take_operated, take_right, take_operand, take_assignment_expression, take_throw, take_section_head, take_section, take_cascade_section, take_cascade, take_expression}
+use Rattle.grammar.specs.Types.{Below, every_time, type_arguments_rule}
+use Rattle.grammar.specs.Expressions.{begins_expression, simple_string_of, string_text_of, simple_interpolation_of, interpolation_rule, string_part_rule, interpolated_of, string_rule, strings_of, strings_rule, heads_label, positional_of, named_of, argument_rule, arguments_of, arguments_rule, integer_of, boolean_of, null_of, this_of, super_of, identifier_of, simple_rule, generic_of, heads_generic, name_rule, parenthesis_of, parenthesis_rule, arrow_of, closure_of, heads_closure, closure_rule, new_of, new_rule, entry_of, entry_rule, listed_of, entries_of, collection_of, collection_rule, primary_rule, member_of, element_of, check_of, plain_call_of, generic_call_of, heads_call, selector_rule, select_with, selected_rule, one_time, postfix_of, unary_of, incremented_rule, unary_rule, operated_of, tested_of, cast_of, choices_of, operated_rule, right_rule, times, side_with, operand_rule, assign_of, assignment_expression_rule, throw_of, throw_rule, cascaded_name_of, cascaded_index_of, section_head_rule, section_rule, cascade_of, section_of, cascade_section_rule, cascade_rule, expression_rule}
+use Rattle.grammar.specs.Descents.{Lower, begins_string, take_type_arguments, take_interpolation, take_string_part, take_string, take_strings, take_argument, take_arguments, take_simple, take_name, take_parenthesis, take_closure, take_new, take_entry, take_collection, take_primary, take_selector, take_selected, take_incremented, take_unary, take_operated, take_right, take_operand, take_assignment_expression, take_throw, take_section_head, take_section, take_cascade_section, take_cascade, take_expression}
 use Rattle.grammar.proofs.KindTests.{far, far_second, within, settled, still}
 use Rattle.grammar.proofs.TypesParse.{AllParse, begins_type, begins_primary, begins_operand, begins_section, begins_simple, type_arguments_parses, parameter_list_parses}
 use Rattle.grammar.proofs.OperatorsParse.{begins_postfix, binary_sole, assignment_sole, assignment_apart, prefix_parses, postfix_parses}
@@ -89,7 +88,7 @@ name_parses : (d : Below) (l : Lower) → AllParse d l → Parses nothing heads_
 unfolding name_rule take_name
 name_parses d l a =
     settled nothing heads_name
-    (parses_prefer (parses_make generic_of (parses_sole (sole_before heads_use (sole_longest (parses_seq (parses_token is_name) (type_arguments_parses d l a) (still _))))))
+    (parses_where heads_generic (parses_make generic_of (parses_seq (parses_token is_name) (type_arguments_parses d l a) (still _)))
     (parses_turn identifier_of (parses_token is_name)))
     refl (λ t ts. refl) refl (λ t ts. refl)
 
@@ -171,6 +170,15 @@ begins_selector t =
 named_member_parses : (period : Token → Bool) → Parses nothing (next period) (token period ▹ token is_name) (take_token period ▸ take_token is_name)
 named_member_parses period = parses_seq (parses_token period) (parses_token is_name) (still _)
 
+-- a call with type arguments, where one comes next
+called_parses : (m : Setting) (d : Below) (l : Lower) → AllParse d l →
+    Parses nothing (heads kind.Less) (λ ts. (if heads_call m ts then turn generic_call_of (type_arguments_rule d ▹ arguments_rule d) ts else []))
+    (take_where (heads_call m) (take_turn generic_call_of (take_type_arguments l ▸ take_arguments l)) (λ ts. None))
+called_parses m d l a =
+    settled nothing (heads kind.Less)
+    (parses_where (heads_call m) (parses_turn generic_call_of (parses_seq (type_arguments_parses d l a) (arguments_parse d l a) (still _))) (parses_none nothing (heads kind.Less)))
+    refl (λ t ts. refl) refl (λ t ts. refl)
+
 selector_parses : (m : Setting) (d : Below) (l : Lower) → AllParse d l → Parses nothing (next begins_selector) (selector_rule m d) (take_selector m l)
 unfolding selector_rule take_selector
 selector_parses m d l a =
@@ -181,7 +189,7 @@ selector_parses m d l a =
     (parses_switch (parses_turn (element_of true) (parses_sole (sole_inside (is kind.QuestionBracket) width past (parses_sole (a.expression setting.Plain)))))
     (parses_switch (parses_turn check_of (parses_token (is kind.Bang)))
     (parses_switch (parses_turn plain_call_of (arguments_parse d l a))
-    (parses_turn generic_call_of (parses_sole (sole_before (behind_call m) (sole_longest (parses_seq (type_arguments_parses d l a) (arguments_parse d l a) (still _))))))
+    (called_parses m d l a)
     (far _ _ refl (λ t ts. refl))) (far _ _ refl (λ t ts. refl))) (far _ _ refl (λ t ts. refl))) (far _ _ refl (λ t ts. refl))) (far _ _ refl (λ t ts. refl))) (far _ _ refl (λ t ts. refl)))
     refl (λ t ts. refl) refl (λ t ts. refl)
 
@@ -221,6 +229,12 @@ operated_parses : (m : Setting) (d : Below) (l : Lower) → AllParse d l → (wh
 unfolding operated_rule take_operated
 operated_parses m d l a which above = parses_turn operated_of (parses_seq (parses_sole (binary_sole which)) (parses_sole (a.operand m above)) (still _))
 
+-- an operator, unless a call with type arguments comes next
+compared_parses : (m : Setting) (d : Below) (l : Lower) → AllParse d l → (above : List Level) →
+    Parses nothing (heads_sign (is_binary level.Relation)) (λ ts. (if heads_call m ts then [] else operated_rule m d level.Relation above ts))
+    (take_where (heads_call m) (λ ts. None) (take_operated m l level.Relation above))
+compared_parses m d l a above = parses_where (heads_call m) (parses_none nothing nothing) (operated_parses m d l a level.Relation above)
+
 right_parses : (m : Setting) (d : Below) (l : Lower) → AllParse d l → (which : Level) (above : List Level) → Parses nothing (begins_side which) (right_rule m d which above) (take_right m l which above)
 unfolding right_rule take_right
 right_parses m d l a level.Conditional above =
@@ -232,7 +246,7 @@ right_parses m d l a level.And above = operated_parses m d l a level.And above
 right_parses m d l a level.Equality above = operated_parses m d l a level.Equality above
 right_parses m d l a level.Relation above =
     parses_within nothing (begins_side level.Relation) (λ ts e. e) (λ ts e. e)
-    (parses_switch (operated_parses m d l a level.Relation above)
+    (parses_switch (compared_parses m d l a above)
     (parses_switch (parses_turn tested_of (parses_seq (parses_token (is kind.Is)) (parses_offered (offers_maybe (parses_token (is kind.Bang))) (settled nothing (next begins_type) (parses_sole (a.tested m)) refl (λ t ts. refl) refl (λ t ts. refl)) (far _ _ refl (λ t ts. refl))) (still _)))
     (parses_turn cast_of (parses_seq (parses_token (is kind.As)) (parses_sole (a.tested m)) (still _))) (far _ _ refl (λ t ts. refl)))
     (far_second _ _ refl (λ t ts. refl)))

@@ -7,6 +7,7 @@ use Rattle.readings.specs.Combinators.{parses_none, parses_within, parses_token,
 use Rattle.readings.specs.Choices.{parses_switch, parses_where}
 use Rattle.readings.specs.Repetition.{parses_last, parses_offered, offers_maybe, offers_many}
 use Rattle.readings.specs.Commits.{parses_prefer, offers_exactly, sole_before, sole_only, offers_within_items}
+use Rattle.readings.specs.Chains.{parses_chain}
 use Rattle.readings.specs.Groups.{sole_inside}
 use Rattle.readings.specs.Elements.{sole_inside_offered}
 use Rattle.readings.specs.Items.{sole_braced}
@@ -16,8 +17,8 @@ use Rattle.grammar.specs.declared.token.Token.{Token}
 use Rattle.grammar.specs.declared.level.Setting.TheVariants as setting
 use Rattle.grammar.specs.Tokens.{is, is_name, heads, heads_name, width, past}
 use Rattle.grammar.specs.Types.{Below, inner}
-use Rattle.grammar.specs.Expressions.{heads_closure, begins_expression, heads_label}
-use Rattle.grammar.specs.Statements.{error_of, block_of, block_rule, final_of, var_of, typed_of, declared_rule, variable_of, variable_rule, variables_of, variables_rule, ended, variable_statement_of, variable_statement_rule, arrow_body_of, local_body_rule, plain_function_of, local_rest_rule, local_function_rule, function_statement_of, function_statement_rule, expression_statement_of, expression_statement_rule, return_of, return_rule, break_of, break_rule, continue_of, continue_rule, rethrow_of, rethrow_rule, labeled_of, labeled_rule, condition_rule, if_of, if_rule, while_of, while_rule, do_of, do_rule, each_of, each_rule, start_rule, counted_of, counted_rule, for_of, for_rule, label_of, label_rule, labels_of, default_of, labels_rule, case_of, case_size, case_rule, cases_end_with_default, cases_rule, switch_of, switch_rule, catch_of, catch_rule, on_of, clause_of, clause_rule, has_clause, try_of, try_rule, other_statement_rule, statement_rule}
+use Rattle.grammar.specs.Expressions.{heads_closure, begins_expression, heads_label, one_time}
+use Rattle.grammar.specs.Statements.{error_of, block_of, block_rule, final_of, var_of, typed_of, declared_rule, variable_of, variable_rule, variables_of, variables_rule, ended, variable_statement_of, variable_statement_rule, arrow_body_of, local_body_rule, plain_function_of, local_rest_rule, local_function_rule, function_statement_of, function_statement_rule, expression_statement_of, expression_statement_rule, return_of, return_rule, break_of, break_rule, continue_of, continue_rule, rethrow_of, rethrow_rule, labeled_of, without_else, is_nearest, with_else, labeled_rule, condition_rule, if_of, if_rule, while_of, while_rule, do_of, do_rule, each_of, each_rule, start_rule, counted_of, counted_rule, for_of, for_rule, label_of, label_rule, labels_of, default_of, labels_rule, case_of, case_size, case_rule, cases_end_with_default, cases_rule, switch_of, switch_rule, catch_of, catch_rule, on_of, clause_of, clause_rule, has_clause, try_of, try_rule, other_statement_rule, statement_rule}
 use Rattle.grammar.specs.Descents.{Lower, take_block, take_declared, take_variable, take_variables, take_variable_statement, take_local_body, take_local_rest, take_local_function, take_function_statement, take_expression_statement, take_return, take_break, take_continue, take_rethrow, take_labeled, take_condition, take_if, take_while, take_do, take_each, take_start, take_counted, take_for, take_label, take_labels, take_case, take_cases, take_switch, take_catch, take_clause, take_try, take_other_statement, take_statement}
 use Rattle.grammar.proofs.KindTests.{far, settled, still}
 use Rattle.grammar.proofs.TypesParse.{AllParse, begins_type, begins_statement, separated_parses, value_parses, offers_type, type_parameters_parses, parameter_list_parses}
@@ -128,12 +129,10 @@ condition_parses d l a = parses_turn inner (parses_sole (sole_inside (is kind.Op
 if_parses : (d : Below) (l : Lower) → AllParse d l → Parses (heads kind.Else) (heads kind.If) (if_rule d) (take_if l)
 unfolding if_rule take_if
 if_parses d l a =
-    settled (heads kind.Else) (heads kind.If)
-    (parses_make if_of
-    (parses_seq (parses_token (is kind.If))
-    (parses_seq (condition_parses d l a)
-    (parses_last (parses_sole a.statement) (offers_maybe (parses_seq (parses_token (is kind.Else)) (parses_sole a.statement) (still _))) (still _)) (still _)) (still _)))
-    refl (λ t ts. refl) refl (λ t ts. refl)
+    parses_make if_of
+    (parses_chain one_time is_nearest with_else
+    (sole_longest (parses_turn without_else (parses_seq (parses_token (is kind.If)) (parses_seq (condition_parses d l a) (parses_sole a.statement) (still _)) (still _))))
+    (sole_longest (parses_seq (parses_token (is kind.Else)) (parses_sole a.statement) (still _))))
 
 while_parses : (d : Below) (l : Lower) → AllParse d l → Parses nothing (heads kind.While) (while_rule d) (take_while l)
 unfolding while_rule take_while

@@ -19,8 +19,8 @@ use Rattle.dart_tree.specs.Heights.{fits}
 use Rattle.grammar.specs.Tokens.{is, is_either, is_name, is_type_name, heads, heads_name, anything, width, past}
 use Rattle.grammar.specs.Types.{separated, inner, type_arguments_of, type_parameter_of, type_parameters_of, void_of, heads_qualified, qualified_of, unqualified_of, named_type_of, annotation_of, heads_required, heads_field, parameter_of, parameter_list_of, parameter_type_of, Tail, tail_of, first_tail_of, next_tail_of, every_time}
 use Rattle.grammar.specs.Operators.{table, heads_sign, is_binary, take_binary, take_assignment, unary_at, postfix_at}
-use Rattle.grammar.specs.Expressions.{heads_nullable, simple_string_of, string_text_of, simple_interpolation_of, interpolated_of, strings_of, heads_label, positional_of, named_of, arguments_of, integer_of, boolean_of, null_of, this_of, super_of, identifier_of, heads_use, generic_of, parenthesis_of, arrow_of, closure_of, heads_closure, new_of, entry_of, listed_of, entries_of, collection_of, Selector, member_of, element_of, check_of, plain_call_of, generic_call_of, behind_call, select_with, one_time, postfix_of, unary_of, Side, operated_of, tested_of, cast_of, choices_of, times, side_with, assign_of, throw_of, cascaded_name_of, cascaded_index_of, cascade_of, section_of}
-use Rattle.grammar.specs.Statements.{error_of, block_of, final_of, var_of, typed_of, variable_of, variables_of, ended, variable_statement_of, arrow_body_of, plain_function_of, function_statement_of, expression_statement_of, return_of, break_of, continue_of, rethrow_of, labeled_of, if_of, while_of, do_of, Header, each_of, counted_of, for_of, label_of, labels_of, default_of, case_of, case_size, cases_end_with_default, switch_of, catch_of, on_of, clause_of, has_clause, try_of}
+use Rattle.grammar.specs.Expressions.{heads_nullable, simple_string_of, string_text_of, simple_interpolation_of, interpolated_of, strings_of, heads_label, positional_of, named_of, arguments_of, integer_of, boolean_of, null_of, this_of, super_of, identifier_of, heads_generic, generic_of, parenthesis_of, arrow_of, closure_of, heads_closure, new_of, entry_of, listed_of, entries_of, collection_of, Selector, member_of, element_of, check_of, plain_call_of, generic_call_of, heads_call, select_with, one_time, postfix_of, unary_of, Side, operated_of, tested_of, cast_of, choices_of, times, side_with, assign_of, throw_of, cascaded_name_of, cascaded_index_of, cascade_of, section_of}
+use Rattle.grammar.specs.Statements.{error_of, block_of, final_of, var_of, typed_of, variable_of, variables_of, ended, variable_statement_of, arrow_body_of, plain_function_of, function_statement_of, expression_statement_of, return_of, break_of, continue_of, rethrow_of, labeled_of, without_else, is_nearest, with_else, if_of, while_of, do_of, Header, each_of, counted_of, for_of, label_of, labels_of, default_of, case_of, case_size, cases_end_with_default, switch_of, catch_of, on_of, clause_of, has_clause, try_of}
 
 -- a string begins with this token
 abbrev pub begins_string : Token → Bool
@@ -120,7 +120,7 @@ unfoldable pub take_simple : Descent Token Tree
 take_simple = take_where (heads_name) (take_turn identifier_of (take_token is_name)) (take_turn this_of (take_token (is kind.This)))
 
 unfoldable pub take_name : Lower → Descent Token Tree
-take_name l = take_make generic_of (take_before heads_use (take_token is_name ▸ take_type_arguments l)) ⊘ take_turn identifier_of (take_token is_name)
+take_name l = take_where heads_generic (take_make generic_of (take_token is_name ▸ take_type_arguments l)) (take_turn identifier_of (take_token is_name))
 
 unfoldable pub take_parenthesis : Lower → Descent Token Tree
 take_parenthesis l = take_make parenthesis_of (take_inside (is kind.OpenParenthesis) width past (l.expression setting.Plain))
@@ -141,7 +141,7 @@ unfoldable pub take_primary : Setting → Lower → Descent Token Tree
 take_primary m l = take_where (heads kind.Integer) (take_turn integer_of (take_token (is kind.Integer))) (take_where (next begins_string) (take_strings l) (take_where (heads kind.True) (take_turn (boolean_of true) (take_token (is kind.True))) (take_where (heads kind.False) (take_turn (boolean_of false) (take_token (is kind.False))) (take_where (heads kind.Null) (take_turn null_of (take_token (is kind.Null))) (take_where (heads kind.This) (take_turn this_of (take_token (is kind.This))) (take_where (heads kind.Super) (take_turn super_of (take_token (is kind.Super))) (take_where (heads_name) (take_name l) (take_where (heads kind.OpenParenthesis) (take_where (heads_closure m) (take_closure m l) (take_parenthesis l)) (take_where (heads kind.New) (take_new l) (take_collection l))))))))))
 
 unfoldable pub take_selector : Setting → Lower → Descent Token Selector
-take_selector m l = take_where (heads kind.Period) (take_turn (member_of false) (take_token (is kind.Period) ▸ take_token is_name)) (take_where (heads kind.QuestionPeriod) (take_turn (member_of true) (take_token (is kind.QuestionPeriod) ▸ take_token is_name)) (take_where (heads kind.OpenBracket) (take_turn (element_of false) (take_inside (is kind.OpenBracket) width past (l.expression setting.Plain))) (take_where (heads kind.QuestionBracket) (take_turn (element_of true) (take_inside (is kind.QuestionBracket) width past (l.expression setting.Plain))) (take_where (heads kind.Bang) (take_turn check_of (take_token (is kind.Bang))) (take_where (heads kind.OpenParenthesis) (take_turn plain_call_of (take_arguments l)) (take_turn generic_call_of (take_before (behind_call m) ((take_type_arguments l ▸ take_arguments l)))))))))
+take_selector m l = take_where (heads kind.Period) (take_turn (member_of false) (take_token (is kind.Period) ▸ take_token is_name)) (take_where (heads kind.QuestionPeriod) (take_turn (member_of true) (take_token (is kind.QuestionPeriod) ▸ take_token is_name)) (take_where (heads kind.OpenBracket) (take_turn (element_of false) (take_inside (is kind.OpenBracket) width past (l.expression setting.Plain))) (take_where (heads kind.QuestionBracket) (take_turn (element_of true) (take_inside (is kind.QuestionBracket) width past (l.expression setting.Plain))) (take_where (heads kind.Bang) (take_turn check_of (take_token (is kind.Bang))) (take_where (heads kind.OpenParenthesis) (take_turn plain_call_of (take_arguments l)) (take_where (heads_call m) (take_turn generic_call_of (take_type_arguments l ▸ take_arguments l)) (λ ts. None)))))))
 
 unfoldable pub take_selected : ℕ → Setting → Lower → Descent Token Tree
 take_selected n m l = take_chain every_time (fits n) select_with (take_primary m l) (take_selector m l)
@@ -161,7 +161,7 @@ take_right m l level.IfNull above = take_operated m l level.IfNull above
 take_right m l level.Or above = take_operated m l level.Or above
 take_right m l level.And above = take_operated m l level.And above
 take_right m l level.Equality above = take_operated m l level.Equality above
-take_right m l level.Relation above = take_where (heads_sign (is_binary level.Relation)) (take_operated m l level.Relation above) (take_where (heads kind.Is) (take_turn tested_of (take_token (is kind.Is) ▸ take_maybe (take_token (is kind.Bang)) ▸ l.tested m)) (take_turn cast_of (take_token (is kind.As) ▸ l.tested m)))
+take_right m l level.Relation above = take_where (heads_sign (is_binary level.Relation)) (take_where (heads_call m) (λ ts. None) (take_operated m l level.Relation above)) (take_where (heads kind.Is) (take_turn tested_of (take_token (is kind.Is) ▸ take_maybe (take_token (is kind.Bang)) ▸ l.tested m)) (take_turn cast_of (take_token (is kind.As) ▸ l.tested m)))
 take_right m l level.BitOr above = take_operated m l level.BitOr above
 take_right m l level.BitXor above = take_operated m l level.BitXor above
 take_right m l level.BitAnd above = take_operated m l level.BitAnd above
@@ -247,7 +247,7 @@ unfoldable pub take_condition : Lower → Descent Token Tree
 take_condition l = take_turn inner (take_inside (is kind.OpenParenthesis) width past (l.expression setting.Plain))
 
 unfoldable pub take_if : Lower → Descent Token Tree
-take_if l = take_make if_of (take_token (is kind.If) ▸ take_condition l ▸ l.statement ▸ take_maybe (take_token (is kind.Else) ▸ l.statement))
+take_if l = take_make if_of (take_chain one_time is_nearest with_else (take_turn without_else (take_token (is kind.If) ▸ take_condition l ▸ l.statement)) (take_token (is kind.Else) ▸ l.statement))
 
 unfoldable pub take_while : Lower → Descent Token Tree
 take_while l = take_make while_of (take_token (is kind.While) ▸ take_condition l ▸ l.statement)

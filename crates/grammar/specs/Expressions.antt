@@ -1,6 +1,7 @@
 -- Expressions.
 use Rattle.std.specs.Prelude.{ℕ, Bool, true, false, not, ◌&&◌, ◌||◌, List, [], ◌∷◌, ◌++◌, Option, Some, None, is_some, option_map}
-use Rattle.readings.specs.Readings.{Rule, Test, next, token, ◌▹◌, ◌∣◌, make, turn, maybe, many, chain, once, longest_of, where_next, prefer, before, inside, levels, elements}
+use Rattle.std.specs.Option.{option_map_or}
+use Rattle.readings.specs.Readings.{Rule, Test, next, token, ◌▹◌, ◌∣◌, make, turn, maybe, many, chain, once, longest_of, where_next, inside, levels, elements}
 use Rattle.dart_tokens.specs.declared.token.Kind.TheVariants as kind
 use Rattle.dart_tree.specs.Tree.{Tree, trees_of, part_of, integer_literal, string_literal, boolean_literal, null_literal, this_expression, super_expression, identifier, parenthesis, new_expression, list_literal, set_or_map_literal, function_expression, generic_identifier, property_access, index_expression, null_check, call, unary_expression, postfix_expression, binary_expression, type_test, type_cast, conditional, assignment, throw_expression, cascade, cascaded_name, cascaded_index, simple_string, interpolated_string, string_text, string_interpolation, map_entry, argument_list, argument, expression_body}
 use Rattle.dart_tree.specs.declared.names.Identifier.{Identifier}
@@ -17,6 +18,7 @@ use Rattle.grammar.specs.declared.level.Setting.TheVariants as setting
 use Rattle.dart_tree.specs.Heights.{fits}
 use Rattle.grammar.specs.Tokens.{is, is_either, is_name, heads, first_then, group_then, anything, width, past, span_of, place_over, place_of, identifier_at}
 use Rattle.grammar.specs.Operators.{table, sign_at, binary_rule, assignment_rule, prefix_rule, postfix_rule}
+use Rattle.grammar.specs.Outline.{behind_arguments}
 use Rattle.grammar.specs.Types.{Below, every_time, inner, behind_token, type_arguments_rule, parameter_list_rule}
 
 -- What comes next.
@@ -153,13 +155,17 @@ simple_rule = turn identifier_of (token is_name) ∣ turn this_of (token (is kin
 abbrev pub generic_of : List Token → Token × Tree → Tree
 generic_of read (name, arguments) = generic_identifier (place_over read) (identifier_at name) arguments
 
--- what a generic name is read before
+-- what a name with type arguments comes before
 abbrev pub heads_use : Test Token
 heads_use = next (is_either kind.OpenParenthesis kind.Period)
 
--- name: identifier type-arguments, exactly where these can be read and `(` or `.` comes next | identifier
+-- a name comes next whose `<` opens type arguments: they end before `(` or `.`
+unfoldable pub heads_generic : Test Token
+heads_generic = first_then is_name (λ ts. option_map_or heads_use (behind_arguments ts) false)
+
+-- name: identifier type-arguments, exactly where they come before `(` or `.` | identifier
 unfoldable pub name_rule : Below → Rule Token Tree
-name_rule d = prefer (make generic_of (before heads_use (longest_of (token is_name ▹ type_arguments_rule d)))) (turn identifier_of (token is_name))
+name_rule d = where_next heads_generic (make generic_of (token is_name ▹ type_arguments_rule d)) (turn identifier_of (token is_name))
 
 abbrev pub parenthesis_of : List Token → Token × Tree → Tree
 parenthesis_of read (opening, inner) = parenthesis (place_over read) inner
@@ -249,11 +255,15 @@ plain_call_of arguments = called None arguments
 abbrev pub generic_call_of : Tree × Tree → Selector
 generic_call_of (type_arguments, arguments) = called (Some type_arguments) arguments
 
--- what a call with type arguments is read before: in a list of expressions not before the body of a closure
+-- what a call with type arguments comes before: in a list of expressions not before the body of a closure
 abbrev pub behind_call : Setting → Test Token
 behind_call setting.Plain = anything
 behind_call setting.Listed = λ ts. not (heads_body setting.Plain ts)
 behind_call setting.Initializer = anything
+
+-- A call with type arguments comes next: a `<` opens them, and arguments stand behind them.
+unfoldable pub heads_call : Setting → Test Token
+heads_call m ts = option_map_or (group_then (is kind.OpenParenthesis) (behind_call m)) (behind_arguments ts) false
 
 -- selector: ('.' | '?.') identifier | ('[' | '?[') expression ']' | '!' | arguments | type-arguments arguments
 unfoldable pub selector_rule : Setting → Below → Rule Token Selector
@@ -261,7 +271,7 @@ selector_rule m d =
     turn (member_of false) (token (is kind.Period) ▹ token is_name) ∣ turn (member_of true) (token (is kind.QuestionPeriod) ▹ token is_name)
     ∣ turn (element_of false) (inside (is kind.OpenBracket) width past (d.expression setting.Plain))
     ∣ turn (element_of true) (inside (is kind.QuestionBracket) width past (d.expression setting.Plain)) ∣ turn check_of (token (is kind.Bang))
-    ∣ turn plain_call_of (arguments_rule d) ∣ turn generic_call_of (before (behind_call m) (longest_of (type_arguments_rule d ▹ arguments_rule d)))
+    ∣ turn plain_call_of (arguments_rule d) ∣ where_next (heads_call m) (turn generic_call_of (type_arguments_rule d ▹ arguments_rule d)) (λ ts. [])
 
 abbrev pub select_with : List Token → Tree → Selector → Tree
 select_with read left (member null_aware name) = property_access (place_over read) left null_aware name
@@ -316,7 +326,7 @@ choices_of (question, (then_value, (colon, else_value))) = choices then_value el
 unfoldable pub operated_rule : Setting → Below → Level → List Level → Rule Token Side
 operated_rule m d which above = turn operated_of (binary_rule which ▹ d.operand m above)
 
--- the right side of each level: an operator and an operand, 'is' '!'? type | 'as' type, or '?' expression ':' expression
+-- the right side of each level: an operator and an operand, 'is' '!'? type | 'as' type, or '?' expression ':' expression. A `<` that opens the type arguments of a call is no operator.
 unfoldable pub right_rule : Setting → Below → Level → List Level → Rule Token Side
 right_rule m d level.Conditional above = turn choices_of (token (is kind.Question) ▹ d.expression m ▹ token (is kind.Colon) ▹ d.expression m)
 right_rule m d level.IfNull above = operated_rule m d level.IfNull above
@@ -324,7 +334,7 @@ right_rule m d level.Or above = operated_rule m d level.Or above
 right_rule m d level.And above = operated_rule m d level.And above
 right_rule m d level.Equality above = operated_rule m d level.Equality above
 right_rule m d level.Relation above =
-    operated_rule m d level.Relation above ∣ turn tested_of (token (is kind.Is) ▹ maybe (token (is kind.Bang)) ▹ d.tested m)
+    where_next (heads_call m) (λ ts. []) (operated_rule m d level.Relation above) ∣ turn tested_of (token (is kind.Is) ▹ maybe (token (is kind.Bang)) ▹ d.tested m)
     ∣ turn cast_of (token (is kind.As) ▹ d.tested m)
 right_rule m d level.BitOr above = operated_rule m d level.BitOr above
 right_rule m d level.BitXor above = operated_rule m d level.BitXor above

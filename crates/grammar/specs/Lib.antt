@@ -1,6 +1,7 @@
 pub mod Tokens
 pub mod Types
 pub mod Operators
+pub mod Outline
 pub mod Expressions
 pub mod Statements
 pub mod Below

@@ -12,7 +12,7 @@ use Rattle.dart_tree.specs.declared.operators.BinaryOperatorKind.TheVariants.{Su
 use Rattle.dart_tree.specs.declared.operators.AssignmentOperator.{AssignmentOperator}
 use Rattle.dart_tree.specs.declared.names.Name.{Name}
 use Rattle.dart_tree.specs.declared.names.Identifier.{Identifier as NameIn}
-use Rattle.dart_tree.specs.Tree.{Tree, trees_of, absent, present, named_type, type_argument_list, identifier, integer_literal, binary_expression, assignment, type_test, conditional, function_expression, parameter_list, parameter, expression_body, generic_identifier, call, argument_list, argument, property_access, cascade, cascaded_name, block, expression_statement, if_statement, variable_statement, variable_list, variable, function_statement, plain_function, error_node, unit, function_declaration, void_type, class_declaration, constructor_declaration, field_initializer, empty_body, parenthesis}
+use Rattle.dart_tree.specs.Tree.{Tree, trees_of, absent, present, parenthesis, named_type, type_argument_list, identifier, integer_literal, binary_expression, assignment, type_test, conditional, function_expression, parameter_list, parameter, expression_body, generic_identifier, call, argument_list, argument, property_access, cascade, cascaded_name, block, expression_statement, if_statement, variable_statement, variable_list, variable, function_statement, plain_function, error_node, unit, function_declaration, void_type, class_declaration, constructor_declaration, field_initializer, empty_body, parenthesis}
 use Rattle.dart_tree.specs.declared.names.ParameterKind.TheVariants.{Positional}
 use Rattle.grammar.specs.declared.token.Token.{Token}
 use Rattle.grammar.specs.declared.level.Setting.TheVariants.{Plain}
@@ -117,6 +117,19 @@ generic_call =
     row (Identifier ∷ Less ∷ Identifier ∷ Greater ∷ OpenParenthesis ∷ Identifier ∷ CloseParenthesis ∷ [])
     (call (over 0 7) (generic_identifier (over 0 4) (part 0) (type_argument_list (over 1 4) (trees_of (type_name 2 ∷ [])))) absent (given 4 7 (name 5))) 7
 
+-- `a.b<c>(d)`: behind a member, too
+abbrev called_member : Row
+called_member =
+    row (Identifier ∷ Period ∷ Identifier ∷ Less ∷ Identifier ∷ Greater ∷ OpenParenthesis ∷ Identifier ∷ CloseParenthesis ∷ [])
+    (call (over 0 9) (property_access (over 0 3) (name 0) false (part 2)) (present (type_argument_list (over 3 6) (trees_of (type_name 4 ∷ [])))) (given 6 9 (name 7))) 9
+
+-- `a<b?c>(d):e`: no type arguments end before the `(`
+abbrev compared_choice : Row
+compared_choice =
+    row (Identifier ∷ Less ∷ Identifier ∷ Question ∷ Identifier ∷ Greater ∷ OpenParenthesis ∷ Identifier ∷ CloseParenthesis ∷ Colon ∷ Identifier ∷ [])
+    (conditional (over 0 11) (binary_expression (over 0 3) (operator LessThan 1 2) (name 0) (name 2))
+    (binary_expression (over 4 9) (operator GreaterThan 5 6) (name 4) (parenthesis (over 6 9) (name 7))) (name 10)) 11
+
 -- `a<b`: a comparison, where no type arguments can be read
 abbrev comparison : Row
 comparison = row (Identifier ∷ Less ∷ Identifier ∷ []) (binary_expression (over 0 3) (operator LessThan 1 2) (name 0) (name 2)) 3
@@ -166,7 +179,7 @@ two_arguments =
 
 -- how expressions are read
 abbrev pub expression_rows : List Row
-expression_rows = differences ∷ either_of ∷ generic_call ∷ comparison ∷ tested_choice ∷ tested_nullable ∷ closure ∷ cascades ∷ shifted ∷ two_arguments ∷ []
+expression_rows = differences ∷ either_of ∷ generic_call ∷ called_member ∷ compared_choice ∷ comparison ∷ tested_choice ∷ tested_nullable ∷ closure ∷ cascades ∷ shifted ∷ two_arguments ∷ []
 
 -- `if(a)if(b);else;`: the `else` belongs to the nearest `if`
 abbrev dangling_else : Row

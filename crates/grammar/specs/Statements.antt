@@ -1,13 +1,13 @@
 -- Statements, and what declarations among them share with others.
 use Rattle.std.specs.Prelude.{ℕ, zero, suc, ◌+◌, ◌-◌, Bool, true, false, not, ◌&&◌, List, [], ◌∷◌, length, map, drop, Option, Some, None, is_some, option_map, if◌then◌else◌}
-use Rattle.readings.specs.Readings.{Rule, token, ◌▹◌, ◌∣◌, make, turn, maybe, many, longest_of, where_next, prefer, exactly, before, only, inside, within, items}
+use Rattle.readings.specs.Readings.{Rule, token, ◌▹◌, ◌∣◌, make, turn, maybe, many, chain, longest_of, where_next, prefer, exactly, before, only, inside, within, items}
 use Rattle.dart_tokens.specs.declared.token.Kind.TheVariants as kind
-use Rattle.dart_tree.specs.Tree.{Tree, trees_of, part_of, plain_function, variable_list, variable, block, variable_statement, function_statement, expression_statement, if_statement, while_statement, do_statement, for_statement, for_in_statement, for_in_assignment, switch_statement, switch_case, try_statement, catch_clause, return_statement, break_statement, continue_statement, rethrow_statement, labeled_statement, listed_name, expression_body, error_node}
+use Rattle.dart_tree.specs.Tree.{Tree, trees_of, part_of, absent, present, plain_function, variable_list, variable, block, variable_statement, function_statement, expression_statement, if_statement, while_statement, do_statement, for_statement, for_in_statement, for_in_assignment, switch_statement, switch_case, try_statement, catch_clause, return_statement, break_statement, continue_statement, rethrow_statement, labeled_statement, listed_name, expression_body, error_node}
 use Rattle.grammar.specs.declared.token.Token.{Token}
 use Rattle.grammar.specs.declared.level.Setting.TheVariants as setting
 use Rattle.grammar.specs.Tokens.{is, is_either, is_name, heads, heads_name, width, past, place_over, place_of, name_at, identifier_at}
 use Rattle.grammar.specs.Types.{Below, separated_rule, behind_token, inner, listed_or_none, type_parameters_rule, parameter_list_rule}
-use Rattle.grammar.specs.Expressions.{heads_label, heads_closure}
+use Rattle.grammar.specs.Expressions.{heads_label, heads_closure, one_time}
 
 -- Segments of tokens from which nothing derives.
 
@@ -158,12 +158,40 @@ labeled_rule d = make labeled_of (token is_name ▹ token (is kind.Colon) ▹ d.
 unfoldable pub condition_rule : Below → Rule Token Tree
 condition_rule d = turn inner (inside (is kind.OpenParenthesis) width past (d.expression setting.Plain))
 
-abbrev pub if_of : List Token → Token × (Tree × (Tree × Option (Token × Tree))) → Tree
-if_of read (word, (condition, (branch, otherwise))) = if_statement (place_over read) condition branch (part_of (behind_token otherwise))
+-- a statement ends with an `if` that has no `else`
+abbrev pub ends_open : Tree → Bool
+ends_open (if_statement at condition then_branch absent) = true
+ends_open (if_statement at condition then_branch (present else_branch)) = ends_open else_branch
+ends_open (while_statement at condition body) = ends_open body
+ends_open (for_statement at initializer condition updates body) = ends_open body
+ends_open (for_in_statement at is_final written name iterable body) = ends_open body
+ends_open (for_in_assignment at name iterable body) = ends_open body
+ends_open (labeled_statement at label body) = ends_open body
+ends_open t = false
 
--- 'if' '(' expression ')' statement ('else' statement)?
+-- 'if', a condition and a branch, and the other branch, if there is one
+abbrev pub If : Type 0
+If = (Token × (Tree × Tree)) × Option Tree
+
+abbrev pub without_else : Token × (Tree × Tree) → If
+without_else x = (x, None)
+
+-- an `else` behind the branch doesn't go to an `if` in it
+abbrev pub is_nearest : If → Bool
+is_nearest ((word, (condition, branch)), otherwise) = not (ends_open branch)
+
+abbrev pub with_else : List Token → If → Token × Tree → If
+with_else read (x, _) (word, branch) = (x, Some branch)
+
+abbrev pub if_of : List Token → If → Tree
+if_of read ((word, (condition, branch)), otherwise) = if_statement (place_over read) condition branch (part_of otherwise)
+
+-- 'if' '(' expression ')' statement ('else' statement)?, where an `else` goes to the nearest `if` before it
 unfoldable pub if_rule : Below → Rule Token Tree
-if_rule d = make if_of (token (is kind.If) ▹ condition_rule d ▹ d.statement ▹ maybe (token (is kind.Else) ▹ d.statement))
+if_rule d =
+    make if_of
+    (chain one_time is_nearest with_else (longest_of (turn without_else (token (is kind.If) ▹ condition_rule d ▹ d.statement)))
+    (longest_of (token (is kind.Else) ▹ d.statement)))
 
 abbrev pub while_of : List Token → Token × (Tree × Tree) → Tree
 while_of read (word, (condition, body)) = while_statement (place_over read) condition body
