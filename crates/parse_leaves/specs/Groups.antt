@@ -1,5 +1,6 @@
 -- Groups, of which the brackets are found first and what stands in them is read then.
-use Rattle.std.proofs.Common.{◌≡◌, ℕ, ◌-◌, ◌<◌, Bool, true, false, take, drop, if◌then◌else◌, List, [], ◌∷◌, length, Option, Some, None, refl, sym, ap, ◌∙◌, arith}
+use Rattle.std.proofs.Common.{◌≡◌, ℕ, ◌-◌, ◌<◌, Bool, true, false, take, drop, if◌then◌else◌, List, [], ◌∷◌, length, Option, Some, None, nat_eq, refl, sym, ap, ◌∙◌, arith}
+use Rattle.std.proofs.lemmas.Bool.Decides.{nat_tests}
 use Rattle.std.specs.Option.{option_map}
 use Prim.Native.Nat.{min}
 use Rattle.std.proofs.lemmas.List.{length-drop, take_min}
@@ -73,3 +74,28 @@ nothing_at false f t ts = refl
 pub inside_nothing : {A B : Type 0} (opens : Token → Bool) (f : List Token → Token × A → B) (ts : List Token) → take_make f (take_inside opens width past (λ us. None)) ts ≡ None
 inside_nothing opens f [] = refl
 inside_nothing opens f (t ∷ ts) = nothing_at (opens t) (λ x. Some (made f (t ∷ ts) x)) t (drop (past t) ts)
+
+-- The same, of a bracket, what stands in it and what comes behind it that have been found.
+
+pub group_missing : {A : Type 0} (k : Kind) (g : Descent Token A) (ts us vs : List Token) (t : Token) → group k ts ≡ Some (t, (us, vs)) → g us ≡ None → take_inside (is k) width past g ts ≡ None
+group_missing k g ts us vs t e d = inside_missing k g ts (t, (us, vs)) e d
+
+pub group_cut : {A : Type 0} (k : Kind) (g : Descent Token A) (ts us vs left : List Token) (t : Token) (a : A) → group k ts ≡ Some (t, (us, vs)) → g us ≡ Some (a, left) → 0 < length left → take_inside (is k) width past g ts ≡ None
+group_cut k g ts us vs left t a e d some = inside_cut k g ts (t, (us, vs)) (a, left) e d some
+
+pub group_whole : {A : Type 0} (k : Kind) (g : Descent Token A) (ts us vs left : List Token) (t : Token) (a : A) → group k ts ≡ Some (t, (us, vs)) → g us ≡ Some (a, left) → length left ≡ 0 → take_inside (is k) width past g ts ≡ Some ((t, a), vs)
+group_whole k g ts us vs left t a e d none = inside_whole k g ts (t, (us, vs)) (a, left) e d none
+
+-- the same, as a test of what is left tells
+
+some_left : (n : ℕ) → nat_eq n 0 ≡ false → 0 < n
+some_left n e = grind (arith, nat_tests)
+
+none_left : (n : ℕ) → nat_eq n 0 ≡ true → n ≡ 0
+none_left n e = grind (arith, nat_tests)
+
+pub tested_cut : {A : Type 0} (k : Kind) (g : Descent Token A) (ts us vs left : List Token) (t : Token) (a : A) → group k ts ≡ Some (t, (us, vs)) → g us ≡ Some (a, left) → nat_eq (length left) 0 ≡ false → take_inside (is k) width past g ts ≡ None
+tested_cut k g ts us vs left t a e d test = group_cut k g ts us vs left t a e d (some_left (length left) test)
+
+pub tested_whole : {A : Type 0} (k : Kind) (g : Descent Token A) (ts us vs left : List Token) (t : Token) (a : A) → group k ts ≡ Some (t, (us, vs)) → g us ≡ Some (a, left) → nat_eq (length left) 0 ≡ true → take_inside (is k) width past g ts ≡ Some ((t, a), vs)
+tested_whole k g ts us vs left t a e d test = group_whole k g ts us vs left t a e d (none_left (length left) test)

@@ -1,5 +1,8 @@
+pub mod Angles
 pub mod Answers
+pub mod Commas
 pub mod Groups
+pub mod Grown
 pub mod LastLevels
 pub mod Loops
 pub mod Parts

@@ -3,7 +3,7 @@
 //!
 //! `leaves.rt` reads single tokens and groups, `operators.rt` operators, also those whose lexemes
 //! stand side by side, and `type_leaves.rt` the parts of types that hold no other node; `ahead.rt`
-//! has the tests of the tokens that come next, and `places.rt` where what was read stands. Each
+//! has the tests of the tokens that come next, `outline.rt` the one of type arguments, and `places.rt` where what was read stands. Each
 //! contract states that the answer is exactly what the way down of `grammar` finds or tests there
 //! (`specs/Answers.antt` says how answers and findings agree).
 //!
@@ -18,13 +18,14 @@ mod below;
 mod leaves;
 mod miss;
 mod operators;
+mod outline;
 mod parts;
 mod places;
 mod type_leaves;
 
 pub use ahead::{
-    behind_call, heads, heads_closure, heads_either, heads_field, heads_label, heads_name,
-    heads_nullable, heads_prefix, heads_qualified, heads_required, heads_string, heads_use,
+    heads, heads_closure, heads_either, heads_field, heads_label, heads_name, heads_nullable,
+    heads_prefix, heads_qualified, heads_required, heads_string,
 };
 pub use below::Below;
 pub use leaves::{
@@ -34,6 +35,7 @@ pub use miss::Miss;
 pub use operators::{
     assignment_operator, binary_operator, heads_binary, postfix_operator, prefix_operator, sign_at,
 };
+pub use outline::{heads_call, heads_generic};
 pub use parts::{Contents, Header, Selector, Side, Tail};
 pub use places::{higher, identifier_at, name_at, place_of, place_over, span_of, span_over};
 pub use type_leaves::{TypePlace, annotation, heads_end, question, type_name};
