@@ -1,0 +1,11 @@
+//! The parser of operands: strings, arguments, literals, closures and selectors, over whatever reads the parts of a node.
+#![tactic(auto)]
+
+mod arguments;
+mod primaries;
+mod selection;
+mod strings;
+
+pub use primaries::{block_body, simple_within};
+pub use selection::{selectors, unary_within};
+pub use strings::expression_group;
