@@ -1,0 +1,21 @@
+-- A value is assigned to the operand that has been read.
+use Rattle.std.proofs.Common.{◌≡◌, ◌≤◌, Some, arith}
+use Rattle.readings.specs.Readings.{tokens_read}
+use Rattle.grammar.specs.Expressions.{assign_of}
+use Rattle.grammar.specs.Descents.{lower, take_expression}
+use Rattle.parse_leaves.specs.Loops.{fits_deep}
+use Rattle.parse_leaves.specs.Ways.{expression_assigned}
+use Rattle.parse_operators.proofs.expressions.expression_behind.Goals as goal
+
+pub returns-in-Ok-clause-reading : goal.returns-in-Ok-clause-reading
+returns-in-Ok-clause-reading g c =
+    let less : c.args.reach ≤ g.B.Below.room c.args.below.now = omega (arith, c.room.ensures) in
+    let made : take_expression (g.B.Below.room c.args.below.now) c.args.setting (lower (g.B.Below.room c.args.below.now)) c.args.start.now ≡ Some (assign_of (tokens_read c.args.start.now c.in-Ok.after.now) c.args.first (c.in-Ok.operator, c.in-Ok.value), c.in-Ok.after.now) =
+    expression_assigned (g.B.Below.room c.args.below.now) c.args.setting (lower (g.B.Below.room c.args.below.now)) c.args.start.now (c.args.first, c.args.tokens.now) ((c.in-Ok.operator, c.in-Ok.value), c.in-Ok.after.now) c.requires.read
+    (fits_deep (g.B.Below.room c.args.below.now) c.args.first c.args.reach c.requires.known.0 less) c.in-Ok.ensures.reading in
+    rw made c.assignment.ensures.reading
+
+pub returns-in-Ok-clause-deep : goal.returns-in-Ok-clause-deep
+returns-in-Ok-clause-deep g c =
+    let less : c.args.reach ≤ g.B.Below.room c.args.below.now = omega (arith, c.room.ensures) in
+    c.assignment.ensures.deep (g.B.Below.room c.args.below.now) less c.in-Ok.ensures.deep.1
