@@ -3,3 +3,5 @@
 
 #[cfg(test)]
 mod packages;
+#[cfg(test)]
+mod stores;

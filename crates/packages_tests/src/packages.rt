@@ -1,5 +1,6 @@
 //! Packages files, one for each cause of a refusal.
 
+use load_files::Packages;
 use packages_file::{PackagesRefusal, read_packages};
 use std::alloc::Global;
 use std::test::Fail;
@@ -17,7 +18,9 @@ const ROWS: &str = r#"
 {"configVersion":2,"packages":{}}|-
 {"configVersion":2,"packages":[1]}|-
 {"configVersion":2,"packages":[{"rootUri":"../"}]}|-
+{"configVersion":2,"packages":[{"name":1,"rootUri":"../"}]}|-
 {"configVersion":2,"packages":[{"name":"p"}]}|-
+{"configVersion":2,"packages":[{"name":"p","rootUri":["../"]}]}|-
 {"configVersion":2,"packages":[{"name":"p","rootUri":"../","packageUri":null}]}|-
 {"configVersion":2,"packages":[{"name":"p","rootUri":"../"},{"name":"p","rootUri":"../q"}]}|-
 {"configVersion":2,"packages":[{"name":"p","rootUri":"../../.."}]}|-
@@ -27,17 +30,9 @@ const ROWS: &str = r#"
 {|-
 "#;
 
-/// The packages of a file, each as its name and its folder.
-fn shown(alloc: Global, bytes: &[u8]) -> Result<String, Fail> {
+/// Packages, each as its name and its folder.
+pub fn shown_packages(alloc: Global, packages: &Packages) -> Result<String, Fail> {
     let mut shown = String::new(alloc);
-    let packages = match read_packages(alloc, "/p/.dart_tool", bytes) {
-        Ok(packages) => packages.copy()?,
-        Err(PackagesRefusal::Refused) => {
-            shown.push_str("-")?;
-            return Ok(shown);
-        }
-        Err(refusal) => return Err(refusal.into()),
-    };
     for package in packages.as_slice() {
         if !shown.is_empty() {
             shown.push_str(" ")?;
@@ -47,6 +42,15 @@ fn shown(alloc: Global, bytes: &[u8]) -> Result<String, Fail> {
         shown.push_str(package.folder.as_str())?;
     }
     Ok(shown)
+}
+
+/// The packages of a file.
+fn shown(alloc: Global, bytes: &[u8]) -> Result<String, Fail> {
+    match read_packages(alloc, "/p/.dart_tool", bytes) {
+        Ok(packages) => shown_packages(alloc, &packages),
+        Err(PackagesRefusal::Refused) => Ok(String::from_str(alloc, "-")?),
+        Err(refusal) => Err(refusal.into()),
+    }
 }
 
 #[test]

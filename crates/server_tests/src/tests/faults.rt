@@ -23,6 +23,13 @@ const FAULTS: &str = r#"
  serve|read 8||ReadFault|{"id":"1"}¶
 -- Under `serve` the store isn't asked.
  serve|store 0||Done|{"id":"1"}¶{"id":"2","result":{"errors":[]}}¶
+-- Under `serve --packages` it is asked for the file once, before the input is read.
+ serve --packages /a.dart|store 0|{"configVersion":2,"packages":[]}|FilesFault|
+ serve --packages /a.dart|store 1|{"configVersion":2,"packages":[]}|Done|{"id":"1"}¶{"id":"2","result":{"errors":[]}}¶
+ serve --packages /a.dart|read 0|{"configVersion":2,"packages":[]}|ReadFault|
+ serve --packages /a.dart|read 0|{"configVersion":3,"packages":[]}|Refused|dart_serve: packages refused¶
+ serve --packages /a.dart|write 1||WriteFault|dart_ser
+-- So is it for a run.
  run /a.dart --steps 10|store 0|void main(){print(123456789);}|FilesFault|
 -- It is asked once, and the input isn't read.
  run /a.dart --steps 10|store 1|void main(){print(123456789);}|Done|123456789¶

@@ -96,24 +96,47 @@ add /a.dart void main(){} = done
 get /a.dart = clean
 add /0 x = limit"#;
 
-/// Whether a session has the replies of its lines.
-fn is_right(alloc: Global, block: &str) -> Result<bool, Fail> {
+// The same over the packages of a file, which is the store's only one: it is read first, in one call.
+const PACKAGE_SESSIONS: &str =
+    r#"store 1|/p.json|{"configVersion":2,"packages":[{"name":"p","rootUri":"."}]}
+-- The folder of a package is read where no path is included, too.
+roots  = failed
+roots  = done
+
+store 2|/p.json|{"configVersion":2,"packages":[{"name":"p","rootUri":"."}]}
+-- It is read behind what is included, which takes one call here.
+roots "/p.json" = failed
+roots "/p.json" = done
+again roots = done
+
+store 1|/p.json|{"configVersion":2,"packages":[]}
+-- Where there is no package nothing is read.
+roots  = done
+roots "/" = failed"#;
+
+/// Whether a session of the program with these words has the replies of its lines.
+fn is_right(alloc: Global, words: &str, block: &str) -> Result<bool, Fail> {
     let (head, requests) = block.split_once('\n').ok_or("no session")?;
     let (fails, file) = cell(head)?;
     let file = cell(file)?;
     let session = session_in(alloc, requests)?;
-    let run = Run {
-        words: " serve",
-        fails,
-        file,
-    };
+    let run = Run { words, fails, file };
     ends(alloc, run, session.input, "Done", &session.output)
 }
 
 #[test]
 fn roots_are_read(rt: HostRuntime) -> Result<(), Fail> {
     for session in SESSIONS.split("\n\n") {
-        assert!(rt; is_right(rt.alloc(), session)?, "{session}");
+        assert!(rt; is_right(rt.alloc(), " serve", session)?, "{session}");
+    }
+    Ok(())
+}
+
+#[test]
+fn folders_of_packages_are_read(rt: HostRuntime) -> Result<(), Fail> {
+    let words = " serve --packages /p.json";
+    for session in PACKAGE_SESSIONS.split("\n\n") {
+        assert!(rt; is_right(rt.alloc(), words, session)?, "{session}");
     }
     Ok(())
 }

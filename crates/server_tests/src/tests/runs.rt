@@ -54,13 +54,19 @@ void main(){print(1);}«4194283: »|9|Errors|/a.dart:1:1: profile_file_length: P
 ";
 
 // `WORDS|WHY`: words, each behind a blank, that run nothing where `/lib/a.txt` is the one file: what is
-// written is how the program is used, or that there is no such library.
+// written is how the program is used, that there is no such library, or that it is no packages file.
 const REFUSED: &str = "
 |usage
  --help|usage
  Serve|usage
  serve serve|usage
  serve /a.dart|usage
+ serve --packages|usage
+ serve --packages a.json|usage
+ serve --package /lib/a.txt|usage
+ serve /lib/a.txt --packages|usage
+ serve --packages /lib/a.txt 1|usage
+ run --packages /lib/a.txt|usage
  check /a.dart|usage
  run|usage
  run a.dart|usage
@@ -83,6 +89,11 @@ const REFUSED: &str = "
  run /|no library
  run /a.dart|no library
  run /lib/a.txt/b.dart --steps 1|no library
+-- They are, and there is no packages file of the name.
+ serve --packages /lib/a.txt|no packages
+ serve --packages /lib|no packages
+ serve --packages /|no packages
+ serve --packages /lib/b.json|no packages
 ";
 
 /// Whether the run of a text, as `/a.dart`, ends with this status and writes this.
@@ -148,6 +159,7 @@ fn refusal(why: &str) -> Result<&'static [u8], Fail> {
     match why {
         "usage" => Ok(b"usage: dart_serve serve|check FILE|run FILE|make N [options]\n"),
         "no library" => Ok(b"dart_serve: no such library\n"),
+        "no packages" => Ok(b"dart_serve: packages refused\n"),
         _ => Err("no reason to run nothing".into()),
     }
 }
