@@ -1,0 +1,73 @@
+-- What the loops over the tokens and the cases of a switch keep.
+use Rattle.std.proofs.Common.{◌≡◌, ℕ, zero, suc, ◌+◌, ◌-◌, ◌<◌, ◌≤◌, Bool, true, false, List, [], ◌∷◌, ◌++◌, length, map, drop, refl, sym, ap, ◌∙◌, arith}
+use Rattle.std.proofs.lemmas.List.{drop-drop}
+use Rattle.dart_tree.specs.Tree.{Tree, trees_of}
+use Rattle.dart_tree.specs.Heights.{higher, height, heights}
+use Rattle.grammar.specs.declared.token.Token.{Token}
+use Rattle.grammar.specs.Statements.{is_case, case_size_at, ends_with_default}
+use Rattle.parse_leaves.specs.Sizes.{higher_zero, zero_higher, higher_twice}
+
+-- Tokens before the next case. `all` is what is left behind them.
+
+-- no step is left
+pub sized_out : (all : List Token) (n : ℕ) (ts : List Token) → all ≡ drop (case_size_at n ts) ts → n ≡ 0 → all ≡ ts
+sized_out all zero ts so e = so
+sized_out all (suc n) ts so e = absurd (omega (arith, e))
+
+-- no token is left
+pub sized_end : (all : List Token) (n : ℕ) (ts : List Token) → all ≡ drop (case_size_at n ts) ts → length ts ≡ 0 → all ≡ ts
+sized_end all zero ts so e = so
+sized_end all (suc n) [] so e = so
+sized_end all (suc n) (t ∷ ts) so e = absurd (omega (arith, e))
+
+-- a case comes next
+pub sized_stop : (all : List Token) (n : ℕ) (t : Token) (ts : List Token) → all ≡ drop (case_size_at n (t ∷ ts)) (t ∷ ts) → is_case t ≡ true → all ≡ t ∷ ts
+sized_stop all zero t ts so e = so
+sized_stop all (suc n) t ts so e = so ∙ rw e refl
+
+-- a token and those behind it
+dropped_one : (m n : ℕ) (t : Token) (ts : List Token) → drop (suc m + n) (t ∷ ts) ≡ drop (m + n) ts
+dropped_one m n t ts = let e : suc m + n ≡ suc (m + n) = omega arith in ap (λ k. drop k (t ∷ ts)) e
+
+-- a token or group before it
+sized_step : (n : ℕ) (t : Token) (ts : List Token) → is_case t ≡ false → drop (case_size_at (suc n) (t ∷ ts)) (t ∷ ts) ≡ drop (case_size_at n (drop t.past ts)) (drop t.past ts)
+sized_step n t ts e =
+    let size : ℕ = case_size_at n (drop t.past ts) in
+    rw e (dropped_one t.past size t ts ∙ sym (drop-drop size t.past ts))
+
+pub sized_goes : (all : List Token) (n m : ℕ) (t : Token) (rest ts us : List Token) → all ≡ drop (case_size_at n rest) rest → 0 < n → rest ≡ t ∷ ts → is_case t ≡ false → us ≡ drop t.past ts → m ≡ n - 1 → all ≡ drop (case_size_at m us) us
+sized_goes all zero m t rest ts us so some is e at less = absurd (omega (arith, some))
+sized_goes all (suc n) m t rest ts us so some is e at less =
+    let same : suc n - 1 ≡ n = omega arith in
+    so ∙ ap (λ vs. drop (case_size_at (suc n) vs) vs) is ∙ sized_step n t ts e ∙ ap (λ vs. drop (case_size_at n vs) vs) (sym at) ∙ ap (λ k. drop (case_size_at k us) us) (sym (less ∙ same))
+
+-- Whether only the last case is the default.
+
+-- no case but the last is left
+pub default_few : (all : Bool) (cs : List (Tree × Bool)) → all ≡ ends_with_default cs → length cs ≤ 1 → all ≡ true
+default_few all [] so few = so
+default_few all (c ∷ []) so few = so
+default_few all (c ∷ (d ∷ cs)) so few = absurd (omega (arith, few))
+
+-- another case is the default
+pub default_early : (all : Bool) (c : Tree × Bool) (cs : List (Tree × Bool)) → all ≡ ends_with_default (c ∷ cs) → 0 < length cs → c.1 ≡ true → all ≡ false
+default_early all c [] so some e = absurd (omega (arith, some))
+default_early all c (d ∷ cs) so some e = so ∙ rw e refl
+
+-- this one isn't
+pub default_goes : (all : Bool) (c : Tree × Bool) (cs : List (Tree × Bool)) → all ≡ ends_with_default (c ∷ cs) → 0 < length cs → c.1 ≡ false → all ≡ ends_with_default cs
+default_goes all c [] so some e = absurd (omega (arith, some))
+default_goes all c (d ∷ cs) so some e = so ∙ rw e refl
+
+-- Heights of cases.
+
+-- one more case behind others
+pub cases_behind : (cs : List (Tree × Bool)) (c : Tree × Bool) → heights (trees_of (map (λ x. x.0) (cs ++ c ∷ []))) ≡ higher (heights (trees_of (map (λ x. x.0) cs))) (height c.0)
+cases_behind [] c = higher_zero (height c.0) ∙ sym (zero_higher (height c.0))
+cases_behind (d ∷ cs) c =
+    ap (higher (height d.0)) (cases_behind cs c) ∙ sym (higher_twice (height d.0) (heights (trees_of (map (λ x. x.0) cs))) (height c.0))
+
+-- heights of cases that have grown by one, of which each says too whether it is the default
+pub cases_grown : (h tall high : ℕ) (done new : List (Tree × Bool)) (c : Tree × Bool) → h ≡ heights (trees_of (map (λ x. x.0) done)) → tall ≡ height c.0 → new ≡ done ++ c ∷ [] → high ≡ higher h tall → high ≡ heights (trees_of (map (λ x. x.0) new))
+cases_grown h tall high done new c a b e d =
+    d ∙ ap (λ k. higher k tall) a ∙ ap (higher (heights (trees_of (map (λ x. x.0) done)))) b ∙ sym (cases_behind done c) ∙ ap (λ (cs : List (Tree × Bool)). heights (trees_of (map (λ x. x.0) cs))) (sym e)

@@ -1,0 +1,4 @@
+pub mod Cases
+pub mod Clauses
+pub mod Nearest
+pub mod Unread

@@ -1,0 +1,13 @@
+//! The parser of statements and blocks, over whatever reads the parts of a node.
+#![tactic(auto)]
+
+mod blocks;
+mod loops;
+mod statements;
+mod switches;
+mod tries;
+
+pub use blocks::{
+    block_within, declared, function_statement, some_name_type, variable_statement, variables,
+};
+pub use statements::statement_within;
