@@ -1,0 +1,13 @@
+use Rattle.std.proofs.Common.{nat_lt, rules}
+use Rattle.std.proofs.lemmas.List.Sorted.{IsPartitionPoint-from_clause}
+use Rattle.grammar.specs.declared.token.Token.{Token}
+use Rattle.parse_expr.proofs.Places.{parted}
+use Rattle.parse_expr.proofs.lists.starts_before.Goals as goal
+
+pub returns-clause-before : goal.returns-clause-before
+returns-clause-before c =
+    (IsPartitionPoint-from_clause (λ (t : Token). nat_lt t.start c.args.offset) c.args.tokens.now c.partition_point.result c.partition_point.ensures.partitioned (parted c.args.offset c.args.tokens.now c.requires.ordered) (λ a r f' called. (search rules, search rules))).0
+
+pub returns-clause-behind : goal.returns-clause-behind
+returns-clause-behind c =
+    (IsPartitionPoint-from_clause (λ (t : Token). nat_lt t.start c.args.offset) c.args.tokens.now c.partition_point.result c.partition_point.ensures.partitioned (parted c.args.offset c.args.tokens.now c.requires.ordered) (λ a r f' called. (search rules, search rules))).1

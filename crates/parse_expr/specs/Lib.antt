@@ -1,0 +1,3 @@
+pub mod Calls
+pub mod Items
+pub mod Parts
