@@ -1,7 +1,7 @@
 pub mod Found
-pub mod Items
 pub mod Levels
 pub mod Places
 pub mod Sections
+pub mod Segments
 pub mod Types
 pub mod WholeLists

@@ -14,7 +14,7 @@ mod part;
 mod reader;
 
 pub use calls::{parse_block, parse_expression, parse_parameters, parse_statement, parse_type};
-pub use lists::TextLists;
+pub use lists::{TextLists, behind_segment, starts_before, tokens_over};
 pub use node::part_at;
 pub use part::{Node, Part};
 pub use reader::Reader;

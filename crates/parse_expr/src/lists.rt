@@ -25,8 +25,8 @@ use unread_lists::{ReadsLists, read_stmts};
 
 /// What comes behind the segment that begins the tokens: it ends behind its first `;` or group of
 /// braces outside other groups.
-#[tactic(auto, using(crate::proofs::Items::ends_out, crate::proofs::Items::ends_empty, crate::proofs::Items::ends_semicolon, crate::proofs::Items::ends_braces, crate::proofs::Items::segment_goes))]
-fn behind_segment(tokens: &[Token]) -> &[Token]
+#[tactic(auto, using(crate::proofs::Segments::ends_out, crate::proofs::Segments::ends_empty, crate::proofs::Segments::ends_semicolon, crate::proofs::Segments::ends_braces, crate::proofs::Segments::segment_goes))]
+pub fn behind_segment(tokens: &[Token]) -> &[Token]
     ensures { result.now ≡ drop (suc (segment tokens.now)) tokens.now }
 {
     let mut rest = tokens;
@@ -75,7 +75,7 @@ pub(crate) fn statement_at<'k>(
 }
 
 /// The statement that comes next, or an error over the segment that does, and the tokens that are left.
-#[tactic(auto, using(crate::proofs::Items::item_missing))]
+#[tactic(auto, using(crate::specs::ItemLaws::item_missing))]
 fn item<'k>(
     alloc: Global,
     room: u32,
@@ -96,7 +96,7 @@ fn item<'k>(
 
 /// The statements of these tokens, where `room` nodes may lie on a way down from each, with an error
 /// wherever none can be read. Lists in them aren't read yet.
-#[tactic(auto, using(crate::proofs::Items::list_out, crate::proofs::Items::list_end, crate::proofs::Items::list_goes))]
+#[tactic(auto, using(crate::specs::ItemLaws::list_out, crate::specs::ItemLaws::list_end, crate::specs::ItemLaws::list_goes))]
 fn statements(alloc: Global, room: u32, tokens: &[Token]) -> Result<Vec<Stmt>, AllocError>
     requires limit { room ≤ 201 }
     ensures { IfOk result (λ list. list.items ≡ all_items ((lower room).statement) segment error_of tokens.now) }
@@ -117,7 +117,7 @@ fn statements(alloc: Global, room: u32, tokens: &[Token]) -> Result<Vec<Stmt>, A
 }
 
 /// How many of the tokens begin before an offset.
-fn starts_before(tokens: &[Token], offset: u32) -> usize
+pub fn starts_before(tokens: &[Token], offset: u32) -> usize
     requires ordered { IsNonDecreasingBy (λ t. t.start) tokens.now }
     ensures bound { result ≤ length tokens.now }
     ensures before { AllWithin (λ t. nat_lt t.start offset ≡ true) tokens.now 0 result }
@@ -128,7 +128,7 @@ fn starts_before(tokens: &[Token], offset: u32) -> usize
 
 /// The tokens of a text that stand at a place.
 #[tactic(auto, using(crate::proofs::Places::tokens_at, crate::proofs::Places::ordered_behind))]
-fn tokens_over<'k>(text: &'k [Token], at: &Place) -> &'k [Token]
+pub fn tokens_over<'k>(text: &'k [Token], at: &Place) -> &'k [Token]
     requires ordered { IsNonDecreasingBy (λ t. t.start) text.now }
     ensures { result.now ≡ tokens_at text.now at.now }
 {

@@ -111,7 +111,7 @@ fn argument_group<'k, B: Below<'k>>(
 
 /// Arguments with their parentheses.
 #[tactic(auto, unfolding(grammar::specs::Descents::take_arguments))]
-pub fn arguments<'k, B: Below<'k>>(
+pub fn argument_list<'k, B: Below<'k>>(
     below: &B,
     alloc: Global,
     tokens: &'k [Token],

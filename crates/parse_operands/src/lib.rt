@@ -6,6 +6,7 @@ mod primaries;
 mod selection;
 mod strings;
 
-pub use primaries::{block_body, simple_within};
+pub use arguments::argument_list;
+pub use primaries::{block_body, simple_within, some_dotted_name};
 pub use selection::{selectors, unary_within};
-pub use strings::expression_group;
+pub use strings::{expression_group, string};

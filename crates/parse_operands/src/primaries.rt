@@ -8,7 +8,7 @@ ghost use Rattle.grammar.specs.Expressions.{generic_of, arrow_of, integer_of, bo
 ghost use Rattle.grammar.specs.Descents.{lower, take_type_arguments, take_name, take_parenthesis, take_closure, take_new, take_simple, take_primary};
 ghost use Rattle.parse_leaves.specs.Answers.{Finds, Gives, IsDeep};
 
-use crate::arguments::{arguments, collection};
+use crate::arguments::{argument_list, collection};
 use crate::strings::{expression_group, strings};
 use dart_tokens::Kind;
 use dart_tree::{Body, BodyNode, Expr, ExprNode};
@@ -181,7 +181,7 @@ fn dotted_name(tokens: &[Token]) -> Option<(Token, Token, &[Token])>
 }
 
 /// A `.` and a name, if they come next.
-fn some_dotted_name(tokens: &[Token]) -> (Option<(Token, Token)>, &[Token])
+pub fn some_dotted_name(tokens: &[Token]) -> (Option<(Token, Token)>, &[Token])
     ensures { take_maybe (take_token (is Kind.Period) ▸ take_token is_name) tokens.now ≡ Some (result.0, result.1.now) }
 {
     match dotted_name(tokens) {
@@ -205,7 +205,7 @@ fn new_expression<'k, B: Below<'k>>(
     let (_, rest) = token(tokens, Kind::New).ok_or(Miss::NoReading)?;
     let (written, tall, rest) = below.constructed(alloc, rest)?;
     let (found, rest) = some_dotted_name(rest);
-    let (arguments, height, rest) = arguments(below, alloc, rest)?;
+    let (arguments, height, rest) = argument_list(below, alloc, rest)?;
     let at = place_over(tokens, rest);
     let name = found.map(|(_, word)| identifier_at(word));
     let node = ExprNode::New {

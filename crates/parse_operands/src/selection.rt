@@ -11,7 +11,7 @@ ghost use Rattle.parse_leaves.specs.declared.miss.Miss.TheVariants.{NoReading};
 ghost use Rattle.parse_leaves.specs.Answers.{Gives, IsDeep};
 ghost use Rattle.parse_leaves.specs.Parts.{selector_of, selector_height};
 
-use crate::arguments::arguments;
+use crate::arguments::argument_list;
 use crate::primaries::primary;
 use crate::strings::expression_group;
 use dart_tokens::Kind;
@@ -79,7 +79,7 @@ fn plain_call<'k, B: Below<'k>>(
     ensures reading { Gives (λ x. (selector_of x.0, x.2.now)) result (take_turn plain_call_of (take_arguments (lower (B.room below.now))) tokens.now) }
     ensures deep { IfOk result (λ x. (x.1 ≡ selector_height (selector_of x.0)) × (x.1 ≤ (B.room below.now))) }
 {
-    let (arguments, height, rest) = arguments(below, alloc, tokens)?;
+    let (arguments, height, rest) = argument_list(below, alloc, tokens)?;
     let selector = Selector::Called {
         type_arguments: None,
         arguments,
@@ -99,7 +99,7 @@ fn generic_call<'k, B: Below<'k>>(
     ensures deep { IfOk result (λ x. (x.1 ≡ selector_height (selector_of x.0)) × (x.1 ≤ (B.room below.now))) }
 {
     let (type_arguments, tall, rest) = type_arguments(below, alloc, tokens)?;
-    let (arguments, height, rest) = arguments(below, alloc, rest)?;
+    let (arguments, height, rest) = argument_list(below, alloc, rest)?;
     let selector = Selector::Called {
         type_arguments: Some(type_arguments),
         arguments,

@@ -211,7 +211,7 @@ fn ended_string(
 
 /// A string.
 #[tactic(auto, unfolding(grammar::specs::Descents::take_string))]
-fn string<'k, B: Below<'k>>(
+pub fn string<'k, B: Below<'k>>(
     below: &B,
     alloc: Global,
     tokens: &'k [Token],

@@ -1,11 +1,11 @@
 -- An `if`, whose `else` is read where it goes to no `if` in the branch before it.
-use Rattle.std.proofs.Common.{◌≡◌, Bool, true, false, not, if◌then◌else◌, List, Option, Some, None, option_map, refl, ap}
+use Rattle.std.proofs.Common.{◌≡◌, Bool, true, false, not, if◌then◌else◌, List, [], ◌∷◌, Option, Some, None, option_map, refl, ap}
 use Rattle.readings.specs.Readings.{Reading, tokens_read, made}
 use Rattle.readings.specs.Descent.{Descent, bind, or_else, take_given, take_token, take_turn, take_maybe, take_where, ◌▸◌}
 use Rattle.dart_tokens.specs.declared.token.Kind.TheVariants as kind
 use Rattle.dart_tree.specs.Tree.{Tree, part_of, if_statement}
 use Rattle.grammar.specs.declared.token.Token.{Token}
-use Rattle.grammar.specs.Tokens.{is, place_over}
+use Rattle.grammar.specs.Tokens.{is, heads, place_over}
 use Rattle.grammar.specs.Statements.{ends_open, with_else}
 use Rattle.grammar.specs.Descents.{Lower, take_condition, take_if}
 
@@ -24,3 +24,9 @@ pub nearest_read : (l : Lower) (ts us vs ws rest : List Token) (word : Token) (c
 unfolding take_if
 nearest_read l ts us vs ws rest word condition branch found e d c o =
     rw (e, d, c, other_behind (ends_open branch) ((take_token (is kind.Else) ▸ l.statement) ws) ts ws rest (word, (condition, branch)) found o) refl
+
+-- where no `else` comes next there is no other branch, whatever the branch before ends with
+pub no_else : (b : Bool) (l : Lower) (ts : List Token) → heads kind.Else ts ≡ false → take_where (λ us. b) (take_given None) (take_maybe (take_turn (λ x. x.1) (take_token (is kind.Else) ▸ l.statement))) ts ≡ Some (None, ts)
+no_else true l ts e = refl
+no_else false l [] e = refl
+no_else false l (t ∷ ts) e = rw e refl

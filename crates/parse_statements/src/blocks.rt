@@ -265,7 +265,7 @@ fn arrow_statement_body<'k, B: Below<'k>>(
 
 /// The body of a function among statements.
 #[tactic(auto, unfolding(grammar::specs::Descents::take_local_body))]
-fn local_body<'k, B: Below<'k>>(
+pub fn local_body<'k, B: Below<'k>>(
     below: &B,
     alloc: Global,
     tokens: &'k [Token],

@@ -8,6 +8,7 @@ mod switches;
 mod tries;
 
 pub use blocks::{
-    block_within, declared, function_statement, some_name_type, variable_statement, variables,
+    block_within, declared, function_statement, local_body, some_name_type, variable_statement,
+    variables,
 };
 pub use statements::statement_within;

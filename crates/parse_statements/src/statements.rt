@@ -198,6 +198,7 @@ fn ends_open(statement: &Stmt) -> bool
 }
 
 /// The statement behind an `else`, if one comes next and goes to the `if` of this branch.
+#[tactic(auto, using(crate::proofs::Nearest::no_else))]
 fn some_else_branch<'k, B: Below<'k>>(
     below: &B,
     alloc: Global,
@@ -212,7 +213,7 @@ fn some_else_branch<'k, B: Below<'k>>(
     ensures deep { IfOk result (λ x. IsPartDeep (B.room below.now) x.0 x.1) }
     ensures whole { result ≢ Err NoReading }
 {
-    if ends_open(branch) {
+    if !heads(tokens, Kind::Else) || ends_open(branch) {
         return Ok((None, 0, tokens));
     }
     match else_branch(below, alloc, tokens) {

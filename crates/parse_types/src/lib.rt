@@ -4,8 +4,8 @@
 mod parameters;
 mod types;
 
-pub use parameters::{parameter_list, some_initializer};
+pub use parameters::{annotations, parameter_list, some_initializer};
 pub use types::{
     listed_type_parameters, plain_type, some_type_arguments, some_type_parameters, type_arguments,
-    type_within,
+    type_list, type_within,
 };

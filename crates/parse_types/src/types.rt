@@ -26,7 +26,7 @@ use std::alloc::Global;
 
 /// Types with commas between them.
 #[tactic(auto, using(parse_leaves::specs::Loops::list_out, parse_leaves::specs::Loops::list_stop, parse_leaves::specs::Commas::comma_goes, parse_leaves::specs::Commas::comma_stop, parse_leaves::specs::Loops::continued_first, parse_leaves::specs::Sizes::heights_behind, parse_leaves::specs::Sizes::higher_within))]
-fn types<'k, B: Below<'k>>(
+pub fn type_list<'k, B: Below<'k>>(
     below: &B,
     alloc: Global,
     tokens: &'k [Token],
@@ -71,7 +71,7 @@ pub fn type_arguments<'k, B: Below<'k>>(
     ensures deep { IfOk result (λ x. IsDeep (B.room below.now) x.0 x.1) }
 {
     let (_, rest) = token(tokens, Kind::Less).ok_or(Miss::NoReading)?;
-    let (types, height, rest) = types(below, alloc, rest)?;
+    let (types, height, rest) = type_list(below, alloc, rest)?;
     let (_, rest) = token(rest, Kind::Greater).ok_or(Miss::NoReading)?;
     let at = place_over(tokens, rest);
     Ok((TypeArguments { at, types }, height, rest))

@@ -2,7 +2,7 @@
 use Rattle.std.proofs.Common.{rules, ◌≡◌, [], ◌∷◌, true, false}
 use Rattle.dart_tokens.specs.declared.token.Kind.TheVariants as kind
 use Rattle.grammar.specs.Tokens.{is}
-use Rattle.parse_expr.proofs.Items.{ends_empty, ends_semicolon, ends_braces}
+use Rattle.parse_expr.proofs.Segments.{ends_empty, ends_semicolon, ends_braces}
 use Rattle.parse_expr.proofs.lists.behind_segment.Goals as goal
 
 pub returns-then-eq : goal.returns-then-eq

@@ -3,7 +3,7 @@ use Rattle.std.proofs.Common.{rules, ◌≡◌, ◌-◌, ◌∷◌, refl}
 use Rattle.readings.specs.Descent.{all_items}
 use Rattle.grammar.specs.Statements.{segment, error_of}
 use Rattle.grammar.specs.Descents.{lower}
-use Rattle.parse_expr.proofs.Items.{list_goes}
+use Rattle.parse_expr.specs.ItemLaws.{list_goes}
 use Rattle.parse_expr.proofs.lists.statements.Goals as goal
 
 pub loop-more-preserved : goal.loop-more-preserved

@@ -6,7 +6,7 @@ use Rattle.grammar.specs.Tokens.{is}
 use Rattle.grammar.specs.Descents.{lower, take_separated}
 use Rattle.readings.specs.Descent.{take_token, take_at_most, ◌▸◌}
 use Rattle.parse_leaves.specs.Loops.{continued}
-use Rattle.parse_types.proofs.types.types.Given as goal
+use Rattle.parse_types.proofs.types.type_list.Given as goal
 
 abbrev pub invariant-loop-more : goal.invariant-loop-more
 invariant-loop-more g l = record {

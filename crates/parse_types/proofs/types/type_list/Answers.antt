@@ -6,7 +6,7 @@ use Rattle.grammar.specs.Descents.{lower, take_separated}
 use Rattle.readings.specs.Descent.{take_token}
 use Rattle.parse_leaves.specs.Commas.{comma_goes, comma_stop}
 use Rattle.parse_leaves.specs.Grown.{heights_grown, within_grown}
-use Rattle.parse_types.proofs.types.types.Goals as goal
+use Rattle.parse_types.proofs.types.type_list.Goals as goal
 
 pub loop-more-preserved : goal.loop-more-preserved
 loop-more-preserved g c = record {
