@@ -1,0 +1,4 @@
+pub mod Descents
+pub mod KindTests
+pub mod Outlines
+pub mod Ways
