@@ -1,0 +1,376 @@
+//! Members of classes and mixins.
+
+ghost use Rattle.std.specs.Prelude.{◌≡◌, ◌≤◌, IfOk};
+ghost use Rattle.readings.specs.Readings.{tokens_read};
+ghost use Rattle.readings.specs.Descent.{take_token, take_turn, take_inside, take_items, all_items, ◌▸◌, ◌⊘◌};
+ghost use Rattle.grammar.specs.Tokens.{is, width, past};
+ghost use Rattle.grammar.specs.Statements.{segment, error_of};
+ghost use Rattle.grammar.specs.Declarations.{begins_static, heads_static, behind_word, method_of, fields_of, member_with};
+ghost use Rattle.grammar.specs.Descents.{lower, take_variables};
+ghost use Rattle.grammar.specs.DeclarationDescents.{take_body, take_function, take_constructor, take_factory, take_operator_member, take_plain_member, take_static_member, take_member, take_members};
+ghost use Rattle.parse_leaves.specs.Answers.{Gives};
+ghost use Rattle.parse_expr.specs.Items.{item_of};
+ghost use Rattle.parse_members.specs.Parts.{member_form_of};
+
+use crate::constructors::{constructor, factory};
+use crate::functions::function;
+use crate::operators::operator_member;
+use crate::parts::{Bodies, MemberForm};
+use dart_tokens::Kind;
+use dart_tree::{Annotation, Member, MemberNode};
+use grammar::Token;
+use parse_expr::behind_segment;
+use parse_leaves::{Below, Miss, group, place_over, token};
+use parse_statements::variables;
+use parse_types::annotations;
+use std::alloc::{AllocError, Global};
+
+/// This token comes behind `static`, where that isn't a member's name.
+fn begins_static(token: Token) -> bool
+    ensures { result ≡ begins_static token }
+{
+    token.kind.is_identifier()
+        || token.kind == Kind::Final
+        || token.kind == Kind::Var
+        || token.kind == Kind::Void
+}
+
+/// `static` comes next, and isn't the member's name.
+fn heads_static(tokens: &[Token]) -> bool
+    ensures { result ≡ heads_static tokens.now }
+{
+    match tokens.split_first() {
+        Some((first, rest)) => {
+            first.kind == Kind::Static
+                && match rest.split_first() {
+                    Some((second, _)) => begins_static(*second),
+                    None => false,
+                }
+        }
+        None => false,
+    }
+}
+
+/// A function of a class.
+fn method<'k, B: Below<'k>>(
+    below: &B,
+    alloc: Global,
+    is_static: bool,
+    bodies: Bodies,
+    tokens: &'k [Token],
+) -> Result<(MemberForm, &'k [Token]), Miss>
+    requires limit { B.room below.now ≤ 200 }
+    requires sound { B.sound below.now }
+    ensures { Gives (λ x. (member_form_of x.0, x.1.now)) result
+        (take_turn (method_of is_static) (take_function (take_body bodies.in_core bodies.without_body (lower (B.room below.now))) (lower (B.room below.now))) tokens.now) }
+{
+    let (function, rest) = function(below, alloc, bodies, tokens)?;
+    Ok((
+        MemberForm::Method {
+            is_static,
+            function,
+        },
+        rest,
+    ))
+}
+
+/// Variables of a class.
+fn fields<'k, B: Below<'k>>(
+    below: &B,
+    alloc: Global,
+    is_static: bool,
+    tokens: &'k [Token],
+) -> Result<(MemberForm, &'k [Token]), Miss>
+    requires limit { B.room below.now ≤ 200 }
+    requires sound { B.sound below.now }
+    ensures { Gives (λ x. (member_form_of x.0, x.1.now)) result
+        (take_turn (fields_of is_static) (take_variables (lower (B.room below.now)) ▸ take_token (is Kind.Semicolon)) tokens.now) }
+{
+    let (variables, _, rest) = variables(below, alloc, tokens)?;
+    let (_, rest) = token(rest, Kind::Semicolon).ok_or(Miss::NoReading)?;
+    Ok((
+        MemberForm::Fields {
+            is_static,
+            variables,
+        },
+        rest,
+    ))
+}
+
+/// A function or variables of a class.
+#[tactic(auto, unfolding(grammar::specs::DeclarationDescents::take_plain_member))]
+fn plain_member<'k, B: Below<'k>>(
+    below: &B,
+    alloc: Global,
+    is_static: bool,
+    bodies: Bodies,
+    tokens: &'k [Token],
+) -> Result<(MemberForm, &'k [Token]), Miss>
+    requires limit { B.room below.now ≤ 200 }
+    requires sound { B.sound below.now }
+    ensures { Gives (λ x. (member_form_of x.0, x.1.now)) result (take_plain_member bodies.in_core is_static bodies.without_body (lower (B.room below.now)) tokens.now) }
+{
+    match method(below, alloc, is_static, bodies, tokens) {
+        Ok((found, rest)) => Ok((found, rest)),
+        Err(Miss::NoReading) => fields(below, alloc, is_static, tokens),
+        Err(Miss::Memory) => Err(Miss::Memory),
+    }
+}
+
+/// A function or variables of a class, `static` or not.
+#[tactic(auto, unfolding(grammar::specs::DeclarationDescents::take_static_member))]
+fn static_member<'k, B: Below<'k>>(
+    below: &B,
+    alloc: Global,
+    in_core: bool,
+    tokens: &'k [Token],
+) -> Result<(MemberForm, &'k [Token]), Miss>
+    requires limit { B.room below.now ≤ 200 }
+    requires sound { B.sound below.now }
+    ensures { Gives (λ x. (member_form_of x.0, x.1.now)) result (take_static_member in_core (lower (B.room below.now)) tokens.now) }
+{
+    if heads_static(tokens) {
+        let (_, rest) = token(tokens, Kind::Static).ok_or(Miss::NoReading)?;
+        let bodies = Bodies {
+            in_core,
+            without_body: false,
+        };
+        plain_member(below, alloc, true, bodies, rest)
+    } else {
+        let bodies = Bodies {
+            in_core,
+            without_body: true,
+        };
+        plain_member(below, alloc, false, bodies, tokens)
+    }
+}
+
+/// An operator of a class, or else a function or variables.
+fn member_without_constructors<'k, B: Below<'k>>(
+    below: &B,
+    alloc: Global,
+    in_core: bool,
+    tokens: &'k [Token],
+) -> Result<(MemberForm, &'k [Token]), Miss>
+    requires limit { B.room below.now ≤ 200 }
+    requires sound { B.sound below.now }
+    ensures { Gives (λ x. (member_form_of x.0, x.1.now)) result
+        ((take_operator_member in_core (lower (B.room below.now)) ⊘ take_static_member in_core (lower (B.room below.now))) tokens.now) }
+{
+    match operator_member(below, alloc, in_core, tokens) {
+        Ok((found, rest)) => Ok((found, rest)),
+        Err(Miss::NoReading) => static_member(below, alloc, in_core, tokens),
+        Err(Miss::Memory) => Err(Miss::Memory),
+    }
+}
+
+/// A factory, or else a member that is no constructor.
+fn member_without_name<'k, B: Below<'k>>(
+    below: &B,
+    alloc: Global,
+    in_core: bool,
+    class: Option<u32>,
+    tokens: &'k [Token],
+) -> Result<(MemberForm, &'k [Token]), Miss>
+    requires limit { B.room below.now ≤ 200 }
+    requires sound { B.sound below.now }
+    ensures { Gives (λ x. (member_form_of x.0, x.1.now)) result
+        ((take_factory in_core class (lower (B.room below.now)) ⊘ take_operator_member in_core (lower (B.room below.now))
+        ⊘ take_static_member in_core (lower (B.room below.now))) tokens.now) }
+{
+    match factory(below, alloc, in_core, class, tokens) {
+        Ok((found, rest)) => Ok((found, rest)),
+        Err(Miss::NoReading) => member_without_constructors(below, alloc, in_core, tokens),
+        Err(Miss::Memory) => Err(Miss::Memory),
+    }
+}
+
+/// A member without the annotations before it.
+fn member_form<'k, B: Below<'k>>(
+    below: &B,
+    alloc: Global,
+    in_core: bool,
+    class: Option<u32>,
+    tokens: &'k [Token],
+) -> Result<(MemberForm, &'k [Token]), Miss>
+    requires limit { B.room below.now ≤ 200 }
+    requires sound { B.sound below.now }
+    ensures { Gives (λ x. (member_form_of x.0, x.1.now)) result
+        ((take_constructor class (lower (B.room below.now)) ⊘ take_factory in_core class (lower (B.room below.now))
+        ⊘ take_operator_member in_core (lower (B.room below.now)) ⊘ take_static_member in_core (lower (B.room below.now))) tokens.now) }
+{
+    match constructor(below, alloc, class, tokens) {
+        Ok((found, rest)) => Ok((found, rest)),
+        Err(Miss::NoReading) => member_without_name(below, alloc, in_core, class, tokens),
+        Err(Miss::Memory) => Err(Miss::Memory),
+    }
+}
+
+/// A member that was read from `tokens`, where `rest` is left.
+fn member_with(
+    tokens: &[Token],
+    rest: &[Token],
+    metadata: Vec<Annotation>,
+    form: MemberForm,
+) -> Member
+    ensures { result ≡ member_with (tokens_read tokens.now rest.now) metadata.items (member_form_of form) }
+{
+    let at = place_over(tokens, rest);
+    let node = match form {
+        MemberForm::Constructor {
+            name,
+            parameters,
+            initializers,
+            body,
+        } => MemberNode::Constructor {
+            at,
+            metadata,
+            name,
+            parameters,
+            initializers,
+            body,
+        },
+        MemberForm::Factory {
+            name,
+            parameters,
+            body,
+        } => MemberNode::Factory {
+            at,
+            metadata,
+            name,
+            parameters,
+            body,
+        },
+        MemberForm::Method {
+            is_static,
+            function,
+        } => MemberNode::Method {
+            at,
+            metadata,
+            is_static,
+            function,
+        },
+        MemberForm::Fields {
+            is_static,
+            variables,
+        } => MemberNode::Fields {
+            at,
+            metadata,
+            is_static,
+            variables,
+        },
+        MemberForm::Operator {
+            result,
+            name,
+            parameters,
+            body,
+        } => MemberNode::Operator {
+            at,
+            metadata,
+            result,
+            name,
+            parameters,
+            body,
+        },
+    };
+    Member { node }
+}
+
+/// A member of a class whose constructors have this name, or of a mixin, which has none.
+#[tactic(auto, unfolding(grammar::specs::DeclarationDescents::take_member))]
+fn member<'k, B: Below<'k>>(
+    below: &B,
+    alloc: Global,
+    in_core: bool,
+    class: Option<u32>,
+    tokens: &'k [Token],
+) -> Result<(Member, &'k [Token]), Miss>
+    requires limit { B.room below.now ≤ 200 }
+    requires sound { B.sound below.now }
+    ensures { Gives (λ x. (x.0, x.1.now)) result (take_member in_core class (lower (B.room below.now)) tokens.now) }
+{
+    let (metadata, rest) = annotations(alloc, tokens)?;
+    let (form, rest) = member_form(below, alloc, in_core, class, rest)?;
+    Ok((member_with(tokens, rest, metadata, form), rest))
+}
+
+/// An error over the tokens before others.
+fn error(tokens: &[Token], after: &[Token]) -> Member
+    ensures { result ≡ error_of (tokens_read tokens.now after.now) }
+{
+    let node = MemberNode::Error {
+        at: place_over(tokens, after),
+    };
+    Member { node }
+}
+
+/// The member that comes next, or an error over the segment that does, and the tokens that are left.
+#[tactic(auto, using(parse_expr::specs::ItemLaws::item_missing))]
+fn member_item<'k, B: Below<'k>>(
+    below: &B,
+    alloc: Global,
+    in_core: bool,
+    class: Option<u32>,
+    tokens: &'k [Token],
+) -> Result<(Member, &'k [Token]), AllocError>
+    requires limit { B.room below.now ≤ 200 }
+    requires sound { B.sound below.now }
+    ensures { IfOk result (λ x. item_of (take_member in_core class (lower (B.room below.now))) tokens.now ≡ (x.0, x.1.now)) }
+{
+    match member(below, alloc, in_core, class, tokens) {
+        Ok((found, rest)) => Ok((found, rest)),
+        Err(Miss::NoReading) => {
+            let after = behind_segment(tokens);
+            Ok((error(tokens, after), after))
+        }
+        Err(Miss::Memory) => Err(AllocError),
+    }
+}
+
+/// The members of these tokens, with an error wherever none can be read.
+#[tactic(auto, using(parse_expr::specs::ItemLaws::list_out, parse_expr::specs::ItemLaws::list_end, parse_expr::specs::ItemLaws::list_goes))]
+fn member_items<'k, B: Below<'k>>(
+    below: &B,
+    alloc: Global,
+    in_core: bool,
+    class: Option<u32>,
+    tokens: &'k [Token],
+) -> Result<Vec<Member>, AllocError>
+    requires limit { B.room below.now ≤ 200 }
+    requires sound { B.sound below.now }
+    ensures { IfOk result (λ list. list.items ≡ all_items (take_member in_core class (lower (B.room below.now))) segment error_of tokens.now) }
+{
+    let mut list = Vec::new(alloc);
+    let mut rest = tokens;
+    let mut more = tokens.len();
+    while more > 0 {
+        let Some((_first, _behind)) = rest.split_first() else {
+            return Ok(list);
+        };
+        let (next, after) = member_item(below, alloc, in_core, class, rest)?;
+        list.push(next)?;
+        rest = after;
+        more -= 1;
+    }
+    Ok(list)
+}
+
+/// The braces of a class or a mixin, with the members between them.
+#[tactic(auto, using(parse_leaves::specs::Groups::inside_outside, parse_leaves::specs::Groups::inside_items))]
+pub fn member_list<'k, B: Below<'k>>(
+    below: &B,
+    alloc: Global,
+    in_core: bool,
+    class: Option<u32>,
+    tokens: &'k [Token],
+) -> Result<(Token, Vec<Member>, &'k [Token]), Miss>
+    requires limit { B.room below.now ≤ 200 }
+    requires sound { B.sound below.now }
+    ensures { Gives (λ x. ((x.0, x.1.items), x.2.now)) result (take_members in_core class (lower (B.room below.now)) tokens.now) }
+{
+    let Some((opening, inside, rest)) = group(tokens, Kind::OpenBrace) else {
+        return Err(Miss::NoReading);
+    };
+    let list = member_items(below, alloc, in_core, class, inside)?;
+    Ok((opening, list, rest))
+}
