@@ -1,0 +1,5 @@
+pub mod Around
+mod Examples
+pub mod Firsts
+pub mod Outsides
+pub mod Rows

@@ -1,0 +1,27 @@
+use Rattle.std.proofs.Common.{◌≡◌, ◌≤◌, ◌<◌, ℕ, List, length, ap, sym, ◌∙◌, arith}
+use Rattle.segment_faults.specs.Nesting.{groups_around}
+use Rattle.segment_faults.proofs.Around.{around-most, given_back, walked-next}
+use Rattle.segment_faults.proofs.depths.group_depths.Goals as goal
+
+pub depth_behind-depth-requires : goal.depth_behind-depth-requires
+depth_behind-depth-requires c =
+    let text = c.args.tokens.now in
+    let place = c.loop-place.place in
+    let is : c.loop-place.depth ≡ groups_around place text = c.loop-place.invariant.depth_is in
+    let most : groups_around place text ≤ place = around-most place text in
+    let below : place < length text = c.loop-place-test.true in
+    let few = c.requires.few in
+    omega (arith, is, most, below, few)
+
+pub loop-place-preserved : goal.loop-place-preserved
+loop-place-preserved c =
+    let text = c.args.tokens.now in
+    let place = c.loop-place.place in
+    let size : length c.loop-place.ends.items ≡ length text = c.loop-place.invariant.ends_are.size in
+    let new_size : length c.end_group.new.ends ≡ length text = c.end_group.ensures.size in
+    let value : c.deref_mut.result.now ≡ c.loop-place.ends.items = c.deref_mut.ensures.value in
+    let lent : length c.deref_mut.result.now ≡ c.loop-place.ends.len = c.deref_mut.ensures.len in
+    let len : length c.loop-place.ends.items ≡ c.loop-place.ends.len = ap (λ (xs : List ℕ). length xs) (sym value) ∙ lent in
+    let back = given_back c.end_group.new.ends c.loop-place.ends.items c.loop-place.ends.len (new_size ∙ sym size ∙ len) len in
+    walked-next text place _ c.loop-place.ends.items c.end_group.new.ends _ c.loop-place.depths.items _ c.loop-place.depth c.index.result.now c.depth_behind-depth.result c.loop-place-test.true
+    c.loop-place.invariant c.end_group.ensures back c.in_ok-push.ensures.items c.index.ensures c.depth_behind-depth.ensures

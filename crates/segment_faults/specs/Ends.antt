@@ -1,0 +1,14 @@
+-- Where groups end.
+use Rattle.std.specs.Prelude.{◌≡◌, ℕ, zero, suc, ◌+◌, ◌<◌, ◌==◌, List, [], ◌∷◌, length, take, get_or, if◌then◌else◌}
+use Rattle.grammar.specs.declared.token.Token.{Token}
+
+-- how many groups of some tokens end with the token at a place: those of the tokens before it of which it is the last one
+abbrev pub ending : (place : ℕ) → List Token → ℕ
+ending zero text = 0
+ending (suc between) [] = 0
+ending (suc between) (t ∷ ts) = (if t.width == suc between then 1 else 0) + ending between ts
+
+-- for each token of a text how many groups end with it, of those that the tokens before a place open
+pub record AreEnds (text : List Token) (place : ℕ) (ends : List ℕ) : Type 0 where
+  pub size : length ends ≡ length text
+  pub each : (last : ℕ) → last < length text → get_or ends last 0 ≡ ending last (take place text)
