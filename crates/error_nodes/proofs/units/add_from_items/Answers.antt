@@ -1,0 +1,6 @@
+use Rattle.std.proofs.Common.{arith}
+use Rattle.error_nodes.proofs.Sequences.{added_at_end}
+use Rattle.error_nodes.proofs.units.add_from_items.Goals as goal
+
+pub returns : goal.returns
+returns c = added_at_end _ _ _ _ c.loop-item.invariant (omega arith)
