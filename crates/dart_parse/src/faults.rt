@@ -1,0 +1,76 @@
+//! What is wrong with the tree of a unit.
+
+ghost use Rattle.std.specs.Prelude.{◌≡◌, ◌<◌, ◌^◌, length, map, IfOk};
+ghost use Rattle.std.specs.List.Sorted.{IsNonDecreasingBy};
+ghost use Rattle.dart_scan.specs.Scanned.{tokens_of};
+ghost use Rattle.grammar.specs.Tokens.{grammar_tokens};
+ghost use Rattle.segment_faults.specs.Nesting.{AreDepths};
+ghost use Rattle.dart_parse.specs.Faults.{fault_over, tree_faults};
+
+use crate::unit::read_tokens;
+use dart_text::Text;
+use dart_tokens::group;
+use dart_tree::{Place, Span, Unit};
+use error_nodes::error_nodes;
+use grammar::Token;
+use parse_expr::{starts_before, tokens_over};
+use segment_faults::{SegmentFault, group_depths, segment_fault};
+use std::alloc::{AllocError, Global};
+
+/// A segment of a text that derives nothing, and what is wrong with it.
+#[derive(Clone, Copy, Debug, PartialEq, Eq)]
+pub struct TreeFault {
+    /// The range from its first to its last token.
+    pub span: Span,
+    /// What is wrong with it.
+    pub fault: SegmentFault,
+}
+
+/// What is wrong with the segment over which an error stands.
+fn fault_over(text: &[Token], depths: &[u32], at: Place) -> TreeFault
+    requires ordered { IsNonDecreasingBy (λ t. t.start) text.now }
+    requires depths { AreDepths text.now depths.now }
+    ensures { result ≡ fault_over text.now at }
+{
+    let first = starts_before(text, at.span.start);
+    let count = tokens_over(text, &at).len();
+    TreeFault {
+        span: at.span,
+        fault: segment_fault(text, depths, first, count),
+    }
+}
+
+/// What is wrong with the segments over which errors stand.
+fn faults_over(
+    alloc: Global,
+    text: &[Token],
+    errors: &[Place],
+) -> Result<Vec<TreeFault>, AllocError>
+    requires few { length text.now < 2 ^ 32 }
+    requires ordered { IsNonDecreasingBy (λ t. t.start) text.now }
+    ensures { IfOk result (λ faults. faults.items ≡ map (fault_over text.now) errors.now) }
+{
+    let depths = group_depths(alloc, text)?;
+    let mut faults = Vec::new(alloc);
+    for at in errors {
+        faults.push(fault_over(text, &depths, *at))?;
+    }
+    Ok(faults)
+}
+
+/// What is wrong with the tree of the unit of a text: each segment that derives nothing, in the order of
+/// the text. The error is want of memory.
+pub fn tree_faults(alloc: Global, text: &Text, unit: &Unit) -> Result<Vec<TreeFault>, AllocError>
+    requires tokens { unit.now.tokens ≡ tokens_of text.now }
+    requires few { length unit.now.tokens < 2 ^ 32 }
+    ensures { IfOk result (λ faults. faults.items ≡ tree_faults (grammar_tokens (tokens_of text.now)) unit.now.tree) }
+{
+    let errors = error_nodes(alloc, &unit.tree)?;
+    if errors.is_empty() {
+        return Ok(Vec::new(alloc));
+    }
+    let tokens = unit.tokens.as_slice();
+    let groups = group(alloc, tokens)?;
+    let read = read_tokens(alloc, text, tokens, &groups)?;
+    faults_over(alloc, &read, &errors)
+}

@@ -1,0 +1,109 @@
+//! The unit of a text.
+
+ghost use Rattle.std.specs.Prelude.{◌≡◌, ◌^◌, ◌<◌, ◌≤◌, length, IfOk, OnOk, OnErr};
+ghost use Rattle.std.specs.List.Sorted.{IsNonDecreasingBy};
+ghost use Rattle.dart_tokens.specs.Groups.{partners_of, faults_of as faults_of_groups};
+ghost use Rattle.dart_scan.specs.Scanned.{tokens_of, words_of, faults_of};
+ghost use Rattle.grammar.specs.Tokens.{grammar_tokens};
+ghost use Rattle.dart_text.specs.Edits.{max_text};
+ghost use Rattle.dart_tree.specs.Numbers.{nodes_in, numbered};
+ghost use Rattle.grammar.specs.Whole.{unit_of};
+ghost use Rattle.work_counts.specs.Counts.{raised};
+ghost use Rattle.work_counts.specs.declared.kind.WorkKind.TheVariants.{Parse};
+
+use dart_scan::{scan, tokens_rise};
+use dart_text::Text;
+use dart_tokens::{Groups, Scanned, Token as TextToken, group};
+use dart_tree::{Unit, UnitTree, number_unit};
+use grammar::Token;
+use grouped_tokens::grouped;
+use node_counts::nodes_of_texts_are_bounded;
+use parse_decl::parse_items;
+use std::alloc::{AllocError, Global};
+use work_counts::{Work, WorkKind};
+
+/// The tokens that the grammar reads of a text stand in the order of their starts.
+fn order_law(text: &Text, tokens: &[Token])
+    requires { tokens.now ≡ grammar_tokens (tokens_of text.now) }
+    ensures { IsNonDecreasingBy (λ t. t.start) tokens.now }
+{
+    tokens_rise(text.as_str().as_bytes());
+}
+
+/// The tokens of a text, its words, and what is wrong with its parts: there are no more tokens than the
+/// text may have bytes.
+fn scanned(alloc: Global, text: &Text) -> Result<Scanned, AllocError>
+    ensures tokens { IfOk result (λ scanned. scanned.tokens ≡ tokens_of text.now) }
+    ensures words { IfOk result (λ scanned. scanned.words ≡ words_of text.now) }
+    ensures faults { IfOk result (λ scanned. scanned.faults ≡ faults_of text.now) }
+    ensures few { IfOk result (λ scanned. length scanned.tokens ≤ max_text) }
+{
+    let _short = text.as_str();
+    scan(alloc, text)
+}
+
+/// The tokens of a text as the grammar reads them, from its tokens and their groups: each with the size
+/// of the group that it opens. The error is want of memory.
+#[tactic(auto, using(crate::proofs::Order::read_few))]
+pub(crate) fn read_tokens(
+    alloc: Global,
+    text: &Text,
+    tokens: &[TextToken],
+    groups: &Groups,
+) -> Result<Vec<Token>, AllocError>
+    requires few { length tokens.now < 2 ^ 32 }
+    requires text { tokens.now ≡ tokens_of text.now }
+    requires groups { groups.now.partner ≡ partners_of tokens.now }
+    ensures read { IfOk result (λ read. read.items ≡ grammar_tokens (tokens_of text.now)) }
+    ensures few { IfOk result (λ read. length read.items < 2 ^ 32) }
+    ensures ordered { IfOk result (λ read. IsNonDecreasingBy (λ t. t.start) read.items) }
+{
+    let read = grouped(alloc, tokens, groups)?;
+    order_law(text, &read);
+    Ok(read)
+}
+
+/// The tree of a text has fewer nodes than there are numbers for them.
+fn few_nodes(text: &Text, in_core: bool, tokens: &[TextToken], tree: &UnitTree)
+    requires tokens { tokens.now ≡ tokens_of text.now }
+    requires few { length tokens.now ≤ max_text }
+    requires tree { tree.now ≡ unit_of in_core (grammar_tokens (tokens_of text.now)) }
+    ensures { nodes_in tree.now < 2 ^ 32 }
+{
+    tokens_rise(text.as_str().as_bytes());
+    nodes_of_texts_are_bounded();
+}
+
+/// The unit of a text: its tree, with an error over each segment that derives nothing, and what the tree
+/// leaves out. Nodes are numbered in reading order, from 0. `in_core` is true for the text of `dart:core` alone, where a body may be `native;`. It
+/// counts as one text parsed. The error is want of memory, and counts as nothing.
+pub fn parse_unit(
+    alloc: Global,
+    text: &Text,
+    in_core: bool,
+    work: &mut Work,
+) -> Result<Unit, AllocError>
+    ensures tree { IfOk result (λ unit. unit.tree ≡ numbered 0 (unit_of in_core (grammar_tokens (tokens_of text.now)))) }
+    ensures tokens { IfOk result (λ unit. unit.tokens ≡ tokens_of text.now) }
+    ensures few { IfOk result (λ unit. length unit.tokens < 2 ^ 32) }
+    ensures words { IfOk result (λ unit. unit.words ≡ words_of text.now) }
+    ensures lexical { IfOk result (λ unit. unit.lexical_faults ≡ faults_of text.now) }
+    ensures groups { IfOk result (λ unit. unit.group_faults ≡ faults_of_groups (tokens_of text.now)) }
+    ensures counted { OnOk result (work.new ≡ raised Parse work.old) }
+    ensures uncounted { OnErr result (work.new ≡ work.old) }
+{
+    let scanned = scanned(alloc, text)?;
+    let groups = group(alloc, scanned.tokens.as_slice())?;
+    let read = read_tokens(alloc, text, scanned.tokens.as_slice(), &groups)?;
+    let mut tree = parse_items(alloc, in_core, &read)?;
+    few_nodes(text, in_core, scanned.tokens.as_slice(), &tree);
+    number_unit(&mut tree);
+    work.raise(WorkKind::Parse);
+    Ok(Unit {
+        tree,
+        tokens: scanned.tokens,
+        words: scanned.words,
+        lexical_faults: scanned.faults,
+        group_faults: groups.faults,
+    })
+}
