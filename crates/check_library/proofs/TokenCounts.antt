@@ -9,7 +9,7 @@ use Rattle.dart_tokens.proofs.LawLemmas.{opens-closes}
 use Rattle.dart_tokens.proofs.OpenLemmas.{is_some-behind_closed}
 use Rattle.dart_scan.specs.Pieces.{Spelled, pieces}
 use Rattle.dart_scan.specs.Scanned.{Lexeme, is_gap, lexemes, lexemes_from, tokens_behind, tokens_of, words_of, with_word}
-use Rattle.dart_scan.proofs.StepLemmas.{pieces-cover, pieces-some}
+use Rattle.dart_scan.specs.StepLemmas.{pieces-cover, pieces-some}
 use Rattle.check_library.specs.declared.token.Token.{Token}
 use Rattle.check_library.specs.Tokens.{token_of, closing_at, closings_since, read_as, read_for, end_for, tokens_from, grammar_tokens}
 

@@ -19,9 +19,9 @@ use Rattle.dart_scan.specs.Openings.{shape}
 use Rattle.dart_scan.specs.Endings.{Names, NoneBegins}
 use Rattle.dart_scan.specs.Suspended.{Suspended, resumed, resumed_within}
 use Rattle.dart_scan.specs.Cutting.{Cut, rest_of, size_of, Ends, suspended, all_suspended, to_come_within, to_come, Lies, Nested, Stands, Sound, steps_left, Steps, IsDone, added, continued, passed, entered, abandoned, closed, with_part, interpolated, named}
-use Rattle.dart_scan.proofs.FormLemmas.{begins-split, Opens, opens, Reaches, reaches}
-use Rattle.dart_scan.proofs.StepLemmas.{opening-some, named-parts}
-use Rattle.dart_scan.proofs.ResumeLemmas.{braced, ends_interpolation, piece-step, string-step, closing-step, ending-step, quotes-step, opening-step, name-step, never-step}
+use Rattle.dart_scan.specs.FormLemmas.{begins-split, Opens, opens, Reaches, reaches}
+use Rattle.dart_scan.specs.StepLemmas.{opening-some, named-parts}
+use Rattle.dart_scan.specs.ResumeLemmas.{braced, ends_interpolation, piece-step, string-step, closing-step, ending-step, quotes-step, opening-step, name-step, never-step}
 use Rattle.dart_scan.proofs.RangeLemmas.{range-length, range-drop, range-take, range-join, range-none, front-is, spelled-push}
 use Rattle.dart_scan.proofs.GrowthLemmas.{same-front, all-same, nested-same, nested-within, Counted, Grows, grows-added, grows-twice, grows-part, part-at, part-text, part-end, part-line}
 

@@ -20,8 +20,8 @@ use Rattle.dart_scan.specs.declared.cut.ending.Ending.TheVariants.{Quotes, Expre
 use Rattle.dart_scan.specs.Endings.{Escapes, IsNever, IsEnding}
 use Rattle.dart_scan.specs.Suspended.{resumed}
 use Rattle.dart_scan.specs.Cutting.{Cut, rest_of, Ends, all_suspended, to_come, Nested, Sound, Steps, IsDone, IsCode, added, continued, abandoned, closed, interpolated, named, fresh}
-use Rattle.dart_scan.proofs.FormLemmas.{begins-split}
-use Rattle.dart_scan.proofs.StepLemmas.{pieces-enough}
+use Rattle.dart_scan.specs.FormLemmas.{begins-split}
+use Rattle.dart_scan.specs.StepLemmas.{pieces-enough}
 use Rattle.dart_scan.proofs.RangeLemmas.{range-last}
 use Rattle.dart_scan.proofs.LineLemmas.{line-reach}
 use Rattle.dart_scan.proofs.GrowthLemmas.{Grows, grows-added}

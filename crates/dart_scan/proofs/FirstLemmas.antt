@@ -9,7 +9,7 @@ use Rattle.std.proofs.lemmas.List.Sums.{take_while-cons}
 use Rattle.std.proofs.Math.Logic.{⊎_elim}
 use Rattle.dart_tokens.specs.declared.token.Kind.{Kind}
 use Rattle.dart_tokens.specs.Marks.{marks, first_mark}
-use Rattle.dart_tokens.proofs.MarkLemmas.{found_among}
+use Rattle.dart_tokens.specs.MarkLemmas.{found_among}
 use Rattle.dart_scan.specs.declared.piece.Piece.{Piece}
 use Rattle.dart_scan.specs.declared.piece.Class.{Class}
 use Rattle.dart_scan.specs.declared.piece.Class.TheVariants.{Gap, UnterminatedComment, IllegalCharacter, BeyondAscii, Word, Integer, Double, Mark}
@@ -20,11 +20,11 @@ use Rattle.dart_scan.specs.Strings.{string_form}
 use Rattle.dart_scan.specs.Pieces.{Spelled, Read, read_piece, pieces_within, next_at, piece_at, comment_piece, lexeme_at, longer}
 use Rattle.dart_scan.specs.Suspended.{enough, pieces_behind}
 use Rattle.dart_scan.specs.LexemeClasses.{is_exponent_letter, is_sign, IsExponent, unsigned, signed, IsLexeme, word, decimal, hexadecimal, upper_hexadecimal, fraction, fraction_exponent, whole_exponent, mark, IsFirstPiece, lexeme, white_space, line_comment, block_comment, endless_comment, beyond_ascii, no_lexeme}
-use Rattle.dart_scan.proofs.FormLemmas.{begins-split, front-split, append-nothing}
+use Rattle.dart_scan.specs.FormLemmas.{begins-split, front-split, append-nothing}
 use Rattle.dart_scan.proofs.CommentLaws.{sound, comment-size}
-use Rattle.dart_scan.proofs.DoubleLemmas.{whole_size, with-fraction, with-exponent}
-use Rattle.dart_scan.proofs.LongestLemmas.{AtMost, lexeme-front, none-begins}
-use Rattle.dart_scan.proofs.ResumeLemmas.{behind-step}
+use Rattle.dart_scan.specs.DoubleLemmas.{whole_size, with-fraction, with-exponent}
+use Rattle.dart_scan.specs.LongestLemmas.{AtMost, lexeme-front, none-begins}
+use Rattle.dart_scan.specs.ResumeLemmas.{behind-step}
 
 -- Runs of bytes of a class.
 

@@ -12,7 +12,7 @@ use Rattle.dart_scan.specs.declared.piece.Piece.{Piece}
 use Rattle.dart_scan.specs.Pieces.{Spelled, spelled, pieces as pieces_of}
 use Rattle.dart_scan.specs.Faults.{faults_of_piece}
 use Rattle.dart_scan.specs.Scanned.{Lexeme, is_gap, lexemes_from, with_word, words_behind, token_of, tokens_behind, faults_from, tokens_of, words_of, faults_of}
-use Rattle.dart_scan.proofs.StringTexts.{AreTexts, pieces-texts}
+use Rattle.dart_scan.specs.StringTexts.{AreTexts, pieces-texts}
 
 -- the pieces from a place on, spelled
 abbrev pub ahead : List Piece → (at : ℕ) → List ℕ → List Spelled

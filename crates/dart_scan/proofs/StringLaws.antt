@@ -9,8 +9,8 @@ use Rattle.dart_scan.specs.declared.piece.Class.TheVariants.{UnterminatedString}
 use Rattle.dart_scan.specs.Characters.{is_within_line}
 use Rattle.dart_scan.specs.Strings.{Form, opening_of, string_form, within_reach}
 use Rattle.dart_scan.specs.Pieces.{Read, read_piece, string_at, next_at, within_steps}
-use Rattle.dart_scan.proofs.FormLemmas.{opens, reaches}
-use Rattle.dart_scan.proofs.StepLemmas.{bytes_of, Fair, fair}
+use Rattle.dart_scan.specs.FormLemmas.{opens, reaches}
+use Rattle.dart_scan.specs.StepLemmas.{bytes_of, Fair, fair}
 
 -- a string of one quote stands in one line
 

@@ -13,8 +13,8 @@ use Rattle.dart_tokens.specs.declared.token.Token.{Token}
 use Rattle.dart_scan.specs.Pieces.{Spelled, pieces}
 use Rattle.dart_scan.specs.Scanned.{Lexeme, is_gap, lexemes_from, with_word, words_behind, token_of, tokens_behind, tokens_of, words_of}
 use Rattle.dart_scan.specs.TokenPlaces.{IsPart}
-use Rattle.dart_scan.proofs.StepLemmas.{bytes_of, pieces-cover, pieces-some, IsSome}
-use Rattle.dart_scan.proofs.StringTexts.{AreTexts, pieces-texts}
+use Rattle.dart_scan.specs.StepLemmas.{bytes_of, pieces-cover, pieces-some, IsSome}
+use Rattle.dart_scan.specs.StringTexts.{AreTexts, pieces-texts}
 
 -- Words and their places.
 

@@ -15,3 +15,15 @@ pub mod Decoding
 pub mod Escapes
 pub mod TokenPlaces
 pub mod LexemeClasses
+pub mod DoubleLemmas
+pub mod FormLemmas
+pub mod LawLemmas
+pub mod LongestLemmas
+pub mod PieceLemmas
+pub mod PieceTexts
+pub mod PlainLemmas
+pub mod ResumeLemmas
+pub mod StepLemmas
+pub mod StringGrammar
+pub mod StringTexts
+pub mod Utf8Lemmas

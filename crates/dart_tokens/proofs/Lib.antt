@@ -6,6 +6,5 @@ pub mod PartnerLemmas
 pub mod FaultLemmas
 pub mod LawLemmas
 pub mod WordLemmas
-pub mod MarkLemmas
 pub mod FaultLaws
 pub mod NearestLaws

@@ -7,3 +7,4 @@ pub mod Pairing
 pub mod Faults
 pub mod Rows
 pub mod Pairs
+pub mod MarkLemmas

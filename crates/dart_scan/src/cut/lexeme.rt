@@ -146,7 +146,7 @@ fn line_comment(text: &[u8]) -> Piece
 
 /// The first piece of a text that isn't empty and begins with no string. A byte order mark that stands
 /// first of all isn't looked for.
-#[tactic(auto, using(crate::proofs::PieceLemmas::piece_least))]
+#[tactic(auto, using(crate::specs::PieceLemmas::piece_least))]
 pub fn piece_at(text: &[u8]) -> Piece
     requires { 0 < length text.now }
     ensures piece { result ≡ piece_at false text.now }

@@ -1,7 +1,7 @@
 use Rattle.std.proofs.Common.{sym, ap, ◌∙◌, take}
 use Rattle.dart_scan.specs.Characters.{is_hexadecimal_digit}
 use Rattle.dart_scan.proofs.EscapeLemmas.{all_digits}
-use Rattle.dart_scan.proofs.Utf8Lemmas.{take_run}
+use Rattle.dart_scan.specs.Utf8Lemmas.{take_run}
 use Rattle.dart_scan.proofs.escape.hexadecimal_digits.Goals as goal
 
 pub returns-clause-digits : goal.returns-clause-digits

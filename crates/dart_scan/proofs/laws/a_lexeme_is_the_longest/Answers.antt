@@ -1,4 +1,4 @@
-use Rattle.dart_scan.proofs.LawLemmas.{word-longest, integer-longest, double-longest, mark-longest, mark-of-marks}
+use Rattle.dart_scan.specs.LawLemmas.{word-longest, integer-longest, double-longest, mark-longest, mark-of-marks}
 use Rattle.dart_scan.proofs.laws.a_lexeme_is_the_longest.Goals as goal
 
 pub returns : goal.returns

@@ -1,4 +1,4 @@
-use Rattle.dart_scan.proofs.LongestLemmas.{longest}
+use Rattle.dart_scan.specs.LongestLemmas.{longest}
 use Rattle.dart_scan.proofs.laws.a_piece_is_the_longest_lexeme.Goals as goal
 
 pub returns : goal.returns

@@ -1,4 +1,4 @@
-use Rattle.dart_scan.proofs.StringGrammar.{whole_is_read, whole_or_never}
+use Rattle.dart_scan.specs.StringGrammar.{whole_is_read, whole_or_never}
 use Rattle.dart_scan.proofs.laws.a_string_is_whole_or_one_piece.Goals as goal
 
 pub returns : goal.returns

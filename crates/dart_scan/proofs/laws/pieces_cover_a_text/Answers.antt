@@ -1,6 +1,6 @@
 use Rattle.std.proofs.Common.{◌≤◌, length, arith}
 use Rattle.dart_scan.specs.Pieces.{pieces}
-use Rattle.dart_scan.proofs.StepLemmas.{pieces-cover, pieces-some}
+use Rattle.dart_scan.specs.StepLemmas.{pieces-cover, pieces-some}
 use Rattle.dart_scan.proofs.laws.pieces_cover_a_text.Goals as goal
 
 pub returns : goal.returns

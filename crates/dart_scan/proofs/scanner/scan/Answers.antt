@@ -10,7 +10,7 @@ use Rattle.dart_tokens.specs.declared.scanned.LexFault.{LexFault}
 use Rattle.dart_scan.specs.declared.piece.Class.TheVariants.{Gap}
 use Rattle.dart_scan.specs.declared.piece.Piece.{Piece}
 use Rattle.dart_scan.specs.Pieces.{pieces}
-use Rattle.dart_scan.proofs.StringTexts.{AreTexts}
+use Rattle.dart_scan.specs.StringTexts.{AreTexts}
 use Rattle.dart_scan.proofs.ScanLemmas.{ahead, Turn, ahead-begin, tokens-begin, words-begin, faults-begin, texts-begin, next_boundary, texts-next, size-next, tokens-turn, words-turn, faults-turn, tokens-end, words-end, faults-end}
 use Rattle.dart_scan.proofs.scanner.scan.Goals as goal
 

@@ -2,7 +2,7 @@ use Rattle.std.proofs.Common.{◌≡◌, ◌+◌, ◌*◌, ◌≤◌, ◌++◌, 
 use Rattle.std.specs.List.{sum_by}
 use Rattle.std.specs.Str.{IsUtf8}
 use Rattle.dart_scan.specs.Scanned.{tokens_behind, words_behind, tokens_of, words_of, faults_of}
-use Rattle.dart_scan.proofs.StringTexts.{AreTexts}
+use Rattle.dart_scan.specs.StringTexts.{AreTexts}
 use Rattle.dart_scan.proofs.ScanLemmas.{ahead, lexemes_ahead, faults_ahead}
 use Rattle.dart_scan.proofs.scanner.scan.Given as goal
 

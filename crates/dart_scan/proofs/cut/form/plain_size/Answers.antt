@@ -2,7 +2,7 @@ use Rattle.std.proofs.Common.{◌≤◌, length, drop, arith, sym, ap, ◌∙◌
 use Rattle.std.proofs.lemmas.List.{take_rest}
 use Rattle.dart_scan.specs.Strings.{form_of, ends_piece}
 use Rattle.dart_scan.specs.Openings.{taken}
-use Rattle.dart_scan.proofs.PlainLemmas.{plain_ends, plain_goes_on, plain_at_the_end}
+use Rattle.dart_scan.specs.PlainLemmas.{plain_ends, plain_goes_on, plain_at_the_end}
 use Rattle.dart_scan.proofs.cut.form.plain_size.Goals as goal
 
 pub returns-then-ends_piece-clause-size : goal.returns-then-ends_piece-clause-size

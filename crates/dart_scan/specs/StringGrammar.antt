@@ -13,10 +13,10 @@ use Rattle.dart_scan.specs.Pieces.{Spelled, Read, behind, read_piece, string_at,
 use Rattle.dart_scan.specs.Openings.{taken}
 use Rattle.dart_scan.specs.Suspended.{enough, pieces_behind}
 use Rattle.dart_scan.specs.WholeStrings.{IsPlain, no_more, byte, escaped, IsExpression, closing, next, GoesOn, ends, interpolates, Interpolates, by_name, by_expression, IsString, unterminated, BeginsWith}
-use Rattle.dart_scan.proofs.PlainLemmas.{plain-step}
-use Rattle.dart_scan.proofs.FormLemmas.{begins-split, drop-front, opens}
-use Rattle.dart_scan.proofs.StepLemmas.{Fair, next-fair, named-parts, brace}
-use Rattle.dart_scan.proofs.ResumeLemmas.{enough-fair, parts-step, expression-step, first-step}
+use Rattle.dart_scan.specs.PlainLemmas.{plain-step}
+use Rattle.dart_scan.specs.FormLemmas.{begins-split, drop-front, opens}
+use Rattle.dart_scan.specs.StepLemmas.{Fair, next-fair, named-parts, brace}
+use Rattle.dart_scan.specs.ResumeLemmas.{enough-fair, parts-step, expression-step, first-step}
 
 -- Choices and optional values.
 

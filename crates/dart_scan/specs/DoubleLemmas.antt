@@ -7,7 +7,7 @@ use Rattle.std.proofs.Math.Logic.{⊎_elim}
 use Rattle.dart_scan.specs.Characters.{is_digit}
 use Rattle.dart_scan.specs.Lexemes.{begins, run, before_digits, fraction_size, sign_size, exponent_size, double_size}
 use Rattle.dart_scan.specs.LexemeClasses.{is_exponent_letter, is_sign, IsExponent, unsigned, signed}
-use Rattle.dart_scan.proofs.FormLemmas.{begins-split, front-past}
+use Rattle.dart_scan.specs.FormLemmas.{begins-split, front-past}
 
 -- Runs of bytes of a class.
 

@@ -15,7 +15,7 @@ use Rattle.dart_scan.specs.Comments.{comment_end}
 use Rattle.dart_scan.specs.Pieces.{comment_piece, longer, lexeme_at, piece_at}
 use Rattle.dart_scan.specs.declared.piece.Class.TheVariants.{Gap, UnterminatedComment, IllegalCharacter, BeyondAscii, Word, Integer, Double, Mark}
 use Rattle.dart_scan.specs.declared.piece.Piece.{Piece}
-use Rattle.dart_scan.proofs.Utf8Lemmas.{IsTextFrom, past_end, before_ascii, after_first, behind_both, chosen, IsAsciiClass, run-text, run-stops, all_ascii, begins-text, digits_are_ascii, hexadecimal_digits_are_ascii, starts_are_ascii, parts_are_ascii, blanks_are_ascii, newlines_are_ascii}
+use Rattle.dart_scan.specs.Utf8Lemmas.{IsTextFrom, past_end, before_ascii, after_first, behind_both, chosen, IsAsciiClass, run-text, run-stops, all_ascii, begins-text, digits_are_ascii, hexadecimal_digits_are_ascii, starts_are_ascii, parts_are_ascii, blanks_are_ascii, newlines_are_ascii}
 
 -- a start of a class and the parts that follow
 pub named-text : (start part : ℕ → Bool) → IsAsciiClass start → IsAsciiClass part → (byte : ℕ) (text : List ℕ) → IsUtf8 (byte ∷ text) → IsTextFrom (if start byte then 1 + run part text else 0) (byte ∷ text)

@@ -10,7 +10,7 @@ use Rattle.dart_scan.specs.declared.piece.Piece.{Piece}
 use Rattle.dart_scan.specs.Characters.{is_beyond_ascii}
 use Rattle.dart_scan.specs.Lexemes.{begins, run, word_size, integer_size, double_size, mark_size}
 use Rattle.dart_scan.specs.Pieces.{longer, lexeme_at}
-use Rattle.dart_tokens.proofs.MarkLemmas.{first_longest}
+use Rattle.dart_tokens.specs.MarkLemmas.{first_longest}
 
 longer-first : (a b : Piece) → a.size ≤ (longer a b).size
 longer-first a b = grind (arith, nat_tests)

@@ -12,8 +12,8 @@ use Rattle.dart_scan.specs.declared.piece.Piece.{Piece}
 use Rattle.dart_scan.specs.Lexemes.{begins}
 use Rattle.dart_scan.specs.Strings.{Form, opening_of, string_form, within_reach, name_size, is_interpolated, begins_name, plain_size}
 use Rattle.dart_scan.specs.Pieces.{Spelled, Read, behind, piece_at, read_piece, Fewer, string_at, next_at, last_class, part_before, name_row, expression_row, after_plain, parts_row, braces_behind, expression_pieces, within_steps, pieces_within}
-use Rattle.dart_scan.proofs.PieceLemmas.{piece_least}
-use Rattle.dart_scan.proofs.FormLemmas.{begins-split, Opens, opens, Reaches, reaches}
+use Rattle.dart_scan.specs.PieceLemmas.{piece_least}
+use Rattle.dart_scan.specs.FormLemmas.{begins-split, Opens, opens, Reaches, reaches}
 
 -- Pieces, and the bytes that are of them.
 

@@ -7,7 +7,7 @@ use Rattle.dart_scan.specs.Lexemes.{begins}
 use Rattle.dart_scan.specs.Strings.{Form, opening_of, string_form, within_reach, name_size, begins_name, plain_size}
 use Rattle.dart_scan.specs.Pieces.{Spelled, Read, behind, piece_at, read_piece, string_at, next_at, last_class, part_before, name_row, expression_row, after_plain, parts_row, braces_behind, expression_pieces, within_steps, pieces_within}
 use Rattle.dart_scan.specs.Suspended.{enough, pieces_behind, Suspended, finished, then_parts, resumed, resumed_within}
-use Rattle.dart_scan.proofs.StepLemmas.{Fair, IsFair, fair, next-fair, Agree, agree, next-agrees, pieces-enough, parts-agree, pieces-agree}
+use Rattle.dart_scan.specs.StepLemmas.{Fair, IsFair, fair, next-fair, Agree, agree, next-agrees, pieces-enough, parts-agree, pieces-agree}
 
 pub enough-fair : IsFair enough
 enough-fair = record {

@@ -12,8 +12,8 @@ use Rattle.dart_scan.specs.Lexemes.{begins, run}
 use Rattle.dart_scan.specs.Strings.{Form, opening_of, forms, first_form, string_form, within_reach, is_name_start, is_name_part, name_size, begins_name, ends_piece, begins_escape, plain_size}
 use Rattle.dart_scan.specs.Pieces.{Spelled, Read, behind, read_piece, piece_at, Fewer, string_at, next_at, part_before, name_row, expression_row, after_plain, parts_row, braces_behind, expression_pieces, within_steps, pieces_within, pieces}
 use Rattle.dart_scan.specs.declared.piece.Class.TheVariants.{Word, InterpolationMark, InterpolationOpening, UnterminatedString}
-use Rattle.dart_scan.proofs.Utf8Lemmas.{IsTextFrom, past_end, front_text, before_ascii, behind_both, IsAsciiClass, all_ascii, begins-text, take_run, starts_are_ascii, parts_are_ascii}
-use Rattle.dart_scan.proofs.PieceTexts.{named-text, line-text, piece-text}
+use Rattle.dart_scan.specs.Utf8Lemmas.{IsTextFrom, past_end, front_text, before_ascii, behind_both, IsAsciiClass, all_ascii, begins-text, take_run, starts_are_ascii, parts_are_ascii}
+use Rattle.dart_scan.specs.PieceTexts.{named-text, line-text, piece-text}
 
 -- all these pieces are texts
 abbrev pub AreTexts : List Spelled → Type 0

@@ -16,12 +16,12 @@ use Rattle.dart_scan.specs.declared.piece.Class.{Class}
 use Rattle.dart_scan.specs.declared.piece.Class.TheVariants.{Gap}
 use Rattle.dart_scan.specs.Suspended.{enough, pieces_behind}
 use Rattle.dart_scan.specs.LexemeClasses.{IsLexeme, word, decimal, hexadecimal, upper_hexadecimal, fraction, fraction_exponent, whole_exponent, mark}
-use Rattle.dart_scan.proofs.FormLemmas.{begins-split}
-use Rattle.dart_scan.proofs.StringGrammar.{begins-front}
-use Rattle.dart_scan.proofs.DoubleLemmas.{run-front, fraction-front, fraction_exponent-front, whole_exponent-front}
-use Rattle.dart_scan.proofs.PieceLemmas.{piece_least}
-use Rattle.dart_scan.proofs.LawLemmas.{word-longest, integer-longest, double-longest, mark-longest, mark-of-marks}
-use Rattle.dart_scan.proofs.ResumeLemmas.{behind-step}
+use Rattle.dart_scan.specs.FormLemmas.{begins-split}
+use Rattle.dart_scan.specs.StringGrammar.{begins-front}
+use Rattle.dart_scan.specs.DoubleLemmas.{run-front, fraction-front, fraction_exponent-front, whole_exponent-front}
+use Rattle.dart_scan.specs.PieceLemmas.{piece_least}
+use Rattle.dart_scan.specs.LawLemmas.{word-longest, integer-longest, double-longest, mark-longest, mark-of-marks}
+use Rattle.dart_scan.specs.ResumeLemmas.{behind-step}
 
 -- a lexeme of a text is no longer than one of the sizes
 abbrev pub AtMost : (size : ℕ) → List ℕ → Type 0
