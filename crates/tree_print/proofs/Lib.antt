@@ -1,0 +1,15 @@
+pub mod Alike
+pub mod Sizes
+pub mod Relaid
+pub mod Again
+pub mod Plain
+pub mod Tokens
+pub mod Ended
+pub mod Parts
+pub mod Names
+pub mod Bounds
+pub mod Next
+pub mod Literals
+pub mod Expressions
+pub mod Top
+pub mod ReadAgain
