@@ -12,14 +12,6 @@ use Rattle.judgement.specs.contracts.DiagnosticCode.{the_type}
 use Rattle.judgement.specs.contracts.DiagnosticCodeOrd.TheImpl.Laws as codes
 use Rattle.judgement.specs.contracts.FaultOrd.TheImpl.Laws as laws
 use denote.Enum.Bare.{same_true}
-use Rattle.std.specs.Option.{option_map_or}
-use Rattle.small_tree.specs.declared.places.Span.{Span}
-use Rattle.small_tree.specs.Tree.{Tree}
-use Rattle.small_flow.specs.Sub.{no_rows}
-use Rattle.judgement.specs.Judgement.{faults_of}
-use Rattle.check_library.specs.declared.token.Token.{Token}
-use Rattle.check_library.specs.Units.{front_of, tree_of}
-use Rattle.check_library.specs.Diagnostics.{lexical_faults, not_built, no_tree, tree_faults, faults_in}
 use Rattle.check_library.specs.Order.{span_cmp, code_cmp, fault_cmp, IsBefore, sorted_faults}
 use Rattle.check_library.proofs.SortedKeys.{sorted-insert_key, contains-into_insert_key, contains-from_insert_key, contains_later, contains_first, contains_cases}
 
@@ -85,42 +77,3 @@ found (fault ∷ faults) q c = elim (contains-from_insert_key fault_cmp tied fau
   | inl is ↦ subst (Contains (fault ∷ faults)) is (contains_first fault faults)
   | inr there ↦ contains_later fault faults q (found faults q there)
 ]
-
--- where a diagnostic was put at its place, there is one
-some_inserted : (faults : List Fault) (fault : Fault) → insert_key fault_cmp faults fault ≡ [] → fault ∷ faults ≡ []
-some_inserted [] fault none = none
-some_inserted (first ∷ rest) fault none =
-    elim (fault_cmp fault first) as (λ r. match_ordering r (fault ∷ first ∷ rest) (first ∷ rest) (first ∷ insert_key fault_cmp rest fault) ≡ [] → fault ∷ first ∷ rest ≡ []) [
-      | Less ↦ λ none. cc
-      | Equal ↦ λ none. cc
-      | Greater ↦ λ none. cc
-    ] none
-
--- an empty report is one of no diagnostics
-pub none_found : (faults : List Fault) → sorted_faults faults ≡ [] → faults ≡ []
-none_found [] none = refl
-none_found (fault ∷ faults) none =
-    let some : fault ∷ sorted_faults faults ≡ [] = some_inserted (sorted_faults faults) fault none in
-    cc
-
-right_of_none : (xs ys : List Fault) → xs ++ ys ≡ [] → ys ≡ []
-right_of_none [] ys none = none
-right_of_none (x ∷ xs) ys none = absurd (cc)
-
--- where nothing is wrong with a text, nothing is wrong with its directives and its tree
-pub tree_faults-none : (text : List ℕ) → faults_in text ≡ [] → tree_faults text ≡ []
-tree_faults-none text none = right_of_none (lexical_faults text) (tree_faults text) none
-
-no_tree-some : (spans : List Span) (behind : List Token) (text : List ℕ) → no_tree spans behind text ≡ [] → ⊥
-no_tree-some [] behind text none = cc
-no_tree-some (span ∷ spans) [] text none = cc
-no_tree-some (span ∷ spans) (token ∷ tokens) text none = cc
-
-given_by : (directives : List Fault) (faults : Tree → List Fault) (none : List Fault) (tree : Option Tree) → (none ≡ [] → ⊥) → option_map_or (λ t. directives ++ faults t) tree none ≡ [] → IfSome tree (λ t. faults t ≡ []) × (is_some tree ≡ true)
-given_by directives faults none None some is = absurd (some is)
-given_by directives faults none (Some t) some is = (right_of_none directives (faults t) is, refl)
-
--- and there is a tree, with which nothing is wrong
-pub tree_sound : (text : List ℕ) → faults_in text ≡ [] → IfSome (tree_of text) (λ tree. faults_of no_rows tree ≡ []) × (is_some (tree_of text) ≡ true)
-tree_sound text none =
-    given_by (map not_built (front_of text).0) (faults_of no_rows) (no_tree (front_of text).0 (front_of text).1 text) (tree_of text) (no_tree-some (front_of text).0 (front_of text).1 text) (tree_faults-none text none)

@@ -1,7 +1,7 @@
 -- The diagnostics of a text: those of its lexemes, its groups and its tree, from nothing but the text.
-use Rattle.std.specs.Prelude.{ℕ, List, [], ◌∷◌, ◌++◌, map, slice_get}
+use Rattle.std.specs.Prelude.{ℕ, Bool, true, false, ◌&&◌, List, [], ◌∷◌, ◌++◌, map, slice_get, if◌then◌else◌}
+use Rattle.std.specs.List.{list_any}
 use Rattle.std.specs.Option.{option_map_or}
-use Rattle.plain_text.specs.Units.{units_in}
 use Rattle.small_tree.specs.declared.places.Span.{Span}
 use Rattle.dart_tokens.specs.declared.token.Token.{Token as TextToken}
 use Rattle.dart_tokens.specs.declared.scanned.LexFault.{LexFault}
@@ -11,23 +11,33 @@ use Rattle.dart_tokens.specs.declared.groups.GroupFault.{GroupFault}
 use Rattle.dart_tokens.specs.declared.groups.GroupFaultKind.{GroupFaultKind}
 use Rattle.dart_tokens.specs.declared.groups.GroupFaultKind.TheVariants as group
 use Rattle.dart_tokens.specs.Groups.{faults_of as faults_of_groups}
-use Rattle.dart_scan.specs.Scanned.{tokens_of, faults_of as faults_of_pieces}
+use Rattle.dart_scan.specs.Scanned.{tokens_of, words_of, faults_of as faults_of_pieces}
 use Rattle.judgement.specs.declared.Fault.{Fault}
 use Rattle.judgement.specs.declared.DiagnosticCode.{DiagnosticCode}
-use Rattle.judgement.specs.declared.DiagnosticCode.TheVariants.{BadEscape, IllegalCharacter, NotBuilt, ProfileIdentifier, SyntaxError, UnclosedGroup, UnopenedGroup, UnterminatedComment, UnterminatedString}
+use Rattle.judgement.specs.declared.DiagnosticCode.TheVariants as code
+use Rattle.judgement.specs.contracts.DiagnosticCode as codes
+use denote.Enum.Bare.{sameb}
 use Rattle.small_flow.specs.Sub.{no_rows}
+use Rattle.small_tree.specs.Tree.{Tree, unit}
+use Rattle.small_tree.specs.Places.{span_of}
 use Rattle.judgement.specs.Judgement.{faults_of}
-use Rattle.check_library.specs.declared.token.Token.{Token}
-use Rattle.check_library.specs.Units.{front_of, tree_of}
+use Rattle.grammar.specs.Tokens.{grammar_tokens}
+use Rattle.segment_faults.specs.declared.fault.SegmentFault.{SegmentFault}
+use Rattle.segment_faults.specs.declared.fault.SegmentFault.TheVariants as segment
+use Rattle.dart_parse.specs.declared.faults.TreeFault.{TreeFault}
+use Rattle.dart_parse.specs.Faults.{tree_faults}
+use Rattle.built_forms.specs.Places.{span as span_over}
+use Rattle.built_forms.specs.Units.{unbuilt, has_other_names}
+use Rattle.check_library.specs.Units.{unit_of_text, tree_of}
 use Rattle.check_library.specs.Order.{sorted_faults}
 
 -- what is said of a lexeme, or of what stands between lexemes
 abbrev pub code_of_piece : LexFaultKind → DiagnosticCode
-code_of_piece lexical.UnterminatedComment = UnterminatedComment
-code_of_piece lexical.UnterminatedString = UnterminatedString
-code_of_piece lexical.BadEscape = BadEscape
-code_of_piece lexical.IllegalCharacter = IllegalCharacter
-code_of_piece lexical.ProfileIdentifier = ProfileIdentifier
+code_of_piece lexical.UnterminatedComment = code.UnterminatedComment
+code_of_piece lexical.UnterminatedString = code.UnterminatedString
+code_of_piece lexical.BadEscape = code.BadEscape
+code_of_piece lexical.IllegalCharacter = code.IllegalCharacter
+code_of_piece lexical.ProfileIdentifier = code.ProfileIdentifier
 
 -- it stands where the scanner found it
 abbrev pub fault_of_piece : LexFault → Fault
@@ -35,8 +45,8 @@ fault_of_piece fault = record { span = record { start = fault.start; end = fault
 
 -- what is said of a bracket
 abbrev pub code_of_group : GroupFaultKind → DiagnosticCode
-code_of_group group.UnclosedGroup = UnclosedGroup
-code_of_group group.UnopenedGroup = UnopenedGroup
+code_of_group group.UnclosedGroup = code.UnclosedGroup
+code_of_group group.UnopenedGroup = code.UnopenedGroup
 
 -- where the token at a place stands
 abbrev pub span_at : List TextToken → (place : ℕ) → Span
@@ -51,28 +61,67 @@ abbrev pub lexical_faults : List ℕ → List Fault
 lexical_faults text =
     map fault_of_piece (faults_of_pieces text) ++ map (fault_of_group (tokens_of text)) (faults_of_groups (tokens_of text))
 
--- a text that is no unit has one diagnostic for that, over its whole length
-abbrev pub no_unit : List ℕ → List Fault
-no_unit text = record { span = record { start = 0; end = units_in text }; code = SyntaxError } ∷ []
+-- what is said of a segment that derives nothing
+abbrev pub code_of_segment : SegmentFault → DiagnosticCode
+code_of_segment segment.Late = code.ProfileLate
+code_of_segment segment.External = code.ProfileExternal
+code_of_segment segment.Covariant = code.ProfileCovariant
+code_of_segment segment.Const = code.ProfileConst
+code_of_segment segment.Enum = code.ProfileEnum
+code_of_segment segment.Extension = code.ProfileExtension
+code_of_segment segment.Assert = code.ProfileAssert
+code_of_segment segment.Deferred = code.ProfileDeferred
+code_of_segment segment.Async = code.ProfileAsync
+code_of_segment segment.Double = code.ProfileDouble
+code_of_segment segment.CollectionElement = code.ProfileCollectionElement
+code_of_segment segment.Symbol = code.ProfileSymbol
+code_of_segment segment.Annotation = code.ProfileAnnotation
+code_of_segment segment.TripleShift = code.ProfileTripleShift
+code_of_segment segment.ConditionalUri = code.ProfileConditionalUri
+code_of_segment segment.MixinApplication = code.ProfileMixinApplication
+code_of_segment segment.RedirectingFactory = code.ProfileRedirectingFactory
+code_of_segment segment.ContinueCase = code.ProfileContinueCase
+code_of_segment segment.Typedef = code.ProfileTypedef
+code_of_segment segment.Nesting = code.ProfileNesting
+code_of_segment segment.Syntax = code.SyntaxError
 
--- a directive isn't checked yet, and has one diagnostic for that
+-- it stands over the segment
+abbrev pub fault_of_segment : TreeFault → Fault
+fault_of_segment found = record { span = span_over found.span; code = code_of_segment found.fault }
+
+-- what is wrong with the segments of a text that derive nothing
+abbrev pub segment_faults : List ℕ → List Fault
+segment_faults text = map fault_of_segment (tree_faults (grammar_tokens (tokens_of text)) (unit_of_text text))
+
+-- a directive or a declaration of another form isn't checked yet, and has one diagnostic for that
 abbrev pub not_built : Span → Fault
-not_built span = record { span = span; code = NotBuilt }
+not_built span = record { span = span; code = code.NotBuilt }
 
--- what is wrong with a text without a tree, by where its directives stand and by what stands behind them: directives alone are as good as a unit
-abbrev pub no_tree : List Span → (behind : List Token) → (text : List ℕ) → List Fault
-no_tree [] behind text = no_unit text
-no_tree (span ∷ spans) [] text = not_built span ∷ map not_built spans
-no_tree (span ∷ spans) (token ∷ tokens) text = no_unit text
+-- the diagnostic of a name that means nothing
+abbrev pub is_undefined_code : DiagnosticCode → Bool
+is_undefined_code c = sameb codes.the_type c code.UndefinedName
 
--- what is wrong with the directives and the tree of a text, or that it is no unit
-abbrev pub tree_faults : List ℕ → List Fault
-tree_faults text =
-    option_map_or (λ tree. map not_built (front_of text).0 ++ faults_of no_rows tree) (tree_of text) (no_tree (front_of text).0 (front_of text).1 text)
+-- where the function of a unit stands
+abbrev pub function_span : Tree → Span
+function_span (unit at main) = span_of main
+function_span _ = record { start = 0; end = 0 }
+
+-- what is wrong with the function of a unit, in which these are the faults: where directives may bring names, one that means nothing else may be one of these, so that the function isn't judged
+abbrev pub settled : (other_names : Bool) → Tree → List Fault → List Fault
+settled other_names tree faults = if other_names && list_any (λ fault. is_undefined_code fault.code) faults then not_built (function_span tree) ∷ [] else faults
+
+-- what is wrong with the unit of the forms that are checked
+abbrev pub judged_faults : (other_names : Bool) → Tree → List Fault
+judged_faults other_names tree = settled other_names tree (faults_of no_rows tree)
+
+-- what is wrong with the directives and declarations of a text: those that aren't built, and what the judgement says of the others
+abbrev pub declared_faults : List ℕ → List Fault
+declared_faults text =
+    map not_built (unbuilt (words_of text) (unit_of_text text)) ++ option_map_or (judged_faults (has_other_names (unit_of_text text))) (tree_of text) []
 
 -- what is wrong with a text, in any order
 abbrev pub faults_in : List ℕ → List Fault
-faults_in text = lexical_faults text ++ tree_faults text
+faults_in text = lexical_faults text ++ (segment_faults text ++ declared_faults text)
 
 -- what is wrong with a text: by offset, then length, then code, without repeats
 unfoldable pub diagnostics : List ℕ → List Fault

@@ -9,7 +9,7 @@ use Rattle.small_tree.specs.Tree.{Tree}
 use Rattle.proto_json.specs.declared.reply.ErrorRow.{ErrorRow}
 use Rattle.judgement.specs.declared.Fault.{Fault}
 use Rattle.check_library.specs.Units.{tree_of}
-use Rattle.check_library.proofs.Reports.{none_found, tree_sound}
+use Rattle.check_library.specs.Faultless.{none_found}
 use Rattle.check_library.specs.Diagnostics.{faults_in, diagnostics}
 use Rattle.check_library.specs.Checked.{IsCheckOf, IsFaultless}
 use Rattle.check_library.specs.declared.library.Checked.{Checked}
@@ -23,7 +23,7 @@ use Rattle.std.proofs.lemmas.Bool.{true≢false}
 use Rattle.dart_server.specs.declared.status.Status.{Status}
 use Rattle.dart_server.specs.declared.status.Status.TheVariants.{Errors}
 use Rattle.protocol_rules.specs.Files.{no_text}
-use Rattle.dart_server.specs.Run.{Says, rows_of_file, Prints, ProgramGives, RowsGive}
+use Rattle.dart_server.specs.Run.{Says, rows_of_file, Prints, UnitGives, RowsGive}
 use Rattle.dart_server.proofs.RunLemmas.{IsSound}
 
 -- where nothing is reported, nothing is wrong
@@ -44,18 +44,16 @@ some_of_length (fault ∷ faults) some none = cc
 pub faultless : (text : List ℕ) (checked : Checked) → IsCheckOf text checked → checked.diagnostics ≡ [] → IsFaultless checked
 faultless text checked check none = record { text = text; check = check; none = no_faults text (sym check.diagnostics ∙ none) }
 
--- the program of a tree that a text without faults has
-given_by_tree : (text : List ℕ) (steps : ℕ) (tree : Option Tree) (p : Program) → tree_of text ≡ tree → is_some tree ≡ true → IfSome tree (λ t. IsElaborationOf t p) → IsSound p → (output : List ℕ) (status : Status) → Prints (run_of p steps) output status → ProgramGives text steps output status
-given_by_tree text steps None p is some elaborated sound output status prints = cc
-given_by_tree text steps (Some tree) p is some elaborated sound output status prints = record { tree = tree; tree_is = is; program = p; program_is = elaborated; prints = prints; sound = sound }
-
--- what the program of a text without diagnostics prints is the output of the text
-pub given_by_program : (file text : List ℕ) (steps : ℕ) (checked : Checked) (p : Program) → IsCheckOf text checked → checked.diagnostics ≡ [] → IfSome checked.unit (λ t. IsElaborationOf t p) → IsSound p → (output : List ℕ) (status : Status) → Prints (run_of p steps) output status → RowsGive text steps (rows_of file text (diagnostics text)) output status
-given_by_program file text steps checked p check none elaborated sound output status prints =
+-- what is run of a text without diagnostics gives the output of the text
+pub given_by_unit : (file text : List ℕ) (steps : ℕ) (checked : Checked) (unit : Option Tree) → IsCheckOf text checked → checked.diagnostics ≡ [] → checked.unit ≡ unit → (output : List ℕ) (status : Status) → UnitGives steps unit output status → RowsGive text steps (rows_of file text (diagnostics text)) output status
+given_by_unit file text steps checked unit check none is output status gives =
     let silent : diagnostics text ≡ [] = sym check.diagnostics ∙ none in
-    let elaborated_tree : IfSome (tree_of text) (λ t. IsElaborationOf t p) = subst (λ (tree : Option Tree). IfSome tree (λ t. IsElaborationOf t p)) check.unit elaborated in
-    let given : ProgramGives text steps output status = given_by_tree text steps (tree_of text) p refl (tree_sound text (no_faults text silent)).1 elaborated_tree sound output status prints in
+    let given : UnitGives steps (tree_of text) output status = subst (λ (tree : Option Tree). UnitGives steps tree output status) (sym is ∙ check.unit) gives in
     subst (λ (faults : List Fault). RowsGive text steps (rows_of file text faults) output status) (sym silent) given
+
+-- what its program prints is what its function `main` gives
+pub given_by_program : (steps : ℕ) (tree : Tree) (p : Program) → IsElaborationOf tree p → IsSound p → (output : List ℕ) (status : Status) → Prints (run_of p steps) output status → UnitGives steps (Some tree) output status
+given_by_program steps tree p elaborated sound output status prints = record { program = p; program_is = elaborated; prints = prints; sound = sound }
 
 -- the lines of rows are the output, where there are rows
 pub given_by_rows : (file bytes text : List ℕ) (steps : ℕ) (faults : List Fault) → faults ≢ [] → (output : List ℕ) (status : Status) → Says (lines_of_rows (rows_of file text faults)) Errors output status → RowsGive bytes steps (rows_of file text faults) output status

@@ -32,6 +32,10 @@ library_of file given = if is_library file then given else None
 abbrev pub no_library_line : List ℕ
 no_library_line = codes "dart_serve: no such library" ++ 10 ∷ []
 
+-- what is written where a library in which nothing is wrong has no function `main`
+abbrev pub no_main_line : List ℕ
+no_main_line = codes "dart_serve: no main" ++ 10 ∷ []
+
 -- what is written where a file has more bytes than all texts may have together
 abbrev pub limit_line : List ℕ
 limit_line = codes "dart_serve: limit" ++ 10 ∷ []
@@ -57,18 +61,21 @@ Prints (Ended s) output status = Says s.output Done output status
 Prints (Went s) output status = Says (s.output ++ steps_spent_line) StepsSpent output status
 Prints (Wrong kind) output status = ⊥
 
--- the output and the status of a text in which nothing is wrong: those of its core program after so many steps; no number of steps of that program goes wrong
-pub record ProgramGives (text : List ℕ) (steps : ℕ) (output : List ℕ) (status : Status) : Type 0 where
-  pub tree : Tree
-  pub tree_is : tree_of text ≡ Some tree
+-- the output and the status of what is run of a text in which nothing is wrong: those of its core program after so many steps; no number of steps of that program goes wrong
+pub record ProgramGives (tree : Tree) (steps : ℕ) (output : List ℕ) (status : Status) : Type 0 where
   pub program : Program
   pub program_is : IsElaborationOf tree program
   pub prints : Prints (run_of program steps) output status
   pub sound : (n : ℕ) (kind : Kind) → run_of program n ≢ Wrong kind
 
+-- the output and the status of a text in which nothing is wrong, by what of it is run: it may have no function `main`
+abbrev pub UnitGives : (steps : ℕ) → Option Tree → (output : List ℕ) → Status → Type 0
+UnitGives steps None output status = Says no_main_line Refused output status
+UnitGives steps (Some tree) output status = ProgramGives tree steps output status
+
 -- the output and the status of a file that has these rows: their lines, or where there are none, those of its program
 abbrev pub RowsGive : (bytes : List ℕ) (steps : ℕ) → List ErrorRow → (output : List ℕ) → Status → Type 0
-RowsGive bytes steps [] output status = ProgramGives bytes steps output status
+RowsGive bytes steps [] output status = UnitGives steps (tree_of bytes) output status
 RowsGive bytes steps (row ∷ rows) output status = Says (lines_of_rows (row ∷ rows)) Errors output status
 
 -- the output and the status of a library's bytes, by whether they pass the limit

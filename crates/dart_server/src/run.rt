@@ -1,6 +1,6 @@
 //! The run of a file.
 
-ghost use Rattle.std.specs.Prelude.{◌≡◌, ◌≢◌, ℕ, ◌<◌, true, false, nat_lt, List, [], ◌∷◌, ◌++◌, Err, IfOk, IfSome, OnOk, OnErr, length, take};
+ghost use Rattle.std.specs.Prelude.{◌≡◌, ◌≢◌, ℕ, ◌<◌, true, false, nat_lt, List, [], ◌∷◌, ◌++◌, Some, Err, IfOk, OnOk, OnErr, length, take};
 ghost use Rattle.fault_io.specs.Bytes.{and_then};
 ghost use Rattle.fault_io.specs.Faults.{Rose, one_more};
 ghost use Rattle.load_files.specs.Paths.{is_library};
@@ -28,7 +28,7 @@ use fault_io::{Files, FilesRefusal, Sink, WriteRefusal, write_all_of};
 use judgement::{DiagnosticCode, Fault};
 use load_files::MAX_BYTES;
 use protocol_rules::{empty_text, is_library};
-use small_tree::Span;
+use small_tree::{Span, Unit};
 use std::alloc::{AllocError, Global};
 
 /// What a run prints is written where it has come to so many bytes, and at its end.
@@ -36,6 +36,9 @@ const PIECE: usize = 65_536;
 
 /// What is written where there is no library of the name.
 const NO_LIBRARY: &[u8] = b"dart_serve: no such library\n";
+
+/// What is written where a library in which nothing is wrong has no function `main`.
+const NO_MAIN: &[u8] = b"dart_serve: no main\n";
 
 /// What is written where a file has more bytes than all texts may have together.
 const LIMIT: &[u8] = b"dart_serve: limit\n";
@@ -88,14 +91,15 @@ fn report_file<K: Sink>(
     report(alloc, sink, file, &empty, &[Fault { span, code }])
 }
 
-/// The core program of a library in whose text nothing is wrong. It is accepted, and no number of
-/// its steps goes wrong.
-fn program_of(alloc: Global, checked: &Checked) -> Result<Accepted, AllocError>
-    requires { IsFaultless checked.now }
-    ensures program { IfOk result (λ program. IfSome checked.now.unit (λ unit. IsElaborationOf unit program)) }
+/// The core program of what is run of a library in whose text nothing is wrong. It is accepted, and
+/// no number of its steps goes wrong.
+fn program_of(alloc: Global, checked: &Checked, unit: &Unit) -> Result<Accepted, AllocError>
+    requires faultless { IsFaultless checked.now }
+    requires unit { checked.now.unit ≡ Some unit.now }
+    ensures program { IfOk result (IsElaborationOf unit.now) }
     ensures sound { IfOk result (λ program. (n : ℕ) (kind : Kind) → run_of program n ≢ Wrong kind) }
 {
-    let program = elaborate(alloc, checked)?;
+    let program = elaborate(alloc, checked, unit)?;
     faults_are_clauses_that_fail(&program);
     let Ok(accepted) = accept(alloc, program) else {
         unreachable!()
@@ -180,8 +184,13 @@ fn run_text<K: Sink>(
     if !faults.is_empty() {
         return report(alloc, sink, file, text, faults);
     }
-    let program = program_of(alloc, &checked)?;
-    run_program(alloc, sink, program, steps)
+    match &checked.unit {
+        Some(unit) => {
+            let program = program_of(alloc, &checked, unit)?;
+            run_program(alloc, sink, program, steps)
+        }
+        None => say(alloc, sink, NO_MAIN, Status::Refused),
+    }
 }
 
 /// Prints the diagnostics of a file, or runs its program.

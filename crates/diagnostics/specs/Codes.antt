@@ -6,7 +6,7 @@ use Rattle.std.specs.declared.cmp.Ordering.{Ordering}
 use Rattle.std.specs.Str.{byte}
 use Rattle.std.specs.Char.{to_ascii_uppercase}
 use Rattle.judgement.specs.declared.DiagnosticCode.{DiagnosticCode}
-use Rattle.judgement.specs.declared.DiagnosticCode.TheVariants.{ArgumentType, BadEscape, ConditionNotBool, DuplicateDefinition, FileNotUtf8, IllegalCharacter, IntegerLiteralOutOfRange, InvalidAssignment, NotBuilt, ProfileFileLength, ProfileIdentifier, ReferencedBeforeDeclaration, SyntaxError, UnassignedRead, UncheckedNullableUse, UnclosedGroup, UndefinedName, UndefinedOperator, UnopenedGroup, UnterminatedComment, UnterminatedString}
+use Rattle.judgement.specs.declared.DiagnosticCode.TheVariants.{ArgumentType, BadEscape, ConditionNotBool, DuplicateDefinition, FileNotUtf8, IllegalCharacter, IntegerLiteralOutOfRange, InvalidAssignment, NotBuilt, ProfileAnnotation, ProfileAssert, ProfileAsync, ProfileCollectionElement, ProfileConditionalUri, ProfileConst, ProfileContinueCase, ProfileCovariant, ProfileDeferred, ProfileDouble, ProfileEnum, ProfileExtension, ProfileExternal, ProfileFileLength, ProfileIdentifier, ProfileLate, ProfileMixinApplication, ProfileNesting, ProfileRedirectingFactory, ProfileSymbol, ProfileTripleShift, ProfileTypedef, ReferencedBeforeDeclaration, SyntaxError, UnassignedRead, UncheckedNullableUse, UnclosedGroup, UndefinedName, UndefinedOperator, UnopenedGroup, UnterminatedComment, UnterminatedString}
 use Rattle.proto_json.specs.declared.reply.ErrorKind.{ErrorKind}
 use Rattle.proto_json.specs.declared.reply.ErrorKind.TheVariants.{SyntacticError, CompileTimeError}
 
@@ -21,8 +21,28 @@ name_of IllegalCharacter = codes "illegal_character"
 name_of IntegerLiteralOutOfRange = codes "integer_literal_out_of_range"
 name_of InvalidAssignment = codes "invalid_assignment"
 name_of NotBuilt = codes "not_built"
+name_of ProfileAnnotation = codes "profile_annotation"
+name_of ProfileAssert = codes "profile_assert"
+name_of ProfileAsync = codes "profile_async"
+name_of ProfileCollectionElement = codes "profile_collection_element"
+name_of ProfileConditionalUri = codes "profile_conditional_uri"
+name_of ProfileConst = codes "profile_const"
+name_of ProfileContinueCase = codes "profile_continue_case"
+name_of ProfileCovariant = codes "profile_covariant"
+name_of ProfileDeferred = codes "profile_deferred"
+name_of ProfileDouble = codes "profile_double"
+name_of ProfileEnum = codes "profile_enum"
+name_of ProfileExtension = codes "profile_extension"
+name_of ProfileExternal = codes "profile_external"
 name_of ProfileFileLength = codes "profile_file_length"
 name_of ProfileIdentifier = codes "profile_identifier"
+name_of ProfileLate = codes "profile_late"
+name_of ProfileMixinApplication = codes "profile_mixin_application"
+name_of ProfileNesting = codes "profile_nesting"
+name_of ProfileRedirectingFactory = codes "profile_redirecting_factory"
+name_of ProfileSymbol = codes "profile_symbol"
+name_of ProfileTripleShift = codes "profile_triple_shift"
+name_of ProfileTypedef = codes "profile_typedef"
 name_of ReferencedBeforeDeclaration = codes "referenced_before_declaration"
 name_of SyntaxError = codes "syntax_error"
 name_of UnassignedRead = codes "unassigned_read"
@@ -62,8 +82,28 @@ kind_of IllegalCharacter = SyntacticError
 kind_of IntegerLiteralOutOfRange = CompileTimeError
 kind_of InvalidAssignment = CompileTimeError
 kind_of NotBuilt = CompileTimeError
+kind_of ProfileAnnotation = CompileTimeError
+kind_of ProfileAssert = CompileTimeError
+kind_of ProfileAsync = CompileTimeError
+kind_of ProfileCollectionElement = CompileTimeError
+kind_of ProfileConditionalUri = CompileTimeError
+kind_of ProfileConst = CompileTimeError
+kind_of ProfileContinueCase = CompileTimeError
+kind_of ProfileCovariant = CompileTimeError
+kind_of ProfileDeferred = CompileTimeError
+kind_of ProfileDouble = CompileTimeError
+kind_of ProfileEnum = CompileTimeError
+kind_of ProfileExtension = CompileTimeError
+kind_of ProfileExternal = CompileTimeError
 kind_of ProfileFileLength = CompileTimeError
 kind_of ProfileIdentifier = CompileTimeError
+kind_of ProfileLate = CompileTimeError
+kind_of ProfileMixinApplication = CompileTimeError
+kind_of ProfileNesting = SyntacticError
+kind_of ProfileRedirectingFactory = CompileTimeError
+kind_of ProfileSymbol = CompileTimeError
+kind_of ProfileTripleShift = CompileTimeError
+kind_of ProfileTypedef = CompileTimeError
 kind_of ReferencedBeforeDeclaration = CompileTimeError
 kind_of SyntaxError = SyntacticError
 kind_of UnassignedRead = CompileTimeError

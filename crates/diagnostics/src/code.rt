@@ -20,8 +20,28 @@ pub fn code_name(code: DiagnosticCode) -> &'static str
         DiagnosticCode::IntegerLiteralOutOfRange => "integer_literal_out_of_range",
         DiagnosticCode::InvalidAssignment => "invalid_assignment",
         DiagnosticCode::NotBuilt => "not_built",
+        DiagnosticCode::ProfileAnnotation => "profile_annotation",
+        DiagnosticCode::ProfileAssert => "profile_assert",
+        DiagnosticCode::ProfileAsync => "profile_async",
+        DiagnosticCode::ProfileCollectionElement => "profile_collection_element",
+        DiagnosticCode::ProfileConditionalUri => "profile_conditional_uri",
+        DiagnosticCode::ProfileConst => "profile_const",
+        DiagnosticCode::ProfileContinueCase => "profile_continue_case",
+        DiagnosticCode::ProfileCovariant => "profile_covariant",
+        DiagnosticCode::ProfileDeferred => "profile_deferred",
+        DiagnosticCode::ProfileDouble => "profile_double",
+        DiagnosticCode::ProfileEnum => "profile_enum",
+        DiagnosticCode::ProfileExtension => "profile_extension",
+        DiagnosticCode::ProfileExternal => "profile_external",
         DiagnosticCode::ProfileFileLength => "profile_file_length",
         DiagnosticCode::ProfileIdentifier => "profile_identifier",
+        DiagnosticCode::ProfileLate => "profile_late",
+        DiagnosticCode::ProfileMixinApplication => "profile_mixin_application",
+        DiagnosticCode::ProfileNesting => "profile_nesting",
+        DiagnosticCode::ProfileRedirectingFactory => "profile_redirecting_factory",
+        DiagnosticCode::ProfileSymbol => "profile_symbol",
+        DiagnosticCode::ProfileTripleShift => "profile_triple_shift",
+        DiagnosticCode::ProfileTypedef => "profile_typedef",
         DiagnosticCode::ReferencedBeforeDeclaration => "referenced_before_declaration",
         DiagnosticCode::SyntaxError => "syntax_error",
         DiagnosticCode::UnassignedRead => "unassigned_read",
@@ -50,8 +70,28 @@ pub fn message(code: DiagnosticCode) -> &'static str
         DiagnosticCode::IntegerLiteralOutOfRange => "Integer literal out of range.",
         DiagnosticCode::InvalidAssignment => "Invalid assignment.",
         DiagnosticCode::NotBuilt => "Not built.",
+        DiagnosticCode::ProfileAnnotation => "Profile annotation.",
+        DiagnosticCode::ProfileAssert => "Profile assert.",
+        DiagnosticCode::ProfileAsync => "Profile async.",
+        DiagnosticCode::ProfileCollectionElement => "Profile collection element.",
+        DiagnosticCode::ProfileConditionalUri => "Profile conditional uri.",
+        DiagnosticCode::ProfileConst => "Profile const.",
+        DiagnosticCode::ProfileContinueCase => "Profile continue case.",
+        DiagnosticCode::ProfileCovariant => "Profile covariant.",
+        DiagnosticCode::ProfileDeferred => "Profile deferred.",
+        DiagnosticCode::ProfileDouble => "Profile double.",
+        DiagnosticCode::ProfileEnum => "Profile enum.",
+        DiagnosticCode::ProfileExtension => "Profile extension.",
+        DiagnosticCode::ProfileExternal => "Profile external.",
         DiagnosticCode::ProfileFileLength => "Profile file length.",
         DiagnosticCode::ProfileIdentifier => "Profile identifier.",
+        DiagnosticCode::ProfileLate => "Profile late.",
+        DiagnosticCode::ProfileMixinApplication => "Profile mixin application.",
+        DiagnosticCode::ProfileNesting => "Profile nesting.",
+        DiagnosticCode::ProfileRedirectingFactory => "Profile redirecting factory.",
+        DiagnosticCode::ProfileSymbol => "Profile symbol.",
+        DiagnosticCode::ProfileTripleShift => "Profile triple shift.",
+        DiagnosticCode::ProfileTypedef => "Profile typedef.",
         DiagnosticCode::ReferencedBeforeDeclaration => "Referenced before declaration.",
         DiagnosticCode::SyntaxError => "Syntax error.",
         DiagnosticCode::UnassignedRead => "Unassigned read.",
@@ -72,6 +112,7 @@ pub fn error_kind(code: DiagnosticCode) -> ErrorKind
     match code {
         DiagnosticCode::BadEscape
         | DiagnosticCode::IllegalCharacter
+        | DiagnosticCode::ProfileNesting
         | DiagnosticCode::SyntaxError
         | DiagnosticCode::UnclosedGroup
         | DiagnosticCode::UnopenedGroup
@@ -84,8 +125,27 @@ pub fn error_kind(code: DiagnosticCode) -> ErrorKind
         | DiagnosticCode::IntegerLiteralOutOfRange
         | DiagnosticCode::InvalidAssignment
         | DiagnosticCode::NotBuilt
+        | DiagnosticCode::ProfileAnnotation
+        | DiagnosticCode::ProfileAssert
+        | DiagnosticCode::ProfileAsync
+        | DiagnosticCode::ProfileCollectionElement
+        | DiagnosticCode::ProfileConditionalUri
+        | DiagnosticCode::ProfileConst
+        | DiagnosticCode::ProfileContinueCase
+        | DiagnosticCode::ProfileCovariant
+        | DiagnosticCode::ProfileDeferred
+        | DiagnosticCode::ProfileDouble
+        | DiagnosticCode::ProfileEnum
+        | DiagnosticCode::ProfileExtension
+        | DiagnosticCode::ProfileExternal
         | DiagnosticCode::ProfileFileLength
         | DiagnosticCode::ProfileIdentifier
+        | DiagnosticCode::ProfileLate
+        | DiagnosticCode::ProfileMixinApplication
+        | DiagnosticCode::ProfileRedirectingFactory
+        | DiagnosticCode::ProfileSymbol
+        | DiagnosticCode::ProfileTripleShift
+        | DiagnosticCode::ProfileTypedef
         | DiagnosticCode::ReferencedBeforeDeclaration
         | DiagnosticCode::UnassignedRead
         | DiagnosticCode::UncheckedNullableUse

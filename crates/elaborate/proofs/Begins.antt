@@ -3,7 +3,7 @@ use Rattle.std.proofs.Common.{◌≡◌, ℕ, ◌+◌, ◌<◌, Bool, true, fals
 use Rattle.std.specs.Option.{option_map_or}
 use Rattle.std.specs.FinMap.{get}
 use Rattle.std.proofs.lemmas.Bool.{cond_both}
-use Rattle.small_tree.specs.Tree.{Tree, Trees, Part, no_more, more, absent, present, name, integer, boolean, binary, declare, assign, eval, print, if_statement, while_statement, block}
+use Rattle.small_tree.specs.Tree.{Tree, Trees, Part, no_more, more, absent, present, name, integer, boolean, binary, parenthesis, declare, assign, eval, print, if_statement, while_statement, block}
 use Rattle.small_tree.specs.Places.{place_of}
 use Rattle.small_tree.specs.declared.places.NodeId.{NodeId}
 use Rattle.small_tree.specs.declared.places.Place.{Place}
@@ -46,6 +46,7 @@ begins_if f (q ∷ a) b c n long some first = first
 -- an expression without points leaves no value held
 held_for-none : (height : ℕ) (tree : Tree) → value_count tree ≡ 0 → held_for height tree ≡ []
 held_for-none height (binary at operator left right) none = absurd (omega arith)
+held_for-none height (parenthesis at inner) none = held_for-none height inner none
 held_for-none height _ none = refl
 
 -- the facts of a model are those of another where no value is held
@@ -108,6 +109,7 @@ value_blank rows names (binary at operator left right) =
     let second = subst (λ (n : FlowModel). IsBlank (evaluate rows names right n)) (sym first.after) (value_blank rows names right) in
     blank_of (form_row rows names (binary at operator left right) nothing)
     (operator_blank rows operator.kind operator.span (place_of right) (compared_local names left right) l (evaluate rows names right l.after) first second)
+value_blank rows names (parenthesis at inner) = blank_of (evaluate rows names inner nothing) (value_blank rows names inner)
 value_blank rows names _ = record { lasts = refl; after = refl }
 
 -- at the first point of an expression that stands there nothing is known
@@ -131,6 +133,7 @@ begins_value rows frame names source (binary at operator left right) height held
     let both : length lefts + length rights ≡ 0 = sym (length-append lefts rights) ∙ no_points in
     facts_same frame nothing (evaluate rows names (binary at operator left right) nothing).after (held_right ++ held_for height_right right) (value_blank rows names (binary at operator left right)).after
     (held_none held_right (held_for height_right right) (held_none held (held_for height left) none (held_for-none height left (omega arith))) (held_for-none height_right right (omega arith))))
+begins_value rows frame names source (parenthesis at inner) height held k next none = begins_value rows frame names source inner height held k next none
 begins_value rows frame names source _ height held k next none = tt
 
 -- nor at the one that has the value of an expression without points

@@ -1,6 +1,6 @@
 -- Points behind points.
-use Rattle.std.proofs.Common.{◌≡◌, ℕ, ◌+◌, List, [], ◌∷◌, ◌++◌, length, refl, ap, sym, ◌∙◌, append_assoc, append-nil, length-append, arith}
-use Rattle.small_tree.specs.Tree.{Tree, binary, name, integer, boolean, null_literal}
+use Rattle.std.proofs.Common.{◌≡◌, ℕ, ◌+◌, ◌≤◌, List, [], ◌∷◌, ◌++◌, length, refl, ap, sym, ◌∙◌, append_assoc, append-nil, length-append, arith}
+use Rattle.small_tree.specs.Tree.{Tree, binary, parenthesis, name, integer, boolean, null_literal}
 use Rattle.small_tree.specs.declared.places.NodeId.{NodeId}
 use Rattle.small_flow.specs.Sub.{no_rows}
 use Rattle.small_flow.specs.Flow.{FlowModel}
@@ -26,4 +26,11 @@ laid_three a b c d p q r e f g = laid_two a c d (p ++ q) r (laid_two a b c p q e
 -- an expression leaves as many values held as it has temporaries for
 pub length-held_for : (h : ℕ) (t : Tree) → length (held_for h t) ≡ holds t
 length-held_for h (binary at operator left right) = refl
+length-held_for h (parenthesis at inner) = length-held_for h inner
 length-held_for h _ = refl
+
+-- that is one value at most
+pub held_one : (h : ℕ) (t : Tree) → length (held_for h t) ≤ 1
+held_one h (binary at operator left right) = omega arith
+held_one h (parenthesis at inner) = held_one h inner
+held_one h _ = omega arith

@@ -4,7 +4,7 @@ use Rattle.std.specs.Prelude.{[]}
 use Rattle.std.specs.Option.{option_map_or}
 use Rattle.std.specs.FinMap.{get}
 use Rattle.std.proofs.lemmas.Bool.{and_parts, cond_both}
-use Rattle.small_tree.specs.Tree.{Tree, name, integer, boolean, null_literal, binary}
+use Rattle.small_tree.specs.Tree.{Tree, name, integer, boolean, null_literal, binary, parenthesis}
 use Rattle.small_tree.specs.Places.{place_of}
 use Rattle.small_tree.specs.declared.places.Place.{Place}
 use Rattle.small_tree.specs.declared.places.Span.{Span}
@@ -22,6 +22,7 @@ use Rattle.judgement.specs.declared.DiagnosticCode.TheVariants.{IntegerLiteralOu
 use Rattle.judgement.specs.Names.{Names}
 use Rattle.judgement.specs.Rows.{Value, exit_by, exits_if_never, of_type, faulty, is_in_range, integer_row, boolean_row, name_row, read_row, where_not_null, operator_row}
 use Rattle.judgement.specs.Judgement.{compared_local, form_row, evaluate}
+use Rattle.judgement.proofs.Exits.{evaluate-parenthesis}
 use Rattle.elaborate.specs.Frame.{Frame}
 use Rattle.elaborate.specs.Forms.{is_expression}
 use Rattle.elaborate.proofs.Claims.{IsGood}
@@ -110,6 +111,8 @@ value_leaves frame names (binary at operator left right) m good form clean =
     let sides = binary_clean frame names at operator left right m good form clean in
     subst (λ (v : Value). Leaves m v) (sym (binary_is frame names at operator left right m good form clean))
     (operator_leaves operator.kind operator.span (place_of right) (compared_local names left right) m (evaluate no_rows names left m) (evaluate no_rows names right m) (after_same frame names right m good forms.1 sides.right_clean))
+value_leaves frame names (parenthesis at inner) m good form clean =
+    subst (λ (v : Value). Leaves m v) (sym (evaluate-parenthesis no_rows names at inner m)) (value_leaves frame names inner m good form clean)
 value_leaves frame names _ m good form clean = absurd cc
 
 -- a branch carries a good model
@@ -178,4 +181,5 @@ value_backs names (binary at operator left right) m =
     let r = evaluate no_rows names right l.after in
     exits_backs m (form_row no_rows names (binary at operator left right) m)
     (operator_backs operator.kind operator.span (place_of right) (compared_local names left right) m l r (λ reached. (value_backs names left m).after ((value_backs names right l.after).after reached)))
+value_backs names (parenthesis at inner) m = exits_backs m (evaluate no_rows names inner m) (value_backs names inner m)
 value_backs names _ m = leaves_backs m (of_type invalid m) (of_type_leaves invalid m)

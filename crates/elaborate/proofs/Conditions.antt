@@ -5,7 +5,7 @@ use Rattle.std.specs.Option.{option_map_or, option_map}
 use Rattle.std.specs.FinMap.{get}
 use Rattle.std.proofs.lemmas.Bool.{and_parts}
 use Rattle.std.proofs.lemmas.List.Elements.{All-nil}
-use Rattle.small_tree.specs.Tree.{Tree, name, integer, boolean, null_literal, binary}
+use Rattle.small_tree.specs.Tree.{Tree, name, integer, boolean, null_literal, binary, parenthesis}
 use Rattle.small_tree.specs.Places.{place_of}
 use Rattle.small_tree.specs.declared.places.Place.{Place}
 use Rattle.small_tree.specs.declared.places.Span.{Span}
@@ -24,6 +24,7 @@ use Rattle.judgement.specs.declared.DiagnosticCode.TheVariants.{ConditionNotBool
 use Rattle.judgement.specs.Names.{Names}
 use Rattle.judgement.specs.Rows.{Value, of_type, faulty, fault_at, is_in_range, read_row, fits, where_not_null, operator_row, condition_faults}
 use Rattle.judgement.specs.Judgement.{is_null_literal, compared_local, form_row, evaluate}
+use Rattle.judgement.proofs.Exits.{evaluate-parenthesis}
 use Rattle.core_ir.specs.PointFacts.{PointFacts}
 use Rattle.core_ir.specs.Program.{Program}
 use Rattle.core_ir.specs.declared.facts.Held.TheVariants.{Own}
@@ -37,12 +38,13 @@ use Rattle.core_check.specs.Tables.{held_as, ways}
 use Rattle.core_check.specs.Accepted.{IsReadable, FitsDeclared, FitsAsked, Leads}
 use Rattle.elaborate.specs.Frame.{Local, Temporary, of_local, Frame, slot_of, value_height}
 use Rattle.elaborate.specs.Known.{fact_for, facts_for}
-use Rattle.elaborate.specs.Layout.{to, slot_named, operand_of, held_for, compared_word, tested_by, tested_word}
+use Rattle.elaborate.specs.Layout.{to, slot_named, operand_of, held_for, word_of, compared_word, tested_by, tested_word}
 use Rattle.elaborate.specs.Forms.{is_expression}
 use Rattle.elaborate.proofs.Claims.{Fits, IsGood, IsOver, IsSafe, GoesOn}
 use Rattle.elaborate.proofs.TypeLaws.{tested_type_fits}
 use Rattle.elaborate.proofs.Purposes.{IsAt, known_at}
 use Rattle.elaborate.proofs.Steps.{implies_with_none, leads_known}
+use Rattle.elaborate.proofs.Words.{compared_meant}
 use Rattle.elaborate.proofs.Judged.{Reads, value_stays, after_same, binary_clean, binary_is, name_reads, both_empty, value_simple, fits_below}
 use Rattle.elaborate.proofs.Operands.{IsReady, known_local, scope_slot, name_ready, operand_ready}
 use Rattle.elaborate.proofs.Operators.{all_one, all_two}
@@ -70,46 +72,51 @@ tests_read names m after word ty reads is = record {
   is_false = is;
 }
 
--- of two sides that have no word, none is found
-some_word : (b : Bool) (word : ℕ) → (let nothing : Option ℕ = None in if b then nothing else nothing) ≡ Some word → ⊥
-some_word true word is = cc
-some_word false word is = cc
+-- an expression that has a word reads a local, where nothing is wrong
+word_reads : (names : Names) (tree : Tree) (m : FlowModel) (word : ℕ) → word_of tree ≡ Some word → (evaluate no_rows names tree m).faults ≡ [] → Reads names m word (evaluate no_rows names tree m).ty
+word_reads names (name at w) m word is clean =
+    let same : w ≡ word = cc in
+    subst (λ (x : ℕ). Reads names m x (evaluate no_rows names (name at w) m).ty) same (name_reads names at w m clean)
+word_reads names (parenthesis at inner) m word is clean = word_reads names inner m word is clean
+word_reads names _ m word is clean = absurd cc
 
--- nor a local
-no_local : (b : Bool) → (let nothing : Option LocalId = None in if b then nothing else nothing) ≡ None
-no_local true = refl
-no_local false = refl
+-- a comparison with null reads a local, on either side
+compared_reads : (names : Names) (left right : Tree) (m : FlowModel) (word : ℕ) (b c : Bool) → (if b then word_of left else (if c then word_of right else None)) ≡ Some word
+    → (evaluate no_rows names left m).faults ≡ [] → (evaluate no_rows names right m).faults ≡ [] → (ty : Ty) × Reads names m word ty
+compared_reads names left right m word true c is left_clean right_clean = (_, word_reads names left m word is left_clean)
+compared_reads names left right m word false true is left_clean right_clean = (_, word_reads names right m word is right_clean)
+compared_reads names left right m word false false is left_clean right_clean = absurd cc
 
--- a comparison of a local with null, on either side
-tests_compared : (frame : Frame) (names : Names) (left right : Tree) (m : FlowModel) (word : ℕ) → IsGood frame m → compared_word left right ≡ Some word → (evaluate no_rows names left m).faults ≡ [] → (evaluate no_rows names right m).faults ≡ []
+-- so it tests that local
+tests_compared : (frame : Frame) (names : Names) (left right : Tree) (m : FlowModel) (word : ℕ) → IsGood frame m → IsTrue (is_expression right) → compared_word left right ≡ Some word → (evaluate no_rows names left m).faults ≡ [] → (evaluate no_rows names right m).faults ≡ []
     → Tests names m word (where_not_null (compared_local names left right) (evaluate no_rows names right m).after) (evaluate no_rows names right m).after
-tests_compared frame names (name at w) (null_literal at_null) m word good is left_clean right_clean =
-    let same : w ≡ word = cc in
-    subst (λ (x : ℕ). Tests names m x (where_not_null (get names w) m) m) same (tests_read names m m w _ (name_reads names at w m left_clean) refl)
-tests_compared frame names (null_literal at_null) (name at w) m word good is left_clean right_clean =
-    let same : w ≡ word = cc in
-    let after = (evaluate no_rows names (name at w) m).after in
-    subst (λ (x : ℕ). Tests names m x (where_not_null (get names w) after) after) same
-    (tests_read names m after w _ (name_reads names at w m right_clean) (after_same frame names (name at w) m good refl right_clean))
-tests_compared frame names left right m word good is left_clean right_clean = absurd (some_word (is_null_literal right) word is)
+tests_compared frame names left right m word good form is left_clean right_clean =
+    let after = (evaluate no_rows names right m).after in
+    let reads = compared_reads names left right m word (is_null_literal right) (is_null_literal left) is left_clean right_clean in
+    let named : compared_local names left right ≡ get names word = compared_meant names left right ∙ ap (λ (w : Option ℕ). option_map_or (get names) w None) is in
+    subst (λ (found : Option LocalId). Tests names m word (where_not_null found after) after) (sym named)
+    (tests_read names m after word reads.0 reads.1 (after_same frame names right m good form right_clean))
 
 -- an operator that tests a word
-tests_operator : (frame : Frame) (names : Names) (operator : OperatorKind) (span : Span) (at : Place) (left right : Tree) (m : FlowModel) (word : ℕ) → IsGood frame m → tested_by operator left right ≡ Some word
+tests_operator : (frame : Frame) (names : Names) (operator : OperatorKind) (span : Span) (at : Place) (left right : Tree) (m : FlowModel) (word : ℕ) → IsGood frame m → IsTrue (is_expression right) → tested_by operator left right ≡ Some word
     → (operator_row no_rows operator span at (compared_local names left right) (evaluate no_rows names left m) (evaluate no_rows names right m)).faults ≡ []
     → Tests names m word (operator_row no_rows operator span at (compared_local names left right) (evaluate no_rows names left m) (evaluate no_rows names right m)).when_true
     (operator_row no_rows operator span at (compared_local names left right) (evaluate no_rows names left m) (evaluate no_rows names right m)).when_false
-tests_operator frame names Plus span at left right m word good is clean = absurd cc
-tests_operator frame names Less span at left right m word good is clean = absurd cc
-tests_operator frame names NotEqual span at left right m word good is clean =
-    let both = both_empty (evaluate no_rows names left m).faults (evaluate no_rows names right m).faults clean in tests_compared frame names left right m word good is both.0 both.1
+tests_operator frame names Plus span at left right m word good form is clean = absurd cc
+tests_operator frame names Less span at left right m word good form is clean = absurd cc
+tests_operator frame names NotEqual span at left right m word good form is clean =
+    let both = both_empty (evaluate no_rows names left m).faults (evaluate no_rows names right m).faults clean in tests_compared frame names left right m word good form is both.0 both.1
 
 -- a condition that tests a word
 pub condition_tests : (frame : Frame) (names : Names) (tree : Tree) (m : FlowModel) (word : ℕ) → IsGood frame m → IsTrue (is_expression tree) → tested_word tree ≡ Some word → (evaluate no_rows names tree m).faults ≡ []
     → Tests names m word (evaluate no_rows names tree m).when_true (evaluate no_rows names tree m).when_false
 condition_tests frame names (binary at operator left right) m word good form is clean =
     let row = binary_is frame names at operator left right m good form clean in
-    let tests = tests_operator frame names operator.kind operator.span (place_of right) left right m word good is (sym (ap (λ (v : Value). v.faults) row) ∙ clean) in
+    let forms = and_parts (is_expression left) (is_expression right) form in
+    let tests = tests_operator frame names operator.kind operator.span (place_of right) left right m word good forms.1 is (sym (ap (λ (v : Value). v.faults) row) ∙ clean) in
     subst (λ (v : Value). Tests names m word v.when_true v.when_false) (sym row) tests
+condition_tests frame names (parenthesis at inner) m word good form is clean =
+    subst (λ (v : Value). Tests names m word v.when_true v.when_false) (sym (evaluate-parenthesis no_rows names at inner m)) (condition_tests frame names inner m word good form is clean)
 condition_tests frame names _ m word good form is clean = absurd cc
 
 -- where nothing is known beside what was before, whether the condition is true or false
@@ -138,9 +145,7 @@ even_integer at m false = (refl, refl)
 
 -- what tests no word compares no local
 compared_none : (names : Names) (left right : Tree) → compared_word left right ≡ None → compared_local names left right ≡ None
-compared_none names (name at word) (null_literal at_null) none = absurd cc
-compared_none names (null_literal at_null) (name at word) none = absurd cc
-compared_none names left right none = no_local (is_null_literal right)
+compared_none names left right none = compared_meant names left right ∙ ap (λ (w : Option ℕ). option_map_or (get names) w None) none
 
 -- an operator that tests no word
 even_operator : (names : Names) (operator : OperatorKind) (span : Span) (at : Place) (left right : Tree) (m : FlowModel) (l r : Value) → tested_by operator left right ≡ None → r.after ≡ m → IsEven m (operator_row no_rows operator span at (compared_local names left right) l r)
@@ -187,6 +192,10 @@ module _ (p : Program) (frame : Frame) (names : Names) (m : FlowModel) (held : L
   branch_ways (null_literal at) good form clean none goes_true goes_false = two_ways_of (null_literal at) refl (refl, refl) goes_true goes_false
   branch_ways (binary at operator left right) good form clean none goes_true goes_false =
       two_ways (evaluate no_rows names (binary at operator left right) m) (even_binary frame names at operator left right m good form clean none) goes_true goes_false
+  branch_ways (parenthesis at inner) good form clean none goes_true goes_false =
+      let same = evaluate-parenthesis no_rows names at inner m in
+      branch_ways inner good form clean none (subst (λ (v : Value). GoesOn p frame v.when_true [] when_true) same goes_true)
+      (subst (λ (v : Value). GoesOn p frame v.when_false [] when_false) same goes_false)
   branch_ways _ good form clean none goes_true goes_false = absurd cc
 
 -- a condition in which nothing is wrong is a bool

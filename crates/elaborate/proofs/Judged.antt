@@ -4,7 +4,7 @@ use Rattle.std.specs.Prelude.{IsTrue, ◌||◌}
 use Rattle.std.specs.Option.{option_map_or}
 use Rattle.std.specs.FinMap.{get}
 use Rattle.std.proofs.lemmas.Bool.{and_parts}
-use Rattle.small_tree.specs.Tree.{Tree, name, integer, boolean, null_literal, binary}
+use Rattle.small_tree.specs.Tree.{Tree, name, integer, boolean, null_literal, binary, parenthesis}
 use Rattle.small_tree.specs.Places.{place_of}
 use Rattle.small_tree.specs.declared.places.Place.{Place}
 use Rattle.small_tree.specs.declared.places.Span.{Span}
@@ -230,6 +230,9 @@ value_stays frame names (null_literal at) m good form clean = stays_of names (nu
 value_stays frame names (binary at operator left right) m good form clean =
     let forms = and_parts (is_expression left) (is_expression right) form in
     (sides_of names at operator left right m clean (λ left_clean. value_stays frame names left m good forms.0 left_clean) (λ right_clean. value_stays frame names right m good forms.1 right_clean)).stays
+value_stays frame names (parenthesis at inner) m good form clean =
+    let same = value_stays frame names inner m good form clean in
+    stays_of names (parenthesis at inner) m same.simple same.after
 value_stays frame names _ m good form clean = absurd cc
 
 -- its type

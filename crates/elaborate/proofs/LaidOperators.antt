@@ -1,6 +1,6 @@
--- Operators: they are laid where their sides are, and then their own point.
+-- Operators: they are laid where their sides are, and then their own point. Parentheses are laid where the expression in them is.
 use Rattle.std.proofs.Common.{◌≡◌, ℕ, ◌+◌, List, [], ◌∷◌, ◌++◌, length, Option, Some, refl, ap, sym, ◌∙◌, append_assoc, length-append, arith}
-use Rattle.small_tree.specs.Tree.{Tree, binary}
+use Rattle.small_tree.specs.Tree.{Tree, binary, parenthesis}
 use Rattle.small_tree.specs.declared.places.NodeId.{NodeId}
 use Rattle.small_tree.specs.declared.places.Place.{Place}
 use Rattle.small_tree.specs.declared.nodes.Operator.{Operator}
@@ -24,7 +24,7 @@ use Rattle.elaborate.specs.Walk.{LaysValue, LaidValue}
 use Rattle.elaborate.proofs.Behind.{laid_three, length-held_for}
 
 -- the nodes of two sides, the operator's own, and others behind it
-sides_behind : (left right : List NodeFacts) (own : NodeFacts) (rest : List NodeFacts) → ((left ++ right) ++ own ∷ []) ++ rest ≡ left ++ (right ++ own ∷ rest)
+pub sides_behind : (left right : List NodeFacts) (own : NodeFacts) (rest : List NodeFacts) → ((left ++ right) ++ own ∷ []) ++ rest ≡ left ++ (right ++ own ∷ rest)
 sides_behind left right own rest = append_assoc (left ++ right) (own ∷ []) rest ∙ append_assoc left right (own ∷ rest)
 
 module _ (source : Option NodeId) (at : Place) (operator : Operator) (left right : Tree) (next : ℕ) (held0 held1 held2 : List Temporary) where
@@ -88,3 +88,16 @@ module _ (source : Option NodeId) (at : Place) (operator : Operator) (left right
         node_is = node_is;
         rest_is = rest_is;
       }
+
+-- an expression in parentheses is laid as it is without them, and then their own node is read
+pub lays_parenthesis : (b0 b1 : Laid) (held : List Temporary) (n0 n1 n2 : List NodeFacts) (source : Option NodeId) (at : Place) (inner : Tree) (next : ℕ) (a : Operand) (x node : NodeFacts)
+    → LaidValue b0 b1 held n0 n1 source inner next a x
+    → n1 ≡ node ∷ n2
+    → LaidValue b0 b1 held n0 n2 source (parenthesis at inner) next a node
+lays_parenthesis b0 b1 held n0 n1 n2 source at inner next a x node first taken = λ names m rest is.
+    let said = said_of_expression no_rows names (parenthesis at inner) m in
+    let l = first names m (said ∷ rest) (is ∙ append_assoc (typed_expression no_rows names inner m) (said ∷ []) rest) in
+    let both : node ∷ n2 ≡ said ∷ rest = sym taken ∙ l.rest_is in
+    let node_is : node ≡ said = cc in
+    let rest_is : n2 ≡ rest = cc in
+    record { points = l.points; operand_is = l.operand_is; node_is = node_is; rest_is = rest_is }

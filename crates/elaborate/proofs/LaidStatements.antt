@@ -2,7 +2,7 @@
 use Rattle.std.proofs.Common.{◌≡◌, ℕ, ◌+◌, List, [], ◌∷◌, ◌++◌, length, Option, Some, None, slice_get, refl, ap, sym, ◌∙◌, append_assoc, zero-add}
 use Rattle.std.proofs.lemmas.List.{length_push}
 use Rattle.std.specs.FinMap.{empty}
-use Rattle.small_tree.specs.Tree.{Tree, Trees, binary, name, integer, boolean, null_literal, declare, while_statement, block, more, no_more, present}
+use Rattle.small_tree.specs.Tree.{Tree, Trees, binary, parenthesis, name, integer, boolean, null_literal, declare, while_statement, block, more, no_more, present}
 use Rattle.small_tree.specs.declared.places.Place.{Place}
 use Rattle.small_tree.specs.declared.nodes.Name.{Name}
 use Rattle.small_flow.specs.Sub.{no_rows}
@@ -59,6 +59,10 @@ begins names (binary at operator left right) m =
     let rights = typed_expression no_rows names right (evaluate no_rows names left m).after in
     let own = said_of_expression no_rows names (binary at operator left right) m ∷ [] in
     record { first = l.first; others = (l.others ++ rights) ++ own; nodes_are = ap (λ (ns : List NodeFacts). (ns ++ rights) ++ own) l.nodes_are; before_is = l.before_is }
+begins names (parenthesis at inner) m =
+    let i = begins names inner m in
+    let own = said_of_expression no_rows names (parenthesis at inner) m ∷ [] in
+    record { first = i.first; others = i.others ++ own; nodes_are = ap (λ (ns : List NodeFacts). ns ++ own) i.nodes_are; before_is = i.before_is }
 begins names t m = record { first = said_of_expression no_rows names t m; others = []; nodes_are = refl; before_is = refl }
 
 -- the nodes of a condition and a body, the loop's own, and others behind it

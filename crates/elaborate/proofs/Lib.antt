@@ -11,6 +11,7 @@ pub mod TypeLaws
 pub mod Purposes
 pub mod Steps
 pub mod Points
+pub mod Words
 pub mod Judged
 pub mod Operands
 pub mod Operators

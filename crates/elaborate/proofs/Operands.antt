@@ -5,7 +5,7 @@ use Rattle.std.specs.List.{list_any}
 use Rattle.std.specs.Option.{option_map_or}
 use Rattle.std.proofs.lemmas.Bool.{and_from, or_left, or_right}
 use Rattle.std.proofs.lemmas.List.Folds.{list_any-append}
-use Rattle.small_tree.specs.Tree.{Tree, name, integer, boolean, null_literal, binary}
+use Rattle.small_tree.specs.Tree.{Tree, name, integer, boolean, null_literal, binary, parenthesis}
 use Rattle.small_flow.specs.Ty.{Ty, same_type}
 use Rattle.small_flow.specs.Sub.{no_rows}
 use Rattle.small_flow.specs.Flow.{FlowModel, facts_of, current_of}
@@ -101,4 +101,6 @@ operand_ready p frame names (binary at operator left right) m height held over g
     slot_ready p frame m held (slot_for frame operator.kind height) (of_temporary t) _ over
     (slot_for_operator frame operator.kind height (operator_room frame height (max (value_height left) (holds left + value_height right)) room))
     (keeps t (or_left (same_temporary t t) false (same_temporary-refl t))) (sym of_sides.typed)
+operand_ready p frame names (parenthesis at inner) m height held over good form clean room keeps =
+    operand_ready p frame names inner m height held over good form clean room keeps
 operand_ready p frame names _ m height held over good form clean room keeps = absurd cc

@@ -1,6 +1,6 @@
 -- How many nodes a typed tree has.
 use Rattle.std.proofs.Common.{◌≡◌, ℕ, ◌+◌, List, [], ◌∷◌, ◌++◌, length, length-append, refl, ap, sym, ◌∙◌, arith}
-use Rattle.small_tree.specs.Tree.{Tree, Trees, Part, no_more, more, absent, present, binary, declare, assign, eval, print, if_statement, while_statement, block}
+use Rattle.small_tree.specs.Tree.{Tree, Trees, Part, no_more, more, absent, present, binary, parenthesis, declare, assign, eval, print, if_statement, while_statement, block}
 use Rattle.small_flow.specs.Sub.{no_rows}
 use Rattle.small_flow.specs.Flow.{FlowModel}
 use Rattle.judgement.specs.Names.{Names, names_within}
@@ -22,6 +22,8 @@ length-typed_expression names (binary at operator left right) m =
     one_behind (typed_expression no_rows names left m ++ typed_expression no_rows names right after) (said_of_expression no_rows names (binary at operator left right) m)
     (said_in_value left + said_in_value right)
     (omega (arith, length-append (typed_expression no_rows names left m) (typed_expression no_rows names right after), length-typed_expression names left m, length-typed_expression names right after))
+length-typed_expression names (parenthesis at inner) m =
+    one_behind (typed_expression no_rows names inner m) (said_of_expression no_rows names (parenthesis at inner) m) (said_in_value inner) (length-typed_expression names inner m)
 length-typed_expression names _ m = refl
 
 -- so has an initializer

@@ -1,6 +1,6 @@
 -- The number of nodes of a list's trees, and what it bounds.
 use Rattle.std.proofs.Common.{◌≡◌, Bool, true, false, if◌then◌else◌, is_some, ℕ, zero, suc, ◌+◌, ◌<◌, ◌≤◌, List, [], ◌∷◌, ◌++◌, length, length-append, get_or, drop, refl, ap, sym, ◌∙◌, subst, arith, add-one, drop-cons}
-use Rattle.small_tree.specs.Tree.{Tree, Trees, Part, no_more, more, absent, present, trees_of, name, integer, boolean, null_literal, binary, int_type, bool_type, declare, assign, eval, print, if_statement, while_statement, block, function, unit}
+use Rattle.small_tree.specs.Tree.{Tree, Trees, Part, no_more, more, absent, present, trees_of, name, integer, boolean, null_literal, binary, parenthesis, int_type, bool_type, declare, assign, eval, print, if_statement, while_statement, block, function, unit}
 use Rattle.small_tree.specs.Numbers.{nodes_in, nodes_in_all, nodes_in_part}
 use Rattle.elaborate.specs.Layout.{value_count, tested_word, condition_count, initial_count, count, count_all, count_part}
 use Rattle.elaborate.specs.Frame.{locals_in, locals_in_all, locals_in_part}
@@ -45,6 +45,7 @@ nodes_in-some (integer at literal) = omega arith
 nodes_in-some (boolean at value) = omega arith
 nodes_in-some (null_literal at) = omega arith
 nodes_in-some (binary at operator left right) = omega arith
+nodes_in-some (parenthesis at inner) = omega arith
 nodes_in-some (int_type at nullable) = omega arith
 nodes_in-some (bool_type at) = omega arith
 nodes_in-some (declare at declared variable initial) = omega arith
@@ -65,6 +66,7 @@ cond_below false n limit h some = h
 -- an expression has fewer points than nodes
 value_count-few : (t : Tree) → value_count t + 1 ≤ nodes_in t
 value_count-few (binary at operator left right) = omega (arith, value_count-few left, value_count-few right)
+value_count-few (parenthesis at inner) = omega (arith, value_count-few inner)
 value_count-few (name at word) = omega arith
 value_count-few (integer at literal) = omega arith
 value_count-few (boolean at value) = omega arith

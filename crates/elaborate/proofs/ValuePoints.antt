@@ -2,7 +2,7 @@
 use Rattle.std.proofs.Common.{◌≡◌, ◌≢◌, ℕ, ◌+◌, ◌≤◌, max, List, [], ◌∷◌, ◌++◌, length, Option, Some, refl, sym, ap, ap₂, subst, ◌∙◌, inr, ⊎_elim, arith, append_assoc, append-nil, length-append, le_refl, ne_eqb}
 use Rattle.std.specs.Prelude.{IsTrue, nat_eq}
 use Rattle.std.proofs.lemmas.Bool.{and_parts, cases_eq, cond-false}
-use Rattle.small_tree.specs.Tree.{Tree, name, integer, boolean, null_literal, binary}
+use Rattle.small_tree.specs.Tree.{Tree, name, integer, boolean, null_literal, binary, parenthesis}
 use Rattle.small_tree.specs.declared.places.Place.{Place}
 use Rattle.small_tree.specs.declared.places.NodeId.{NodeId}
 use Rattle.small_tree.specs.declared.nodes.Operator.{Operator}
@@ -40,6 +40,7 @@ length-value_points rows frame names source (binary at operator left right) m he
     let first = length-value_points rows frame names source left m height held k (k + value_count left) in
     let second = length-value_points rows frame names source right (evaluate rows names left m).after (height + holds left) (held ++ held_for height left) (k + value_count left) (k + value_count left + value_count right) in
     length-append (xs ++ ys) _ ∙ ap (λ (n : ℕ). n + 1) (length-append xs ys ∙ ap₂ (λ (a b : ℕ). a + b) first second)
+length-value_points rows frame names source (parenthesis at inner) m height held k next = length-value_points rows frame names source inner m height held k next
 length-value_points rows frame names source _ m height held k next = refl
 
 -- the point of an operator
@@ -166,6 +167,8 @@ points_sound p frame names source (binary at operator left right) m height held 
     (room_right p frame names source at operator left right m height held k next over good form clean c room) has_right (inr (le_refl (k + value_count left + value_count right))) goes_right)
     (λ has_left goes_left. points_sound p frame names source left m height held k (k + value_count left) over good forms.0 c.left_clean
     (room_left p frame names source at operator left right m height held k next over good form clean c room) has_left (inr (le_refl (k + value_count left))) goes_left)
+points_sound p frame names source (parenthesis at inner) m height held k next over good form clean room has beyond goes =
+    points_sound p frame names source inner m height held k next over good form clean room has beyond goes
 points_sound p frame names source _ m height held k next over good form clean room has beyond goes = absurd cc
 
 -- the point at which an expression's value is ready is safe, so are all points with it

@@ -1,6 +1,6 @@
 -- Where expressions, written types, blocks and statements stand.
 use Rattle.std.specs.Prelude.{Bool, true, false, ◌&&◌}
-use Rattle.small_tree.specs.Tree.{Tree, Trees, Part, no_more, more, absent, present, name, integer, boolean, null_literal, binary, int_type, bool_type, declare, assign, eval, print, if_statement, while_statement, block, function, unit}
+use Rattle.small_tree.specs.Tree.{Tree, Trees, Part, no_more, more, absent, present, name, integer, boolean, null_literal, binary, parenthesis, int_type, bool_type, declare, assign, eval, print, if_statement, while_statement, block, function, unit}
 
 -- whether a tree is an expression, whose operands are expressions
 abbrev pub is_expression : Tree → Bool
@@ -9,6 +9,7 @@ is_expression (integer at literal) = true
 is_expression (boolean at value) = true
 is_expression (null_literal at) = true
 is_expression (binary at operator left right) = is_expression left && is_expression right
+is_expression (parenthesis at inner) = is_expression inner
 is_expression (int_type at nullable) = false
 is_expression (bool_type at) = false
 is_expression (declare at declared variable initial) = false
@@ -35,6 +36,7 @@ is_written_type (integer at literal) = false
 is_written_type (boolean at value) = false
 is_written_type (null_literal at) = false
 is_written_type (binary at operator left right) = false
+is_written_type (parenthesis at inner) = false
 is_written_type (declare at declared variable initial) = false
 is_written_type (assign at target value) = false
 is_written_type (eval at value) = false
@@ -53,6 +55,7 @@ is_block (integer at literal) = false
 is_block (boolean at value) = false
 is_block (null_literal at) = false
 is_block (binary at operator left right) = false
+is_block (parenthesis at inner) = false
 is_block (int_type at nullable) = false
 is_block (bool_type at) = false
 is_block (declare at declared variable initial) = false
@@ -79,6 +82,7 @@ abbrev mutual
   is_statement (boolean at value) = false
   is_statement (null_literal at) = false
   is_statement (binary at operator left right) = false
+  is_statement (parenthesis at inner) = false
   is_statement (int_type at nullable) = false
   is_statement (bool_type at) = false
   is_statement (function at body) = false
@@ -104,6 +108,7 @@ is_program (integer at literal) = false
 is_program (boolean at value) = false
 is_program (null_literal at) = false
 is_program (binary at operator left right) = false
+is_program (parenthesis at inner) = false
 is_program (int_type at nullable) = false
 is_program (bool_type at) = false
 is_program (declare at declared variable initial) = false

@@ -1,7 +1,7 @@
 -- The slots of a program: one for each local, and temporaries for the values of operators.
 use Rattle.std.specs.Prelude.{ℕ, ◌+◌, max, Bool, List, [], ◌∷◌, ◌++◌, map, length, nat_eq}
 use Rattle.std.specs.List.{range_with_len, position_or_len}
-use Rattle.small_tree.specs.Tree.{Tree, Trees, Part, no_more, more, absent, present, name, integer, boolean, null_literal, binary, int_type, bool_type, declare, assign, eval, print, if_statement, while_statement, block, function, unit}
+use Rattle.small_tree.specs.Tree.{Tree, Trees, Part, no_more, more, absent, present, name, integer, boolean, null_literal, binary, parenthesis, int_type, bool_type, declare, assign, eval, print, if_statement, while_statement, block, function, unit}
 use Rattle.small_tree.specs.declared.nodes.OperatorKind.{OperatorKind}
 use Rattle.small_tree.specs.declared.nodes.OperatorKind.TheVariants.{Plus, Less, NotEqual}
 use Rattle.small_flow.specs.Ty.{Ty, int, bool}
@@ -44,6 +44,7 @@ abbrev mutual
   locals_in (boolean at value) = []
   locals_in (null_literal at) = []
   locals_in (binary at operator left right) = []
+  locals_in (parenthesis at inner) = []
   locals_in (int_type at nullable) = []
   locals_in (bool_type at) = []
   locals_in (assign at target value) = []
@@ -63,6 +64,7 @@ abbrev mutual
 -- how many values an expression leaves held: that of an operator is held in a temporary, that of any other expression isn't
 abbrev pub holds : Tree → ℕ
 holds (binary at operator left right) = 1
+holds (parenthesis at inner) = holds inner
 holds (name at word) = 0
 holds (integer at literal) = 0
 holds (boolean at value) = 0
@@ -82,6 +84,7 @@ holds (unit at main) = 0
 -- how many values an expression holds at once at most: the right side is evaluated while that of the left side is held
 abbrev pub value_height : Tree → ℕ
 value_height (binary at operator left right) = max 1 (max (value_height left) (holds left + value_height right))
+value_height (parenthesis at inner) = value_height inner
 value_height (name at word) = 0
 value_height (integer at literal) = 0
 value_height (boolean at value) = 0
@@ -120,6 +123,7 @@ abbrev mutual
   height_of (boolean at value) = 0
   height_of (null_literal at) = 0
   height_of (binary at operator left right) = 0
+  height_of (parenthesis at inner) = 0
   height_of (int_type at nullable) = 0
   height_of (bool_type at) = 0
 

@@ -4,7 +4,7 @@ use Rattle.std.specs.Int.{cast_signed}
 use Rattle.std.specs.Option.{option_map_or}
 use Rattle.std.specs.FinMap.{empty, get}
 use mir.Syntax.{w64}
-use Rattle.small_tree.specs.Tree.{Tree, Trees, Part, no_more, more, absent, present, name, integer, boolean, null_literal, binary, int_type, bool_type, declare, assign, eval, print, if_statement, while_statement, block, function, unit}
+use Rattle.small_tree.specs.Tree.{Tree, Trees, Part, no_more, more, absent, present, name, integer, boolean, null_literal, binary, parenthesis, int_type, bool_type, declare, assign, eval, print, if_statement, while_statement, block, function, unit}
 use Rattle.small_tree.specs.declared.places.NodeId.{NodeId}
 use Rattle.small_tree.specs.declared.nodes.OperatorKind.{OperatorKind}
 use Rattle.small_tree.specs.declared.nodes.OperatorKind.TheVariants.{Plus, Less as LessThan, NotEqual as Unequal}
@@ -47,6 +47,7 @@ operand_of frame names height (integer at literal) = Constant (Integer (cast_sig
 operand_of frame names height (boolean at value) = Constant (Boolean value)
 operand_of frame names height (null_literal at) = Constant Null
 operand_of frame names height (binary at operator left right) = Slot (slot_for frame operator.kind height)
+operand_of frame names height (parenthesis at inner) = operand_of frame names height inner
 operand_of frame names height (int_type at nullable) = Constant Null
 operand_of frame names height (bool_type at) = Constant Null
 operand_of frame names height (declare at declared variable initial) = Constant Null
@@ -62,6 +63,7 @@ operand_of frame names height (unit at main) = Constant Null
 -- the temporary that then holds it, if one does
 abbrev pub held_for : ℕ → Tree → List Temporary
 held_for height (binary at operator left right) = temporary_for operator.kind height ∷ []
+held_for height (parenthesis at inner) = held_for height inner
 held_for height (name at word) = []
 held_for height (integer at literal) = []
 held_for height (boolean at value) = []
@@ -87,6 +89,7 @@ operator_term Unequal target left right next = NotEqual target left right next
 -- how many points an expression has: one for each operator
 abbrev pub value_count : Tree → ℕ
 value_count (binary at operator left right) = value_count left + value_count right + 1
+value_count (parenthesis at inner) = value_count inner
 value_count (name at word) = 0
 value_count (integer at literal) = 0
 value_count (boolean at value) = 0
@@ -103,7 +106,7 @@ value_count (block at statements) = 0
 value_count (function at body) = 0
 value_count (unit at main) = 0
 
--- The points of an expression that begins at the number k, is evaluated while these values are held, as many as the height says, and goes on to a point with its value: of an operator those of its left side, those of its right side, and one at which both values are ready.
+-- The points of an expression that begins at the number k, is evaluated while these values are held, as many as the height says, and goes on to a point with its value: of an operator those of its left side, those of its right side, and one at which both values are ready. Parentheses have no point of their own.
 abbrev pub value_points : Rows → Frame → Names → (source : Option NodeId) → Tree → FlowModel → (height : ℕ) → (held : List Temporary) → (k next : ℕ) → List LaidPoint
 value_points rows frame names source (binary at operator left right) m height held k next =
     value_points rows frame names source left m height held k (k + value_count left)
@@ -113,6 +116,7 @@ value_points rows frame names source (binary at operator left right) m height he
       facts = facts_for frame (evaluate rows names (binary at operator left right) m).after (held ++ held_for height left ++ held_for (height + holds left) right);
       term = operator_term operator.kind (slot_for frame operator.kind height) (operand_of frame names height left) (operand_of frame names (height + holds left) right) (to next);
     } ∷ []
+value_points rows frame names source (parenthesis at inner) m height held k next = value_points rows frame names source inner m height held k next
 value_points rows frame names source (name at word) m height held k next = []
 value_points rows frame names source (integer at literal) m height held k next = []
 value_points rows frame names source (boolean at value) m height held k next = []
@@ -137,13 +141,14 @@ with_value frame at value m term = record { source = Some at; facts = facts_for 
 abbrev pub point : Frame → Option NodeId → FlowModel → Term → List LaidPoint
 point frame source m term = record { source = source; facts = facts_for frame m []; term = term } ∷ []
 
--- the word of an expression that is a name; other forms are none
+-- the word of an expression that is a name, in parentheses or not; other forms are none
 abbrev pub word_of : Tree → Option ℕ
 word_of (name at word) = Some word
 word_of (integer at literal) = None
 word_of (boolean at value) = None
 word_of (null_literal at) = None
 word_of (binary at operator left right) = None
+word_of (parenthesis at inner) = word_of inner
 word_of (int_type at nullable) = None
 word_of (bool_type at) = None
 word_of (declare at declared variable initial) = None
@@ -168,9 +173,10 @@ tested_by Unequal left right = compared_word left right
 tested_by Plus left right = None
 tested_by LessThan left right = None
 
--- the word of a local that a condition tests for not being null
+-- the word of a local that a condition tests for not being null, in parentheses or not
 abbrev pub tested_word : Tree → Option ℕ
 tested_word (binary at operator left right) = tested_by operator.kind left right
+tested_word (parenthesis at inner) = tested_word inner
 tested_word (name at word) = None
 tested_word (integer at literal) = None
 tested_word (boolean at value) = None
@@ -220,6 +226,7 @@ abbrev mutual
   count (boolean at value) = 0
   count (null_literal at) = 0
   count (binary at operator left right) = 0
+  count (parenthesis at inner) = 0
   count (int_type at nullable) = 0
   count (bool_type at) = 0
   count (function at body) = 0
@@ -278,6 +285,7 @@ abbrev mutual
   statement_points rows frame names (boolean at value) m k next = []
   statement_points rows frame names (null_literal at) m k next = []
   statement_points rows frame names (binary at operator left right) m k next = []
+  statement_points rows frame names (parenthesis at inner) m k next = []
   statement_points rows frame names (int_type at nullable) m k next = []
   statement_points rows frame names (bool_type at) m k next = []
   statement_points rows frame names (function at body) m k next = []
@@ -310,6 +318,7 @@ program_points rows (integer at literal) = []
 program_points rows (boolean at value) = []
 program_points rows (null_literal at) = []
 program_points rows (binary at operator left right) = []
+program_points rows (parenthesis at inner) = []
 program_points rows (int_type at nullable) = []
 program_points rows (bool_type at) = []
 program_points rows (declare at declared variable initial) = []

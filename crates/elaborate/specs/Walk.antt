@@ -1,7 +1,7 @@
 -- What the code does with the nodes of a typed tree: it reads those of an expression, a statement or a block, and lays its points.
 use Rattle.std.specs.Prelude.{◌≡◌, ℕ, ◌+◌, List, [], ◌++◌, length, Option}
 use Rattle.std.specs.FinMap.{empty}
-use Rattle.small_tree.specs.Tree.{Tree, Trees, Part, no_more, more, absent, present, name, integer, boolean, null_literal, binary, int_type, bool_type, declare, assign, eval, print, if_statement, while_statement, block, function, unit}
+use Rattle.small_tree.specs.Tree.{Tree, Trees, Part, no_more, more, absent, present, name, integer, boolean, null_literal, binary, parenthesis, int_type, bool_type, declare, assign, eval, print, if_statement, while_statement, block, function, unit}
 use Rattle.small_tree.specs.declared.places.NodeId.{NodeId}
 use Rattle.small_flow.specs.Sub.{no_rows}
 use Rattle.small_flow.specs.Flow.{FlowModel, start_of}
@@ -16,6 +16,7 @@ use Rattle.elaborate.specs.Laid.{Laid, laid_behind}
 -- of how many nodes of an expression something is said: of each
 abbrev pub said_in_value : Tree → ℕ
 said_in_value (binary at operator left right) = said_in_value left + said_in_value right + 1
+said_in_value (parenthesis at inner) = said_in_value inner + 1
 said_in_value (name at word) = 1
 said_in_value (integer at literal) = 1
 said_in_value (boolean at value) = 1
@@ -52,6 +53,7 @@ abbrev mutual
   said_in (boolean at value) = 0
   said_in (null_literal at) = 0
   said_in (binary at operator left right) = 0
+  said_in (parenthesis at inner) = 0
   said_in (int_type at nullable) = 0
   said_in (bool_type at) = 0
   said_in (function at body) = 0
@@ -66,6 +68,12 @@ abbrev mutual
   pub said_in_part : Part → ℕ
   said_in_part absent = 0
   said_in_part (present tree) = said_in tree
+
+-- of whatever names and model the nodes before are those of an expression, they were read, and this is what is said of itself
+abbrev pub TakesValue : (nodes left : List NodeFacts) (value : Tree) (node : NodeFacts) → Type 0
+TakesValue nodes left value node =
+    (names : Names) (m : FlowModel) (rest : List NodeFacts)
+    → nodes ≡ typed_expression no_rows names value m ++ rest → (node ≡ said_of_expression no_rows names value m) × (left ≡ rest)
 
 -- an expression was laid: its points stand behind those before, the operand says where its value is, the node is what is said of it, and its nodes were read
 pub record LaysValue (before after : Laid) (held : List Temporary) (left : List NodeFacts) (source : Option NodeId) (value : Tree) (next : ℕ)

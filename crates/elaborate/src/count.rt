@@ -2,6 +2,7 @@
 
 ghost use Rattle.std.specs.Prelude.{◌≡◌, ◌<◌, ◌^◌, ◌&&◌, IsTrue, is_some};
 ghost use Rattle.small_tree.specs.Tree.{trees_of, part_of};
+ghost use Rattle.judgement.specs.Judgement.{is_null_literal};
 ghost use Rattle.elaborate.specs.Layout as layout;
 ghost use Rattle.elaborate.specs.Forms.{are_statements, is_expression, is_statement, is_written_type};
 
@@ -21,6 +22,7 @@ pub(crate) fn count_value(value: &Expr) -> u32
         ExprNode::Boolean { .. } => 0,
         ExprNode::Null { .. } => 0,
         ExprNode::Binary { left, right, .. } => count_value(left) + count_value(right) + 1,
+        ExprNode::Parenthesis { inner, .. } => count_value(inner),
     }
 }
 
@@ -56,6 +58,7 @@ pub(crate) fn tests_local(condition: &Expr) -> bool
             OperatorKind::Less => false,
             OperatorKind::NotEqual => compares_local(left, right),
         },
+        ExprNode::Parenthesis { inner, .. } => tests_local(inner),
     }
 }
 
@@ -64,24 +67,39 @@ fn compares_local(left: &Expr, right: &Expr) -> bool
     ensures compared { result ≡ is_some (layout.compared_word left.now right.now) }
     ensures form { IsTrue result → IsTrue (is_expression left.now && is_expression right.now) }
 {
-    match &left.node {
-        ExprNode::Name { .. } => match &right.node {
-            ExprNode::Null { .. } => true,
-            ExprNode::Name { .. } => false,
-            ExprNode::Integer { .. } => false,
-            ExprNode::Boolean { .. } => false,
-            ExprNode::Binary { .. } => false,
-        },
-        ExprNode::Null { .. } => match &right.node {
-            ExprNode::Name { .. } => true,
-            ExprNode::Null { .. } => false,
-            ExprNode::Integer { .. } => false,
-            ExprNode::Boolean { .. } => false,
-            ExprNode::Binary { .. } => false,
-        },
+    if is_null(right) {
+        return is_name(left);
+    }
+    is_null(left) && is_name(right)
+}
+
+// Whether an expression is the literal `null`.
+fn is_null(value: &Expr) -> bool
+    ensures null { result ≡ is_null_literal value.now }
+    ensures form { IsTrue result → IsTrue (is_expression value.now) }
+{
+    match &value.node {
+        ExprNode::Null { .. } => true,
+        ExprNode::Name { .. } => false,
         ExprNode::Integer { .. } => false,
         ExprNode::Boolean { .. } => false,
         ExprNode::Binary { .. } => false,
+        ExprNode::Parenthesis { .. } => false,
+    }
+}
+
+// Whether an expression is a name, in parentheses or not.
+fn is_name(value: &Expr) -> bool
+    ensures word { result ≡ is_some (layout.word_of value.now) }
+    ensures form { IsTrue result → IsTrue (is_expression value.now) }
+{
+    match &value.node {
+        ExprNode::Name { .. } => true,
+        ExprNode::Integer { .. } => false,
+        ExprNode::Boolean { .. } => false,
+        ExprNode::Null { .. } => false,
+        ExprNode::Binary { .. } => false,
+        ExprNode::Parenthesis { inner, .. } => is_name(inner),
     }
 }
 

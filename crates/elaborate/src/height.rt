@@ -73,12 +73,14 @@ fn value_height(value: &Expr) -> u32
             let both = holds(left) + value_height(right);
             both.max(value_height(left)).max(1)
         }
+        ExprNode::Parenthesis { inner, .. } => value_height(inner),
     }
 }
 
 // How many values an expression leaves held.
 fn holds(value: &Expr) -> u32
-    ensures { result ≡ holds value.now }
+    ensures held { result ≡ holds value.now }
+    ensures one { result ≤ 1 }
 {
     match &value.node {
         ExprNode::Name { .. } => 0,
@@ -86,5 +88,6 @@ fn holds(value: &Expr) -> u32
         ExprNode::Boolean { .. } => 0,
         ExprNode::Null { .. } => 0,
         ExprNode::Binary { .. } => 1,
+        ExprNode::Parenthesis { inner, .. } => holds(inner),
     }
 }

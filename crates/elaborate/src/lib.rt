@@ -16,7 +16,7 @@ mod nodes;
 mod statements;
 mod values;
 
-ghost use Rattle.std.specs.Prelude.{◌≡◌, ◌<◌, ◌≤◌, ◌*◌, ◌^◌, ℕ, List, length, IfOk, IfSome, OnOk, IsTrue, []};
+ghost use Rattle.std.specs.Prelude.{◌≡◌, ◌<◌, ◌≤◌, ◌*◌, ◌^◌, ℕ, List, length, Some, IfOk, OnOk, IsTrue, []};
 ghost use Rattle.std.specs.FinMap.{empty};
 ghost use Rattle.small_tree.specs.Numbers.{nodes_in};
 ghost use Rattle.small_flow.specs.Sub.{no_rows};
@@ -42,22 +42,18 @@ use small_flow::Rows;
 use small_tree::{Block, Function, Unit};
 use std::alloc::{AllocError, Global};
 
-/// The core program of a library in whose text nothing is wrong. It takes time and memory linear in
-/// the points times the slots; points at which the same is known share it.
-pub fn elaborate(alloc: Global, checked: &Checked) -> Result<CoreProgram, AllocError>
-    requires { IsFaultless checked.now }
-    ensures program { IfOk result (λ program. IfSome checked.now.unit (λ unit. IsElaborationOf unit program)) }
+/// The core program of what is run of a library in whose text nothing is wrong. It takes time and
+/// memory linear in the points times the slots; points at which the same is known share it.
+pub fn elaborate(alloc: Global, checked: &Checked, unit: &Unit) -> Result<CoreProgram, AllocError>
+    requires faultless { IsFaultless checked.now }
+    requires unit { checked.now.unit ≡ Some unit.now }
+    ensures program { IfOk result (IsElaborationOf unit.now) }
     ensures well_formed { IfOk result IsWellFormed }
     ensures accepted { IfOk result IsAccepted }
     ensures few { IfOk result (λ program. (text : List ℕ) → IsCheckOf text checked.now → length program.points ≤ 64 * length (tokens_of text)) }
 {
-    match &checked.unit {
-        Some(unit) => {
-            let program = elaborate_unit(alloc, unit, &checked.typed)?;
-            Ok(program)
-        }
-        None => unreachable!(),
-    }
+    let program = elaborate_unit(alloc, unit, &checked.typed)?;
+    Ok(program)
 }
 
 // The core program of a unit, of whose nodes this is said.

@@ -1,8 +1,10 @@
 //! The nodes of a typed tree, read one after another.
 
-ghost use Rattle.std.specs.Prelude.{◌≡◌, ◌∷◌, ◌<◌, [], Some, length, slice_get};
+ghost use Rattle.std.specs.Prelude.{◌≡◌, ◌∷◌, ◌<◌, ◌≤◌, ◌+◌, [], Some, length, slice_get};
+ghost use Rattle.elaborate.specs.Walk.{said_in_value, TakesValue};
 
 use judgement::TypedNode;
+use small_tree::{Expr, ExprNode};
 use std::marker::Model;
 
 /// The nodes that are still to be read.
@@ -42,6 +44,29 @@ impl<'a> Nodes<'a> {
                 first
             }
             None => unreachable!(),
+        }
+    }
+
+    /// Reads the nodes of an expression, and answers its own, which is the last of them.
+    pub(crate) fn take_value(&mut self, value: &Expr) -> &'a TypedNode
+        requires { said_in_value value.now ≤ length self.old }
+        ensures value { TakesValue self.old self.new value.now result.now }
+        ensures said { length self.old ≡ said_in_value value.now + length self.new }
+    {
+        match &value.node {
+            ExprNode::Name { .. } => self.take(),
+            ExprNode::Integer { .. } => self.take(),
+            ExprNode::Boolean { .. } => self.take(),
+            ExprNode::Null { .. } => self.take(),
+            ExprNode::Binary { left, right, .. } => {
+                self.take_value(left);
+                self.take_value(right);
+                self.take()
+            }
+            ExprNode::Parenthesis { inner, .. } => {
+                self.take_value(inner);
+                self.take()
+            }
         }
     }
 

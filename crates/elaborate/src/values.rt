@@ -83,6 +83,14 @@ pub(crate) fn lay_value<'a>(
             let operand = Operand::Slot(slot);
             Ok(Ready { operand, node })
         }
+        ExprNode::Parenthesis { inner, .. } => {
+            let first = lay_value(builder, nodes, held, source, inner, next)?;
+            let node = nodes.take();
+            Ok(Ready {
+                operand: first.operand,
+                node,
+            })
+        }
     }
 }
 
@@ -176,14 +184,27 @@ fn lay_test(
     ensures count { OnOk result (length builder.new.points ≡ length builder.old.points + 1) }
     ensures said { OnOk result (length nodes.old ≡ said_in_value condition.now + length nodes.new) }
 {
-    let left = nodes.take();
-    let right = nodes.take();
-    let node = nodes.take();
-    let term = Term::TestNull {
-        slot: builder.slot_of(left.element.or(right.element)),
-        null: PointId(when_false),
-        other: PointId(when_true),
-    };
-    builder.lay(Some(source), &node.after, &[], term)?;
-    Ok(())
+    match &condition.node {
+        ExprNode::Binary { left, right, .. } => {
+            let left = nodes.take_value(left);
+            let right = nodes.take_value(right);
+            let node = nodes.take();
+            let term = Term::TestNull {
+                slot: builder.slot_of(left.element.or(right.element)),
+                null: PointId(when_false),
+                other: PointId(when_true),
+            };
+            builder.lay(Some(source), &node.after, &[], term)?;
+            Ok(())
+        }
+        ExprNode::Parenthesis { inner, .. } => {
+            lay_test(builder, nodes, source, inner, when_true, when_false)?;
+            nodes.take();
+            Ok(())
+        }
+        ExprNode::Name { .. } => unreachable!(),
+        ExprNode::Integer { .. } => unreachable!(),
+        ExprNode::Boolean { .. } => unreachable!(),
+        ExprNode::Null { .. } => unreachable!(),
+    }
 }

@@ -1,7 +1,7 @@
 -- The judgement of trees.
 use Rattle.std.specs.Prelude.{Bool, true, false, List, [], Option, None, if◌then◌else◌}
 use Rattle.std.specs.FinMap.{empty}
-use Rattle.small_tree.specs.Tree.{Tree, Trees, Part, no_more, more, absent, present, name, integer, boolean, null_literal, binary, int_type, bool_type, declare, assign, eval, print, if_statement, while_statement, block, function, unit}
+use Rattle.small_tree.specs.Tree.{Tree, Trees, Part, no_more, more, absent, present, name, integer, boolean, null_literal, binary, parenthesis, int_type, bool_type, declare, assign, eval, print, if_statement, while_statement, block, function, unit}
 use Rattle.small_tree.specs.Places.{place_of}
 use Rattle.small_tree.specs.declared.nodes.Name.{Name}
 use Rattle.small_flow.specs.Ty.{Ty, invalid, null, int, bool, nullable_of}
@@ -22,6 +22,7 @@ type_of (integer at literal) = invalid
 type_of (boolean at value) = invalid
 type_of (null_literal at) = invalid
 type_of (binary at operator left right) = invalid
+type_of (parenthesis at inner) = invalid
 type_of (declare at declared variable initial) = invalid
 type_of (assign at target value) = invalid
 type_of (eval at value) = invalid
@@ -32,13 +33,14 @@ type_of (block at statements) = invalid
 type_of (function at body) = invalid
 type_of (unit at main) = invalid
 
--- whether an expression is the literal `null`
+-- whether an expression is the literal `null`, which in parentheses it isn't
 abbrev pub is_null_literal : Tree → Bool
 is_null_literal (null_literal at) = true
 is_null_literal (name at word) = false
 is_null_literal (integer at literal) = false
 is_null_literal (boolean at value) = false
 is_null_literal (binary at operator left right) = false
+is_null_literal (parenthesis at inner) = false
 is_null_literal (int_type at nullable) = false
 is_null_literal (bool_type at) = false
 is_null_literal (declare at declared variable initial) = false
@@ -57,7 +59,7 @@ compared_local names left right =
     if is_null_literal right then named_by names left
     else (if is_null_literal left then named_by names right else None)
 
--- what an expression gives by its form: of an operator the left side is judged before the right; trees of other forms, which never stand there, have no type
+-- what an expression gives by its form: of an operator the left side is judged before the right, and parentheses hand on what the expression in them gives; trees of other forms, which never stand there, have no type
 abbrev pub form_row : Rows → Names → Tree → FlowModel → Value
 form_row rows names (name at word) m = name_row names at word m
 form_row rows names (integer at literal) m = integer_row at literal m
@@ -66,6 +68,7 @@ form_row rows names (null_literal at) m = of_type null m
 form_row rows names (binary at operator left right) m =
     let first = exits_if_never (form_row rows names left m) in
     operator_row rows operator.kind operator.span (place_of right) (compared_local names left right) first (exits_if_never (form_row rows names right first.after))
+form_row rows names (parenthesis at inner) m = exits_if_never (form_row rows names inner m)
 form_row rows names (int_type at nullable) m = of_type invalid m
 form_row rows names (bool_type at) m = of_type invalid m
 form_row rows names (declare at declared variable initial) m = of_type invalid m
@@ -106,6 +109,7 @@ abbrev mutual
   run rows names (boolean at value) m = just m
   run rows names (null_literal at) m = just m
   run rows names (binary at operator left right) m = just m
+  run rows names (parenthesis at inner) m = just m
   run rows names (int_type at nullable) m = just m
   run rows names (bool_type at) m = just m
   run rows names (function at body) m = just m
@@ -131,6 +135,7 @@ faults_of rows (integer at literal) = []
 faults_of rows (boolean at value) = []
 faults_of rows (null_literal at) = []
 faults_of rows (binary at operator left right) = []
+faults_of rows (parenthesis at inner) = []
 faults_of rows (int_type at nullable) = []
 faults_of rows (bool_type at) = []
 faults_of rows (declare at declared variable initial) = []

@@ -2,7 +2,7 @@
 use Rattle.std.specs.Prelude.{List, [], ◌∷◌, ◌++◌, Option, None}
 use Rattle.std.specs.Ordering.{nat_cmp}
 use Rattle.std.specs.FinMap.{FinMap, get, insert}
-use Rattle.small_tree.specs.Tree.{Tree, Trees, no_more, more, name, integer, boolean, null_literal, binary, int_type, bool_type, declare, assign, eval, print, if_statement, while_statement, block, function, unit}
+use Rattle.small_tree.specs.Tree.{Tree, Trees, no_more, more, name, integer, boolean, null_literal, binary, parenthesis, int_type, bool_type, declare, assign, eval, print, if_statement, while_statement, block, function, unit}
 use Rattle.small_tree.specs.declared.nodes.Name.{Name}
 use Rattle.small_flow.specs.declared.locals.LocalId.{LocalId}
 
@@ -14,13 +14,14 @@ Names = FinMap nat_cmp LocalId
 abbrev pub local_of : Name → LocalId
 local_of x = record { 0 = x.at.node.0 }
 
--- the local that an expression names; expressions of other forms name none
+-- the local that an expression names, in parentheses too; expressions of other forms name none
 abbrev pub named_by : Names → Tree → Option LocalId
 named_by names (name at word) = get names word
 named_by names (integer at literal) = None
 named_by names (boolean at value) = None
 named_by names (null_literal at) = None
 named_by names (binary at operator left right) = None
+named_by names (parenthesis at inner) = named_by names inner
 named_by names (int_type at nullable) = None
 named_by names (bool_type at) = None
 named_by names (declare at declared variable initial) = None
@@ -41,6 +42,7 @@ meaning_declared (integer at literal) names = names
 meaning_declared (boolean at value) names = names
 meaning_declared (null_literal at) names = names
 meaning_declared (binary at operator left right) names = names
+meaning_declared (parenthesis at inner) names = names
 meaning_declared (int_type at nullable) names = names
 meaning_declared (bool_type at) names = names
 meaning_declared (assign at target value) names = names
@@ -65,6 +67,7 @@ declared_by (integer at literal) = []
 declared_by (boolean at value) = []
 declared_by (null_literal at) = []
 declared_by (binary at operator left right) = []
+declared_by (parenthesis at inner) = []
 declared_by (int_type at nullable) = []
 declared_by (bool_type at) = []
 declared_by (assign at target value) = []

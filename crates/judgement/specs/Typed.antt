@@ -1,7 +1,7 @@
 -- The typed tree: what the judgement says of each node, the parts of a node before it.
 use Rattle.std.specs.Prelude.{List, [], ◌∷◌, ◌++◌, Option, Some, None}
 use Rattle.std.specs.FinMap.{empty, get}
-use Rattle.small_tree.specs.Tree.{Tree, Trees, Part, no_more, more, absent, present, name, integer, boolean, null_literal, binary, int_type, bool_type, declare, assign, eval, print, if_statement, while_statement, block, function, unit}
+use Rattle.small_tree.specs.Tree.{Tree, Trees, Part, no_more, more, absent, present, name, integer, boolean, null_literal, binary, parenthesis, int_type, bool_type, declare, assign, eval, print, if_statement, while_statement, block, function, unit}
 use Rattle.small_tree.specs.Places.{place_of}
 use Rattle.small_flow.specs.Flow.{FlowModel, start_of}
 use Rattle.small_flow.specs.declared.locals.LocalId.{LocalId}
@@ -33,6 +33,7 @@ abbrev pub typed_expression : Rows → Names → Tree → FlowModel → List Nod
 typed_expression rows names (binary at operator left right) m =
     typed_expression rows names left m ++ typed_expression rows names right (evaluate rows names left m).after
     ++ said_of_expression rows names (binary at operator left right) m ∷ []
+typed_expression rows names (parenthesis at inner) m = typed_expression rows names inner m ++ said_of_expression rows names (parenthesis at inner) m ∷ []
 typed_expression rows names (name at word) m = said_of_expression rows names (name at word) m ∷ []
 typed_expression rows names (integer at literal) m = said_of_expression rows names (integer at literal) m ∷ []
 typed_expression rows names (boolean at value) m = said_of_expression rows names (boolean at value) m ∷ []
@@ -63,6 +64,7 @@ changed_by names (integer at literal) = None
 changed_by names (boolean at value) = None
 changed_by names (null_literal at) = None
 changed_by names (binary at operator left right) = None
+changed_by names (parenthesis at inner) = None
 changed_by names (int_type at nullable) = None
 changed_by names (bool_type at) = None
 changed_by names (eval at value) = None
@@ -113,6 +115,7 @@ abbrev mutual
   typed_statement rows names (boolean at value) m = []
   typed_statement rows names (null_literal at) m = []
   typed_statement rows names (binary at operator left right) m = []
+  typed_statement rows names (parenthesis at inner) m = []
   typed_statement rows names (int_type at nullable) m = []
   typed_statement rows names (bool_type at) m = []
   typed_statement rows names (function at body) m = []
@@ -138,6 +141,7 @@ typed_unit rows (integer at literal) = []
 typed_unit rows (boolean at value) = []
 typed_unit rows (null_literal at) = []
 typed_unit rows (binary at operator left right) = []
+typed_unit rows (parenthesis at inner) = []
 typed_unit rows (int_type at nullable) = []
 typed_unit rows (bool_type at) = []
 typed_unit rows (declare at declared variable initial) = []

@@ -2,7 +2,7 @@
 use Rattle.std.specs.Prelude.{List, [], ◌∷◌, ◌++◌}
 use Rattle.std.specs.Option.{option_map_or}
 use Rattle.std.specs.FinMap.{get}
-use Rattle.small_tree.specs.Tree.{Tree, Trees, Part, no_more, more, absent, present, name, integer, boolean, null_literal, binary, int_type, bool_type, declare, assign, eval, print, if_statement, while_statement, block, function, unit}
+use Rattle.small_tree.specs.Tree.{Tree, Trees, Part, no_more, more, absent, present, name, integer, boolean, null_literal, binary, parenthesis, int_type, bool_type, declare, assign, eval, print, if_statement, while_statement, block, function, unit}
 use Rattle.small_tree.specs.declared.nodes.Name.{Name}
 use Rattle.small_flow.specs.declared.locals.LocalId.{LocalId}
 use Rattle.judgement.specs.Names.{Names, names_within}
@@ -23,6 +23,7 @@ abbrev mutual
   written_in names (boolean at value) = []
   written_in names (null_literal at) = []
   written_in names (binary at operator left right) = []
+  written_in names (parenthesis at inner) = []
   written_in names (int_type at nullable) = []
   written_in names (bool_type at) = []
   written_in names (declare at declared variable initial) = []

@@ -32,15 +32,55 @@ pub enum DiagnosticCode {
     IntegerLiteralOutOfRange,
     /// A value hasn't the type of the variable that it is written to.
     InvalidAssignment,
-    /// A directive isn't checked yet.
+    /// A directive or a declaration holds a form that isn't checked yet.
     NotBuilt,
+    /// An `@` stands where no annotation is read.
+    ProfileAnnotation,
+    /// The word `assert`, which the language leaves out.
+    ProfileAssert,
+    /// Asynchronous functions and generators, which the language leaves out.
+    ProfileAsync,
+    /// A spread, an `if` or a `for` among the elements of a collection.
+    ProfileCollectionElement,
+    /// A URI that depends on a condition.
+    ProfileConditionalUri,
+    /// The word `const`, which the language leaves out.
+    ProfileConst,
+    /// A label before a case of a switch.
+    ProfileContinueCase,
+    /// The word `covariant`, which the language leaves out.
+    ProfileCovariant,
+    /// A deferred import.
+    ProfileDeferred,
+    /// A double literal.
+    ProfileDouble,
+    /// An enum.
+    ProfileEnum,
+    /// An extension.
+    ProfileExtension,
+    /// The word `external`, which the language leaves out.
+    ProfileExternal,
     /// A file has more than 4,194,304 bytes.
     ProfileFileLength,
     /// Characters beyond ASCII stand outside strings and comments.
     ProfileIdentifier,
+    /// The word `late`, which the language leaves out.
+    ProfileLate,
+    /// A class that is made by `=`.
+    ProfileMixinApplication,
+    /// A segment has too many groups in one another, or too many lexemes.
+    ProfileNesting,
+    /// A factory that hands on to another constructor by `=`.
+    ProfileRedirectingFactory,
+    /// A `#`, with which a symbol begins.
+    ProfileSymbol,
+    /// The operator `>>>`.
+    ProfileTripleShift,
+    /// A typedef of a form that the language leaves out.
+    ProfileTypedef,
     /// A variable is named before its declaration.
     ReferencedBeforeDeclaration,
-    /// The text is no unit of the grammar.
+    /// A segment of a text derives nothing.
     SyntaxError,
     /// A variable is read that may have no value yet.
     UnassignedRead,

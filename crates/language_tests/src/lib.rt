@@ -9,8 +9,6 @@ mod core_tests;
 #[cfg(test)]
 mod flow_tests;
 #[cfg(test)]
-mod reading_tests;
-#[cfg(test)]
 mod text_tests;
 #[cfg(test)]
 mod tree_tests;

@@ -29,40 +29,45 @@ void main(){9223372036854775807;} ::
 void main(){int x=9223372036854775808;x;} :: IntegerLiteralOutOfRange@18+19
 void main(){0xFFFFFFFFFFFFFFFF;0X10000000000000000;} :: IntegerLiteralOutOfRange@31+19
 /*😀/**/*/void main(){int x;x;} :: UnassignedRead@28+1
-import 'b.dart';void main(){x;} :: NotBuilt@0+16 UndefinedName@28+1
+import 'b.dart';void main(){x;} :: NotBuilt@0+16 NotBuilt@16+15
 library a.b; export 'c.dart';part 'd.dart'; :: NotBuilt@0+12 NotBuilt@13+16 NotBuilt@29+14
 part of a.b; :: NotBuilt@0+12
 part of r\"a.dart\";void main(){} :: NotBuilt@0+18
 import'b.dart'as as show show,main hide hide,int;export''show a show b; :: NotBuilt@0+49 NotBuilt@49+22
 /**/ import 'b.dart' /**/ ; :: NotBuilt@5+22
 void main(){int import=1;import=2;} ::
+void main(){int? x=null;if(((x)!=null)){print(x+1);}} ::
+void main(){int? x;if(x!=(null)){print(x+1);}} :: UncheckedNullableUse@40+1
+void main(){bool b=(1);} :: InvalidAssignment@19+3
+void main(){print((y));} :: UndefinedName@19+1
+void main(){if((1)){}} :: ConditionNotBool@15+3
+void main(){print(1+(true));} :: ArgumentType@20+6
 \u{feff}void\tmain\r¶(// a¶){x;} :: UndefinedName@20+1";
 
-// Texts that are no units: that is all that is wrong with them.
-const NO_UNITS: &str = "\
-¶ :: SyntaxError@0+1
- :: SyntaxError@0+0
-void main(){}void main(){} :: SyntaxError@0+26
-int main(){} :: SyntaxError@0+12
-void main(){int x} :: SyntaxError@0+18
-void main(){int int;} :: SyntaxError@0+21
-void main(){int main;} :: SyntaxError@0+22
-void main(){int if;} :: SyntaxError@0+20
-void main(){int bool;} :: SyntaxError@0+22
-void main(){print=1;} :: SyntaxError@0+21
-void main(){null=1;} :: SyntaxError@0+20
-void main(){bool? x;} :: SyntaxError@0+21
-void main(){1+2+3;} :: SyntaxError@0+19
-void main(){if(x)x;} :: SyntaxError@0+20
-void main(){if(x){}else x;} :: SyntaxError@0+27
-void main(){else{}} :: SyntaxError@0+19
-void main(){x==1;} :: SyntaxError@0+18
-void main(){1.5;} :: SyntaxError@0+17
-void main(){1e5;} :: SyntaxError@0+17
-void main(){'a';} :: SyntaxError@0+17
-void main(){int class=1;} :: SyntaxError@0+25
-void main(){print(#a);} :: SyntaxError@0+23
-import 'b.dart';int main(){} :: SyntaxError@0+28
+// Texts with other forms, which aren't checked yet, and with segments that derive nothing.
+const OTHERS: &str = "\
+void main(){}void main(){} :: NotBuilt@0+13 NotBuilt@13+13
+ ::
+int main(){} :: NotBuilt@0+12
+void main(){int x} :: SyntaxError@12+5
+void main(){int int;} :: NotBuilt@0+21
+void main(){int main;} :: NotBuilt@0+22
+void main(){int if;} :: SyntaxError@12+7
+void main(){int bool;} :: NotBuilt@0+22
+void main(){print=1;} :: NotBuilt@0+21
+void main(){null=1;} :: NotBuilt@0+20
+void main(){bool? x;} :: NotBuilt@0+21
+void main(){1+2+3;} ::
+void main(){if(x)x;} :: NotBuilt@0+20
+void main(){if(x){}else x;} :: NotBuilt@0+27
+void main(){else{}} :: SyntaxError@12+6
+void main(){x==1;} :: NotBuilt@0+18
+void main(){1.5;} :: ProfileDouble@12+4
+void main(){1e5;} :: ProfileDouble@12+4
+void main(){'a';} :: NotBuilt@0+17
+void main(){int class=1;} :: SyntaxError@12+12
+void main(){print(#a);} :: ProfileSymbol@12+10
+import 'b.dart';int main(){} :: NotBuilt@0+16 NotBuilt@16+12
 import 'b.dart' :: SyntaxError@0+15
 import 'b.dart' as; :: SyntaxError@0+19
 import 'b.dart' as p as q; :: SyntaxError@0+26
@@ -77,8 +82,49 @@ library a.; :: SyntaxError@0+11
 library 'a'; :: SyntaxError@0+12
 part b; :: SyntaxError@0+7
 part of; :: SyntaxError@0+8
-import 'b${1}.dart';void main(){} :: SyntaxError@0+33
-void main(){}import 'b.dart'; :: SyntaxError@0+29";
+import 'b${1}.dart';void main(){} :: NotBuilt@0+20
+void main(){}import 'b.dart'; :: NotBuilt@13+16
+void f(){int = ;}void main(){print(true+1);} :: NotBuilt@0+17 SyntaxError@9+7 UndefinedOperator@39+1
+void main(){print(1);int = ;print(true+1);} :: SyntaxError@21+7 UndefinedOperator@38+1
+void main(){int x;int = ;x;} :: SyntaxError@18+7 UnassignedRead@25+1
+a b c void main(){1+true;} d :: SyntaxError@0+26 SyntaxError@27+1
+void main(){assert(1<2);} :: ProfileAssert@12+12
+enum E{a}void main(){} :: ProfileEnum@0+9
+int x=1;void main(){print(x);} :: NotBuilt@0+8 NotBuilt@8+22
+int x=1;void main(){int x=2;print(x);} :: NotBuilt@0+8 NotBuilt@8+30
+void main(){print;} :: NotBuilt@0+19
+void main(){String;num;} :: NotBuilt@0+24
+import 'b.dart';void main(){int x=1;print(x+true);} :: NotBuilt@0+16 ArgumentType@44+4
+import 'b.dart'as p;void main(){p;} :: NotBuilt@0+20 NotBuilt@20+15
+part 'b.dart';void main(){x;} :: NotBuilt@0+14 NotBuilt@14+15
+part of 'b.dart';void main(){x;} :: NotBuilt@0+17 NotBuilt@17+15
+export 'b.dart';void main(){x;} :: NotBuilt@0+16 UndefinedName@28+1
+library a;void main(){x;} :: NotBuilt@0+10 UndefinedName@22+1
+class print{}void main(){print(1);} :: NotBuilt@0+13 NotBuilt@13+22
+mixin int{}void main(){int x=1;} :: NotBuilt@0+11 NotBuilt@11+21
+typedef bool=int;void main(){bool x=true;} :: NotBuilt@0+17 NotBuilt@17+25
+@override void main(){} :: NotBuilt@0+23
+void main<T>(){} :: NotBuilt@0+16
+void main([int x]){} :: NotBuilt@0+20
+main(){} :: NotBuilt@0+8
+void main()=>1; :: NotBuilt@0+15
+void main(){main();} :: NotBuilt@0+20
+void get main{} :: NotBuilt@0+15
+void set main(x){} :: NotBuilt@0+18
+var a,main;void main(){} :: NotBuilt@0+11 NotBuilt@11+13
+void f(){}void main(){f();} :: NotBuilt@0+10 NotBuilt@10+17
+void main(){print(1,2);} :: NotBuilt@0+24
+void main(){print();} :: NotBuilt@0+21
+void main(){print(a:1);} :: NotBuilt@0+24
+void main(){print<int>(1);} :: NotBuilt@0+27
+void main(){int x=1,y=2;} :: NotBuilt@0+25
+void main(){final int x=1;} :: NotBuilt@0+27
+void main(){var x=1;} :: NotBuilt@0+21
+void main(){p.int x;} :: NotBuilt@0+21
+void main(){int x;x+=1;} :: NotBuilt@0+24
+void main(){int x;int y=x=1;} :: NotBuilt@0+29
+void main(){(x)=1;} :: NotBuilt@0+19
+void main(){;} :: NotBuilt@0+14";
 
 // Texts in which lexemes or groups are wrong.
 const LEXEMES: &str = "\
@@ -90,38 +136,42 @@ void main(){if(true){print(1); :: UnclosedGroup@11+1 UnclosedGroup@20+1
 void main(){if(true){print(x); :: UnclosedGroup@11+1 UnclosedGroup@20+1 UndefinedName@27+1
 void main(){}} :: UnopenedGroup@13+1
 )]void main(){print(1)];} :: UnopenedGroup@0+1 UnopenedGroup@1+1 UnopenedGroup@22+1
-void main(){print(1;} :: SyntaxError@0+21 UnclosedGroup@17+1
-void main(){print([1);} :: SyntaxError@0+23 UnclosedGroup@18+1
-void main(){print(a?[1);} :: SyntaxError@0+25 UnclosedGroup@19+2
-void main(){print('${(}');} :: SyntaxError@0+27 UnclosedGroup@21+1
-void main(){é;} :: SyntaxError@0+15 ProfileIdentifier@12+1
+void main(){print(1;} :: SyntaxError@12+8 UnclosedGroup@17+1
+void main(){print([1);} :: NotBuilt@0+23 UnclosedGroup@18+1
+void main(){print(a?[1);} :: NotBuilt@0+25 UnclosedGroup@19+2
+void main(){print('${(}');} :: SyntaxError@12+14 UnclosedGroup@21+1
+void main(){é;} :: NotBuilt@0+15 ProfileIdentifier@12+1
 void main(){int xé😀=1;x;} :: ProfileIdentifier@17+3
  \u{feff}void main(){} :: ProfileIdentifier@1+1
 void main(){print(1 \\);} :: IllegalCharacter@20+1
 void main(){/*😀} :: UnclosedGroup@11+1 UnterminatedComment@12+5
-void main(){print('a¶);} :: SyntaxError@0+24 UnterminatedString@18+2
-void main(){r'a;} :: SyntaxError@0+17 UnclosedGroup@11+1 UnterminatedString@13+4
-void main(){print('\\xAg');} :: SyntaxError@0+27 BadEscape@19+3
+void main(){print('a¶);} :: NotBuilt@0+24 UnterminatedString@18+2
+void main(){r'a;} :: UnclosedGroup@11+1 SyntaxError@12+5 UnterminatedString@13+4
+void main(){print('\\xAg');} :: NotBuilt@0+27 BadEscape@19+3
 import 'b¶;void main(){} :: NotBuilt@0+11 UnterminatedString@7+2
 import'\\xg'; :: NotBuilt@0+12 BadEscape@7+2
 )import 'b.dart'];void main(){} :: UnopenedGroup@0+1 NotBuilt@1+17 UnopenedGroup@16+1
-void main(){'😀\\u{110000}';} :: SyntaxError@0+28 BadEscape@15+10";
+void main(){'😀\\u{110000}';} :: NotBuilt@0+28 BadEscape@15+10";
 
 // How many blocks lie one in another, and what is wrong then: no node lies deeper than 200.
 const NESTED: &str = "\
 198 ::
-199 :: SyntaxError@0+411
-10000 :: SyntaxError@0+20013";
+199 :: ProfileNesting@210+2
+10000 :: ProfileNesting@210+19604";
 
-// Texts, whether they have a tree, and the numbers of the nodes of their typed trees: the parts of a
+// Texts, whether something of them is judged, and the numbers of the nodes of their typed trees: the parts of a
 // node come before it. The unit has 0, its function 1 and the body 2.
 const TYPED: &str = "\
 void main(){} :: tree 2
 void main(){int x;x=1;} :: tree 3 8 6 2
 void main(){if(true){}else{1;}} :: tree 4 5 8 7 6 3 2
 void main(){ :: tree 2
-void main(){1+;} :: none
+void main(){1+;} :: tree 2
+void main(){1;2+;print(3);} :: tree 4 3 6 5 2
 import 'b.dart';void main(){} :: tree 2
+int x=1;void main(){} :: tree 2
+void main(){1-2;} :: none
+ :: none
 import 'b.dart'; :: none";
 
 // What a table gives for its texts.
@@ -151,7 +201,7 @@ fn diagnostics(alloc: Global, text: &str) -> Result<String, Fail> {
     Ok(told)
 }
 
-// Whether a text has a tree, and the numbers of the nodes of its typed tree, in their order.
+// Whether something of a text is judged, and the numbers of the nodes of its typed tree, in their order.
 fn nodes(alloc: Global, text: &str) -> Result<String, Fail> {
     let text = Text::from_str(alloc, text)?;
     let checked = check(alloc, "/a.dart", &text)?;
@@ -196,7 +246,7 @@ fn is_right(alloc: Global, asked: Asked, line: &str) -> Result<bool, Fail> {
 fn texts_have_the_answers_of_their_lines(rt: HostRuntime) -> Result<(), Fail> {
     for (asked, table) in [
         (Asked::Diagnostics, UNITS),
-        (Asked::Diagnostics, NO_UNITS),
+        (Asked::Diagnostics, OTHERS),
         (Asked::Diagnostics, LEXEMES),
         (Asked::Blocks, NESTED),
         (Asked::Nodes, TYPED),

@@ -1,6 +1,6 @@
 -- Which names a block declares.
 use Rattle.std.specs.Prelude.{ℕ, nat_eq, List, [], ◌∷◌, ◌++◌, Option, find}
-use Rattle.small_tree.specs.Tree.{Tree, Trees, no_more, more, name, integer, boolean, null_literal, binary, int_type, bool_type, declare, assign, eval, print, if_statement, while_statement, block, function, unit}
+use Rattle.small_tree.specs.Tree.{Tree, Trees, no_more, more, name, integer, boolean, null_literal, binary, parenthesis, int_type, bool_type, declare, assign, eval, print, if_statement, while_statement, block, function, unit}
 use Rattle.small_tree.specs.declared.nodes.Name.{Name}
 
 -- the name that a statement itself declares
@@ -11,6 +11,7 @@ name_declared (integer at literal) = []
 name_declared (boolean at value) = []
 name_declared (null_literal at) = []
 name_declared (binary at operator left right) = []
+name_declared (parenthesis at inner) = []
 name_declared (int_type at nullable) = []
 name_declared (bool_type at) = []
 name_declared (assign at target value) = []

@@ -1,6 +1,6 @@
 -- What the code of the judge does with a row of the judgement.
 use Rattle.std.specs.Prelude.{◌≡◌, List, [], ◌++◌, Option, None}
-use Rattle.small_tree.specs.Tree.{Tree, name, integer, boolean, null_literal, binary, int_type, bool_type, declare, assign, eval, print, if_statement, while_statement, block, function, unit}
+use Rattle.small_tree.specs.Tree.{Tree, name, integer, boolean, null_literal, binary, parenthesis, int_type, bool_type, declare, assign, eval, print, if_statement, while_statement, block, function, unit}
 use Rattle.small_tree.specs.declared.places.Place.{Place}
 use Rattle.small_flow.specs.Flow.{FlowModel}
 use Rattle.small_flow.specs.declared.locals.LocalId.{LocalId}
@@ -67,6 +67,7 @@ as_condition rows at value = record value { faults = value.faults ++ condition_f
 abbrev pub typed_operands : Rows → Names → Tree → FlowModel → List NodeFacts
 typed_operands rows names (binary at operator left right) m =
     typed_expression rows names left m ++ typed_expression rows names right (evaluate rows names left m).after
+typed_operands rows names (parenthesis at inner) m = typed_expression rows names inner m
 typed_operands rows names (name at word) m = []
 typed_operands rows names (integer at literal) m = []
 typed_operands rows names (boolean at value) m = []

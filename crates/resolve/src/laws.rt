@@ -1,12 +1,13 @@
-//! Laws of names and of loops, in the words of their definitions. Each is the contract of a function
-//! that does no work.
+//! Laws of names, of loops and of parentheses, in the words of their definitions. Each is the
+//! contract of a function that does no work.
 
 ghost use Rattle.std.specs.Prelude.{◌≡◌, Some, None};
 ghost use Rattle.std.specs.FinMap.{get};
-ghost use Rattle.small_tree.specs.Tree.{trees_of};
+ghost use Rattle.small_tree.specs.Tree.{parenthesis, trees_of};
 ghost use Rattle.small_tree.specs.declared.nodes.Name.{Name};
 ghost use Rattle.small_flow.specs.Flow.{FlowModel};
-ghost use Rattle.judgement.specs.Names.{local_of, names_within};
+ghost use Rattle.judgement.specs.Judgement.{evaluate};
+ghost use Rattle.judgement.specs.Names.{local_of, named_by, names_within};
 ghost use Rattle.judgement.specs.Written.{written_in};
 ghost use Rattle.resolve.specs.Declarations.{first_declared};
 ghost use Rattle.resolve.specs.Loops.{Forgets, IsJudgedFrom};
@@ -39,4 +40,16 @@ pub fn a_loop_head_forgets_what_its_body_writes(
     _before: &Flow,
 )
     ensures { (head : FlowModel) × IsJudgedFrom _rows.now _names.now _at _condition.now _body.now _before.now head × Forgets (written_in _names.now _body.now) _before.now head }
+{}
+
+/// An expression in parentheses gives what it gives without them, and names what it names.
+pub fn parentheses_hand_on_what_is_in_them(
+    _rows: &Rows,
+    _names: &NamesInScope,
+    _at: Place,
+    _inner: &Expr,
+    _before: &Flow,
+)
+    ensures value { evaluate _rows.now _names.now (parenthesis _at _inner.now) _before.now ≡ evaluate _rows.now _names.now _inner.now _before.now }
+    ensures named { named_by _names.now (parenthesis _at _inner.now) ≡ named_by _names.now _inner.now }
 {}

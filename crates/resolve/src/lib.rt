@@ -11,5 +11,8 @@ mod laws;
 mod names;
 
 pub use judge::{Judged, judge_unit};
-pub use laws::{a_block_has_the_names_that_it_declares, a_loop_head_forgets_what_its_body_writes};
+pub use laws::{
+    a_block_has_the_names_that_it_declares, a_loop_head_forgets_what_its_body_writes,
+    parentheses_hand_on_what_is_in_them,
+};
 pub use names::{NamesInScope, Shadowed};

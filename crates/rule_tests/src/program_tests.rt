@@ -8,7 +8,7 @@ use std::alloc::{AllocError, Global};
 use std::string::String;
 use std::test::Fail;
 
-/// The core program of a text; None where something is wrong with it.
+/// The core program of a text; None where something is wrong with it, or nothing of it is run.
 fn program_of(alloc: Global, text: &str) -> Result<Option<CoreProgram>, AllocError> {
     let text = match Text::from_str(alloc, text) {
         Ok(text) => text,
@@ -20,7 +20,10 @@ fn program_of(alloc: Global, text: &str) -> Result<Option<CoreProgram>, AllocErr
     if !checked.diagnostics.as_slice().is_empty() {
         return Ok(None);
     }
-    Ok(Some(elaborate(alloc, &checked)?))
+    match &checked.unit {
+        Some(unit) => Ok(Some(elaborate(alloc, &checked, unit)?)),
+        None => Ok(None),
+    }
 }
 
 /// An operand: `s` and the number of its slot, or its value.

@@ -16,7 +16,7 @@ use units::{LESS, NOT_EQUAL, PLUS, Side, Step, WORD_X, WORD_Y, are_found, int_x,
 #[test]
 fn units_have_the_diagnostics_of_their_rows(rt: HostRuntime) -> Result<(), Fail> {
     let alloc = rt.alloc();
-    let rows: [(&[(u8, Step)], &[(u16, DiagnosticCode)]); 12] = [
+    let rows: [(&[(u8, Step)], &[(u16, DiagnosticCode)]); 15] = [
         (
             &[
                 (10, Step::Read(Side::X)),
@@ -105,6 +105,28 @@ fn units_have_the_diagnostics_of_their_rows(rt: HostRuntime) -> Result<(), Fail>
             ],
             &[(21, InvalidAssignment)],
         ),
+        (
+            &[
+                (10, Step::DeclareNullable),
+                (20, Step::TestInParentheses),
+                (50, Step::Operate(Side::X, PLUS, Side::One)),
+            ],
+            &[(41, UncheckedNullableUse), (51, UncheckedNullableUse)],
+        ),
+        (
+            &[
+                (10, Step::DeclareNullable),
+                (20, Step::CompareWithParentheses),
+            ],
+            &[(31, UncheckedNullableUse), (41, UncheckedNullableUse)],
+        ),
+        (
+            &[
+                (10, Step::InitializeBoolInParentheses),
+                (20, Step::ReadInParentheses(Side::Y)),
+            ],
+            &[(11, InvalidAssignment), (21, UndefinedName)],
+        ),
     ];
     for (steps, expected) in rows {
         let found = judged(alloc, steps)?;
@@ -173,7 +195,7 @@ fn same(node: u32, ty: Option<Kind>, element: Option<LocalId>, known: Option<Kin
     }
 }
 
-/// `int? x; if (x != null) { x + 1; } else { x + 1; } x = 1; true;`
+/// `int? x; if (x != null) { x + 1; } else { x + 1; } x = 1; true; (x);`
 #[test]
 fn nodes_say_what_is_known(rt: HostRuntime) -> Result<(), Fail> {
     let alloc = rt.alloc();
@@ -182,6 +204,7 @@ fn nodes_say_what_is_known(rt: HostRuntime) -> Result<(), Fail> {
         (20, Step::TestForNull),
         (50, Step::Write(Side::One)),
         (60, Step::Read(Side::True)),
+        (70, Step::ReadInParentheses(Side::X)),
     ];
     let int = Some(Kind::Int);
     let maybe = Some(Kind::MaybeInt);
@@ -218,6 +241,9 @@ fn nodes_say_what_is_known(rt: HostRuntime) -> Result<(), Fail> {
             ..same(60, bool, None, int)
         },
         same(60, None, None, int),
+        same(71, int, Some(X), int),
+        same(70, int, Some(X), int),
+        same(70, None, None, int),
         same(0, None, None, None),
     ];
     let found = judged(alloc, &steps)?;

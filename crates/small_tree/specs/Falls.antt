@@ -6,7 +6,7 @@ use Rattle.small_tree.specs.Tree.{Tree, trees_of}
 use Rattle.small_tree.specs.Numbers.{nodes_in, nodes_in_all}
 use Rattle.small_tree.specs.View.{expr_of, stmt_of}
 use Rattle.small_tree.specs.declared.nodes.ExprNode.{ExprNode}
-use Rattle.small_tree.specs.declared.nodes.ExprNode.TheVariants.{Name, Integer, Boolean, Null, Binary}
+use Rattle.small_tree.specs.declared.nodes.ExprNode.TheVariants.{Name, Integer, Boolean, Null, Binary, Parenthesis}
 use Rattle.small_tree.specs.declared.nodes.StmtNode.{StmtNode}
 use Rattle.small_tree.specs.declared.nodes.StmtNode.TheVariants.{Declare, Assign, Eval, Print, If, While, Block as BlockStatement}
 use Rattle.small_tree.specs.declared.nodes.Expr.TheDeep.{deep-ExprNode}
@@ -25,6 +25,7 @@ expr_falls (Integer at literal) = omega arith
 expr_falls (Boolean at value) = omega arith
 expr_falls (Null at) = omega arith
 expr_falls (Binary at operator left right) = omega arith
+expr_falls (Parenthesis at inner) = omega arith
 
 -- nor is a part of a statement
 pub stmt_falls : (n : StmtNode) → max (deep-StmtNode n) 0 ≤ nodes_in (stmt_of n)

@@ -2,7 +2,7 @@
 use Rattle.std.specs.Prelude.{◌≡◌, ℕ, zero, suc, ◌+◌, List, [], ◌∷◌, ◌++◌, length, map, refl}
 use Rattle.std.specs.List.{range_with_len}
 use Rattle.std.proofs.Common.{ap, arith, length-append}
-use Rattle.small_tree.specs.Tree.{Tree, Trees, Part, no_more, more, absent, present, name, integer, boolean, null_literal, binary, int_type, bool_type, declare, assign, eval, print, if_statement, while_statement, block, function, unit}
+use Rattle.small_tree.specs.Tree.{Tree, Trees, Part, no_more, more, absent, present, name, integer, boolean, null_literal, binary, parenthesis, int_type, bool_type, declare, assign, eval, print, if_statement, while_statement, block, function, unit}
 use Rattle.small_tree.specs.Places.{place_of}
 use Rattle.small_tree.specs.Numbers.{nodes_in, nodes_in_all, nodes_in_part, place_numbered, numbered, all_numbered, part_numbered, number_at, span_at, places_of, places_of_all, places_of_part, numbers_of, spans_of}
 use Rattle.small_tree.specs.declared.places.Place.{Place}
@@ -16,6 +16,7 @@ mutual
   nodes_in-numbered n (boolean at value) = refl
   nodes_in-numbered n (null_literal at) = refl
   nodes_in-numbered n (binary at operator left right) = rw (nodes_in-numbered (n + 1) left, nodes_in-numbered (n + 1 + nodes_in left) right) refl
+  nodes_in-numbered n (parenthesis at inner) = rw (nodes_in-numbered (n + 1) inner) refl
   nodes_in-numbered n (int_type at nullable) = refl
   nodes_in-numbered n (bool_type at) = refl
   nodes_in-numbered n (declare at declared variable initial) = rw (nodes_in-numbered (n + 1) declared, nodes_in-part_numbered (n + 2 + nodes_in declared) initial) refl
@@ -48,6 +49,7 @@ mutual
   numbered-numbered n m (null_literal at) = refl
   numbered-numbered n m (binary at operator left right) =
       rw (nodes_in-numbered (m + 1) left, numbered-numbered (n + 1) (m + 1) left, numbered-numbered (n + 1 + nodes_in left) (m + 1 + nodes_in left) right) refl
+  numbered-numbered n m (parenthesis at inner) = rw (numbered-numbered (n + 1) (m + 1) inner) refl
   numbered-numbered n m (int_type at nullable) = refl
   numbered-numbered n m (bool_type at) = refl
   numbered-numbered n m (declare at declared variable initial) =
@@ -112,6 +114,7 @@ mutual
   length-places_of (null_literal at) = refl
   length-places_of (binary at operator left right) =
       simp length-append (omega (arith, length-places_of left, length-places_of right))
+  length-places_of (parenthesis at inner) = omega (arith, length-places_of inner)
   length-places_of (int_type at nullable) = refl
   length-places_of (bool_type at) = refl
   length-places_of (declare at declared variable initial) =
@@ -151,6 +154,7 @@ mutual
   places_of-numbered n (null_literal at) = refl
   places_of-numbered n (binary at operator left right) =
       rw (places_of-numbered (n + 1) left, places_of-numbered (n + 1 + nodes_in left) right, places_from-tree (n + 1) left (places_of right)) refl
+  places_of-numbered n (parenthesis at inner) = rw (places_of-numbered (n + 1) inner) refl
   places_of-numbered n (int_type at nullable) = refl
   places_of-numbered n (bool_type at) = refl
   places_of-numbered n (declare at declared variable initial) =
@@ -205,6 +209,7 @@ place_of-first (integer at literal) = (_, refl)
 place_of-first (boolean at value) = (_, refl)
 place_of-first (null_literal at) = (_, refl)
 place_of-first (binary at operator left right) = (_, refl)
+place_of-first (parenthesis at inner) = (_, refl)
 place_of-first (int_type at nullable) = (_, refl)
 place_of-first (bool_type at) = (_, refl)
 place_of-first (declare at declared variable initial) = (_, refl)

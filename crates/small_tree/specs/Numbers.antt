@@ -1,6 +1,6 @@
 -- The numbers of the nodes: in reading order, a node before the nodes in it.
 use Rattle.std.specs.Prelude.{ℕ, ◌+◌, List, [], ◌∷◌, ◌++◌, map}
-use Rattle.small_tree.specs.Tree.{Tree, Trees, Part, no_more, more, absent, present, name, integer, boolean, null_literal, binary, int_type, bool_type, declare, assign, eval, print, if_statement, while_statement, block, function, unit}
+use Rattle.small_tree.specs.Tree.{Tree, Trees, Part, no_more, more, absent, present, name, integer, boolean, null_literal, binary, parenthesis, int_type, bool_type, declare, assign, eval, print, if_statement, while_statement, block, function, unit}
 use Rattle.small_tree.specs.declared.places.Place.{Place}
 use Rattle.small_tree.specs.declared.places.Span.{Span}
 use Rattle.small_tree.specs.declared.nodes.Name.{Name}
@@ -13,6 +13,7 @@ abbrev mutual
   nodes_in (boolean at value) = 1
   nodes_in (null_literal at) = 1
   nodes_in (binary at operator left right) = 1 + nodes_in left + nodes_in right
+  nodes_in (parenthesis at inner) = 1 + nodes_in inner
   nodes_in (int_type at nullable) = 1
   nodes_in (bool_type at) = 1
   nodes_in (declare at declared variable initial) = 2 + nodes_in declared + nodes_in_part initial
@@ -51,6 +52,7 @@ abbrev mutual
   numbered n (boolean at value) = boolean (place_numbered n at) value
   numbered n (null_literal at) = null_literal (place_numbered n at)
   numbered n (binary at operator left right) = binary (place_numbered n at) operator (numbered (n + 1) left) (numbered (n + 1 + nodes_in left) right)
+  numbered n (parenthesis at inner) = parenthesis (place_numbered n at) (numbered (n + 1) inner)
   numbered n (int_type at nullable) = int_type (place_numbered n at) nullable
   numbered n (bool_type at) = bool_type (place_numbered n at)
   numbered n (declare at declared variable initial) =
@@ -94,6 +96,7 @@ abbrev mutual
   places_of (boolean at value) = at ∷ []
   places_of (null_literal at) = at ∷ []
   places_of (binary at operator left right) = at ∷ (places_of left ++ places_of right)
+  places_of (parenthesis at inner) = at ∷ places_of inner
   places_of (int_type at nullable) = at ∷ []
   places_of (bool_type at) = at ∷ []
   places_of (declare at declared variable initial) = at ∷ (places_of declared ++ variable.at ∷ places_of_part initial)

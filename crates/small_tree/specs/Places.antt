@@ -1,5 +1,5 @@
 -- Where a node stands.
-use Rattle.small_tree.specs.Tree.{Tree, name, integer, boolean, null_literal, binary, int_type, bool_type, declare, assign, eval, print, if_statement, while_statement, block, function, unit}
+use Rattle.small_tree.specs.Tree.{Tree, name, integer, boolean, null_literal, binary, parenthesis, int_type, bool_type, declare, assign, eval, print, if_statement, while_statement, block, function, unit}
 use Rattle.small_tree.specs.declared.places.Place.{Place}
 use Rattle.small_tree.specs.declared.places.Span.{Span}
 
@@ -10,6 +10,7 @@ place_of (integer at literal) = at
 place_of (boolean at value) = at
 place_of (null_literal at) = at
 place_of (binary at operator left right) = at
+place_of (parenthesis at inner) = at
 place_of (int_type at nullable) = at
 place_of (bool_type at) = at
 place_of (declare at declared variable initial) = at

@@ -13,6 +13,7 @@ mutual
     boolean : (at : Place) (value : Bool) → Tree
     null_literal : (at : Place) → Tree
     binary : (at : Place) (operator : Operator) (left : Tree) (right : Tree) → Tree
+    parenthesis : (at : Place) (inner : Tree) → Tree
     int_type : (at : Place) (nullable : Bool) → Tree
     bool_type : (at : Place) → Tree
     declare : (at : Place) (declared : Tree) (variable : Name) (initial : Part) → Tree

@@ -2,10 +2,10 @@
 use Rattle.std.specs.Prelude.{◌≡◌, List, [], ◌∷◌, ◌++◌, Option, Some, None, refl}
 use Rattle.std.proofs.Common.{ap, ◌∙◌}
 use Rattle.std.specs.Coded.{Coded, code_by, coded×, coded_list, coded_option}
-use Rattle.small_tree.specs.Tree.{Tree, Trees, Part, no_more, more, absent, present, name, integer, boolean, null_literal, binary, int_type, bool_type, declare, assign, eval, print, if_statement, while_statement, block, function, unit}
+use Rattle.small_tree.specs.Tree.{Tree, Trees, Part, no_more, more, absent, present, name, integer, boolean, null_literal, binary, parenthesis, int_type, bool_type, declare, assign, eval, print, if_statement, while_statement, block, function, unit}
 use Rattle.small_tree.specs.declared.places.Place.{Place}
 use Rattle.small_tree.specs.declared.nodes.Production.{Production}
-use Rattle.small_tree.specs.declared.nodes.Production.TheVariants.{NoMore, More, Absent, Present, Name, Integer, Boolean, NullLiteral, Binary, IntType, BoolType, Declare, Assign, Eval, Print, If, While, Block, Function, Unit as WholeUnit}
+use Rattle.small_tree.specs.declared.nodes.Production.TheVariants.{NoMore, More, Absent, Present, Name, Integer, Boolean, NullLiteral, Binary, Parenthesis, IntType, BoolType, Declare, Assign, Eval, Print, If, While, Block, Function, Unit as WholeUnit}
 use Rattle.small_tree.specs.contracts.places.Place as place
 use Rattle.small_tree.specs.contracts.nodes.Production as production
 
@@ -25,6 +25,7 @@ abbrev mutual
   marks (boolean at value) k = None ∷ Some (Boolean value, at) ∷ k
   marks (null_literal at) k = None ∷ Some (NullLiteral, at) ∷ k
   marks (binary at operator left right) k = None ∷ marks left (marks right (Some (Binary operator, at) ∷ k))
+  marks (parenthesis at inner) k = None ∷ marks inner (Some (Parenthesis, at) ∷ k)
   marks (int_type at nullable) k = None ∷ Some (IntType nullable, at) ∷ k
   marks (bool_type at) k = None ∷ Some (BoolType, at) ∷ k
   marks (declare at declared variable initial) k = None ∷ marks declared (marks_of_part initial (Some (Declare variable, at) ∷ k))
@@ -94,6 +95,7 @@ build (Integer literal) at hs = One (integer at literal)
 build (Boolean value) at hs = One (boolean at value)
 build NullLiteral at hs = One (null_literal at)
 build (Binary operator) at hs = One (binary at operator (one_of hs) (one_of (next hs)))
+build Parenthesis at hs = One (parenthesis at (one_of hs))
 build (IntType nullable) at hs = One (int_type at nullable)
 build BoolType at hs = One (bool_type at)
 build (Declare variable) at hs = One (declare at (one_of hs) variable (part_in (next hs)))
@@ -130,6 +132,7 @@ mutual
   read-marks (boolean at value) k hs s = refl
   read-marks (null_literal at) k hs s = refl
   read-marks (binary at operator left right) k hs s = read-marks left _ _ _ ∙ read-marks right _ _ _
+  read-marks (parenthesis at inner) k hs s = read-marks inner _ _ _
   read-marks (int_type at nullable) k hs s = refl
   read-marks (bool_type at) k hs s = refl
   read-marks (declare at declared variable initial) k hs s = read-marks declared _ _ _ ∙ read-part initial _ _ _

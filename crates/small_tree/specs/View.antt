@@ -1,7 +1,7 @@
 -- What each form of a node is as a tree: one level, as the nodes in it are trees already.
-use Rattle.small_tree.specs.Tree.{Tree, name, integer, boolean, null_literal, binary, int_type, bool_type, declare, assign, eval, print, if_statement, while_statement, block, part_of, trees_of}
+use Rattle.small_tree.specs.Tree.{Tree, name, integer, boolean, null_literal, binary, parenthesis, int_type, bool_type, declare, assign, eval, print, if_statement, while_statement, block, part_of, trees_of}
 use Rattle.small_tree.specs.declared.nodes.ExprNode.{ExprNode}
-use Rattle.small_tree.specs.declared.nodes.ExprNode.TheVariants.{Name, Integer, Boolean, Null, Binary}
+use Rattle.small_tree.specs.declared.nodes.ExprNode.TheVariants.{Name, Integer, Boolean, Null, Binary, Parenthesis}
 use Rattle.small_tree.specs.declared.nodes.WrittenTypeNode.{WrittenTypeNode}
 use Rattle.small_tree.specs.declared.nodes.WrittenTypeNode.TheVariants.{Int, Bool}
 use Rattle.small_tree.specs.declared.nodes.StmtNode.{StmtNode}
@@ -14,6 +14,7 @@ expr_of (Integer at literal) = integer at literal
 expr_of (Boolean at value) = boolean at value
 expr_of (Null at) = null_literal at
 expr_of (Binary at operator left right) = binary at operator left.value right.value
+expr_of (Parenthesis at inner) = parenthesis at inner.value
 
 -- the tree of a written type
 abbrev pub written_type_of : WrittenTypeNode → Tree

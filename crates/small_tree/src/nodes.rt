@@ -70,6 +70,7 @@ pub enum Production {
     Boolean(bool),
     NullLiteral,
     Binary(Operator),
+    Parenthesis,
     IntType(bool),
     BoolType,
     Declare(Name),
@@ -121,6 +122,11 @@ pub enum ExprNode {
         left: Box<Expr>,
         right: Box<Expr>,
     },
+    /// `(e)`
+    Parenthesis {
+        at: Place,
+        inner: Box<Expr>,
+    },
 }
 
 impl Model for Expr {
@@ -154,6 +160,7 @@ impl Expr {
             ExprNode::Boolean { at, .. } => *at,
             ExprNode::Null { at } => *at,
             ExprNode::Binary { at, .. } => *at,
+            ExprNode::Parenthesis { at, .. } => *at,
         }
     }
 }

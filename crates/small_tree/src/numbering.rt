@@ -186,6 +186,10 @@ fn number_expr(expr: &mut Expr, first: u32) -> u32
             let next = number_expr(left, first + 1);
             number_expr(right, next)
         }
+        ExprNode::Parenthesis { at, inner } => {
+            number_place(at, first);
+            number_expr(inner, first + 1)
+        }
     }
 }
 

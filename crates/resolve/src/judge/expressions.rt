@@ -94,6 +94,10 @@ fn judge_form(
             )?;
             Ok(typed)
         }
+        ExprNode::Parenthesis { at, inner } => {
+            let typed = judge_expression(context, names, inner, before, found)?;
+            Ok(Typed { at: *at, ..typed })
+        }
     }
 }
 
@@ -129,8 +133,8 @@ fn said_of_expression(
     })
 }
 
-// The local that an expression names.
-fn named_local(names: &NamesInScope, expression: &Expr) -> Option<LocalId>
+// The local that an expression names, in parentheses too.
+pub(super) fn named_local(names: &NamesInScope, expression: &Expr) -> Option<LocalId>
     ensures { result ≡ named_by names.now expression.now }
 {
     match &expression.node {
@@ -139,6 +143,7 @@ fn named_local(names: &NamesInScope, expression: &Expr) -> Option<LocalId>
         ExprNode::Boolean { .. } => None,
         ExprNode::Null { .. } => None,
         ExprNode::Binary { .. } => None,
+        ExprNode::Parenthesis { inner, .. } => named_local(names, inner),
     }
 }
 

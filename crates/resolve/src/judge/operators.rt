@@ -7,6 +7,7 @@ ghost use Rattle.judgement.specs.Judgement as judgement;
 ghost use Rattle.judgement.specs.NodeFacts.{at_branch};
 ghost use Rattle.resolve.specs.Judged.{RowEvaluates, reported};
 
+use super::expressions::named_local;
 use super::types::{
     bool_type, fits, has_operators, int_type, invalid_type, is_invalid, is_never, is_null,
     never_type,
@@ -125,23 +126,25 @@ fn where_not_null(compared: Option<LocalId>) -> Branch
 pub(super) fn compared_local(names: &NamesInScope, left: &Expr, right: &Expr) -> Option<LocalId>
     ensures { result ≡ judgement.compared_local names.now left.now right.now }
 {
-    match &left.node {
-        ExprNode::Name { word, .. } => match &right.node {
-            ExprNode::Null { .. } => names.meaning(*word),
-            ExprNode::Name { .. } => None,
-            ExprNode::Integer { .. } => None,
-            ExprNode::Boolean { .. } => None,
-            ExprNode::Binary { .. } => None,
-        },
-        ExprNode::Null { .. } => match &right.node {
-            ExprNode::Name { word, .. } => names.meaning(*word),
-            ExprNode::Null { .. } => None,
-            ExprNode::Integer { .. } => None,
-            ExprNode::Boolean { .. } => None,
-            ExprNode::Binary { .. } => None,
-        },
-        ExprNode::Integer { .. } => None,
-        ExprNode::Boolean { .. } => None,
-        ExprNode::Binary { .. } => None,
+    if is_null_literal(right) {
+        return named_local(names, left);
+    }
+    if is_null_literal(left) {
+        return named_local(names, right);
+    }
+    None
+}
+
+// Whether an expression is the literal `null`.
+fn is_null_literal(expression: &Expr) -> bool
+    ensures { result ≡ judgement.is_null_literal expression.now }
+{
+    match &expression.node {
+        ExprNode::Null { .. } => true,
+        ExprNode::Name { .. } => false,
+        ExprNode::Integer { .. } => false,
+        ExprNode::Boolean { .. } => false,
+        ExprNode::Binary { .. } => false,
+        ExprNode::Parenthesis { .. } => false,
     }
 }

@@ -39,8 +39,12 @@ pub(super) enum Step {
     InitializeNullable,
     /// `bool x = 1;`
     InitializeBool,
+    /// `bool x = (1);`
+    InitializeBoolInParentheses,
     /// `x;`
     Read(Side),
+    /// `(x);`, where x stands behind the start.
+    ReadInParentheses(Side),
     /// `x + 1;`
     Operate(Side, OperatorKind, Side),
     /// `x = 1;`
@@ -48,6 +52,10 @@ pub(super) enum Step {
     /// `if (x != null) { x + 1; } else { x + 1; }`, whose condition stands at 20, and its blocks at 30
     /// and 40.
     TestForNull,
+    /// `if (((x) != null)) { x + 1; } else { x + 1; }`, at the same places.
+    TestInParentheses,
+    /// `if (x != (null)) { x + 1; } else { x + 1; }`, at the same places.
+    CompareWithParentheses,
     /// `while (1) { x + 1; x = null; }`, whose condition stands at 30, and the statements at 40 and 50.
     LoopWithAWrite,
     /// `{ x; int x; x; }`, whose statements stand at 30, 40 and 50.
@@ -93,6 +101,15 @@ fn expression(start: u16, side: Side) -> Expr {
     Expr { node }
 }
 
+/// `(inner)`, which stands at the start.
+fn in_parentheses(alloc: Global, start: u16, inner: Expr) -> Result<Expr, AllocError> {
+    let at = at(start);
+    let inner = Box::new(alloc, inner)?;
+    Ok(Expr {
+        node: ExprNode::Parenthesis { at, inner },
+    })
+}
+
 /// `left + right`: the left side stands at the start, and the operator and the right side behind it.
 fn binary(
     alloc: Global,
@@ -101,13 +118,27 @@ fn binary(
     kind: OperatorKind,
     right: Side,
 ) -> Result<Expr, AllocError> {
+    let begin = u16::from(start);
+    let left = expression(begin, left);
+    let right = expression(begin + 2, right);
+    operate(alloc, start, left, kind, right)
+}
+
+/// The same of any two sides.
+fn operate(
+    alloc: Global,
+    start: u8,
+    left: Expr,
+    kind: OperatorKind,
+    right: Expr,
+) -> Result<Expr, AllocError> {
     let start = u16::from(start);
     let operator = Operator {
         kind,
         span: at(start + 1).span,
     };
-    let left = Box::new(alloc, expression(start, left))?;
-    let right = Box::new(alloc, expression(start + 2, right))?;
+    let left = Box::new(alloc, left)?;
+    let right = Box::new(alloc, right)?;
     Ok(Expr {
         node: ExprNode::Binary {
             at: at(start),
@@ -179,10 +210,23 @@ fn block_of(alloc: Global, start: u16, statement: Stmt) -> Result<Block, AllocEr
     Ok(block(start, statements))
 }
 
-fn test_for_null(alloc: Global) -> Result<Stmt, AllocError> {
+/// `((x) != null)`
+fn test_in_parentheses(alloc: Global) -> Result<Expr, AllocError> {
+    let left = in_parentheses(alloc, 20, expression(20, Side::X))?;
+    let test = operate(alloc, 20, left, NOT_EQUAL, expression(22, Side::Null))?;
+    in_parentheses(alloc, 20, test)
+}
+
+/// `x != (null)`
+fn comparison_with_parentheses(alloc: Global) -> Result<Expr, AllocError> {
+    let right = in_parentheses(alloc, 22, expression(22, Side::Null))?;
+    operate(alloc, 20, expression(20, Side::X), NOT_EQUAL, right)
+}
+
+/// `if (condition) { x + 1; } else { x + 1; }`
+fn add_one_where(alloc: Global, condition: Expr) -> Result<Stmt, AllocError> {
     let then_block = block_of(alloc, 30, add_one(alloc, 30)?)?;
     let else_block = block_of(alloc, 40, add_one(alloc, 40)?)?;
-    let condition = binary(alloc, 20, Side::X, NOT_EQUAL, Side::Null)?;
     Ok(Stmt {
         node: StmtNode::If {
             at: at(20),
@@ -231,13 +275,33 @@ fn statement(alloc: Global, start: u8, step: Step) -> Result<Stmt, AllocError> {
             let declared = WrittenTypeNode::Bool { at: at(begin) };
             Ok(declaration(begin, declared, Some(expression(behind, Side::One))))
         }
+        Step::InitializeBoolInParentheses => {
+            let declared = WrittenTypeNode::Bool { at: at(begin) };
+            let one = in_parentheses(alloc, behind, expression(begin + 2, Side::One))?;
+            Ok(declaration(begin, declared, Some(one)))
+        }
         Step::Read(side) => Ok(eval(expression(begin, side))),
+        Step::ReadInParentheses(side) => {
+            let value = in_parentheses(alloc, begin, expression(behind, side))?;
+            Ok(eval(value))
+        }
         Step::Operate(left, kind, right) => {
             let value = binary(alloc, start, left, kind, right)?;
             Ok(eval(value))
         }
         Step::Write(value) => Ok(write_x(start, value)),
-        Step::TestForNull => test_for_null(alloc),
+        Step::TestForNull => {
+            let test = binary(alloc, 20, Side::X, NOT_EQUAL, Side::Null)?;
+            add_one_where(alloc, test)
+        }
+        Step::TestInParentheses => {
+            let test = test_in_parentheses(alloc)?;
+            add_one_where(alloc, test)
+        }
+        Step::CompareWithParentheses => {
+            let comparison = comparison_with_parentheses(alloc)?;
+            add_one_where(alloc, comparison)
+        }
         Step::LoopWithAWrite => loop_with_a_write(alloc),
         Step::BlockWithAnX => block_with_an_x(alloc),
     }

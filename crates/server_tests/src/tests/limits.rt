@@ -89,11 +89,11 @@ get /a.dart = invalid assignment at 25
 
 -- Texts so deep that no call may be nested like them: blocks, branches and loops.
 add /a.dart void main(){«10000:{»«10000:}»} = done
-get /a.dart = syntax error of 20013
+get /a.dart = too deep at 210 of 19604
 add /a.dart void main(){«10000:if(true){»«10000:}»} = done
-get /a.dart = syntax error of 100013
+get /a.dart = too deep at 903 of 99010
 add /a.dart void main(){«10000:while(true){»«10000:}»} = done
-get /a.dart = syntax error of 130013"#;
+get /a.dart = too deep at 1200 of 128713"#;
 
 /// A reply: why a request is refused.
 fn refused(reply: &str) -> Option<(&'static str, &'static str)> {
@@ -143,6 +143,11 @@ fn reply_of(alloc: Global, reply: &str) -> Result<String, Fail> {
     if let Some(length) = reply.strip_prefix("syntax error of ") {
         let words = ("syntax_error", "Syntax error.", "SYNTACTIC_ERROR");
         return error(alloc, words, length.parse::<u32>()?, 0);
+    }
+    if let Some(place) = reply.strip_prefix("too deep at ") {
+        let (offset, length) = place.split_once(" of ").ok_or("no length")?;
+        let words = ("profile_nesting", "Profile nesting.", "SYNTACTIC_ERROR");
+        return error(alloc, words, length.parse::<u32>()?, offset.parse::<u32>()?);
     }
     match reply {
         "not UTF-8" => {

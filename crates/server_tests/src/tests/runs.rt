@@ -10,6 +10,10 @@ void main(){}|1|
 void main(){1+2;3;}|2|
 void main(){print(1+2);}|3|3¶
 void main(){print(9223372036854775807+1);}|3|-9223372036854775808¶
+void main(){print((1)+(2));}|3|3¶
+void main(){print((1+2)+3);}|4|6¶
+void main(){print(1+2<4);}|4|true¶
+void main(){int? x=5;if(((x)!=null)){print(x+x);}}|5|10¶
 void main(){int? x;if(x!=null){print(x+1);}else{x=4;print(x+1);}print(x);}|7|5¶4¶
 void main(){print(null);print(true);print(false);print(0);print(7);}|6|null¶true¶false¶0¶7¶
 void main(){print(1<2);print(2<1);print(2<2);print(1!=1);print(1!=2);}|11|true¶false¶false¶false¶true¶
@@ -42,7 +46,12 @@ void main(){int i=0;while(i<40000){print(1);i=i+1;}}|240004|StepsSpent|«40000:1
 -- Where there are diagnostics, no step is taken.
 void main(){¶/*😀*/x;¶int y=true;}|9|Errors|/a.dart:2:7: undefined_name: Undefined name.¶/a.dart:3:7: invalid_assignment: Invalid assignment.¶
 void main(){¶/*😀*/x;¶int y=true;}|0|Errors|/a.dart:2:7: undefined_name: Undefined name.¶/a.dart:3:7: invalid_assignment: Invalid assignment.¶
-|9|Errors|/a.dart:1:1: syntax_error: Syntax error.¶
+-- Where nothing is wrong, and there is no function `main`, there is nothing to run.
+|9|Refused|dart_serve: no main¶
+/*void main(){}*/|0|Refused|dart_serve: no main¶
+-- A declaration that isn't checked yet is not run.
+int x=1;void main(){print(1);}|9|Errors|/a.dart:1:1: not_built: Not built.¶
+void f(){int = ;}void main(){print(true+1);}|9|Errors|/a.dart:1:1: not_built: Not built.¶/a.dart:1:10: syntax_error: Syntax error.¶/a.dart:1:40: undefined_operator: Undefined operator.¶
 «#255»|9|Errors|/a.dart:1:1: file_not_utf8: File not utf8.¶
 void main(){}¶//«#128»|9|Errors|/a.dart:1:1: file_not_utf8: File not utf8.¶
 «#195»|9|Errors|/a.dart:1:1: file_not_utf8: File not utf8.¶

@@ -1,5 +1,5 @@
 use Rattle.check_library.specs.Diagnostics.{diagnostics, faults_in}
-use Rattle.check_library.proofs.Reports.{none_found}
+use Rattle.check_library.specs.Faultless.{none_found}
 use Rattle.check_library.proofs.laws.no_diagnostics_means_no_faults.Goals as goal
 
 pub returns : goal.returns

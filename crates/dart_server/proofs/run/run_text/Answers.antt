@@ -1,13 +1,13 @@
-use Rattle.std.proofs.Common.{◌≡◌, ◌≢◌, ◌∙◌, List, [], sym, subst}
+use Rattle.std.proofs.Common.{◌≡◌, ◌≢◌, ◌∙◌, List, [], None, Some, sym, subst}
 use Rattle.judgement.specs.declared.Fault.{Fault}
 use Rattle.check_library.specs.Diagnostics.{diagnostics}
 use Rattle.check_library.specs.Checked.{IsCheckOf}
 use Rattle.diagnostics.specs.Rendering.{rows_of, lines_of_rows}
 use Rattle.core_machine.specs.State.{run_of}
-use Rattle.dart_server.specs.declared.status.Status.TheVariants.{Errors}
-use Rattle.dart_server.specs.Run.{Says, Writes, Prints, RowsGive}
+use Rattle.dart_server.specs.declared.status.Status.TheVariants.{Errors, Refused}
+use Rattle.dart_server.specs.Run.{no_main_line, Says, Writes, Prints, RowsGive}
 use Rattle.dart_server.proofs.WritesLemmas.{writes_map}
-use Rattle.dart_server.proofs.ProgramLemmas.{none_of_length, some_of_length, faultless, given_by_program, given_by_rows}
+use Rattle.dart_server.proofs.ProgramLemmas.{none_of_length, some_of_length, faultless, given_by_unit, given_by_program, given_by_rows}
 use Rattle.dart_server.proofs.run.run_text.Goals as goal
 
 pub returns-then-not-is_empty-clause-writes : goal.returns-then-not-is_empty-clause-writes
@@ -18,15 +18,24 @@ returns-then-not-is_empty-clause-writes g c =
     (writes_map (Says (lines_of_rows (rows_of c.args.file.now c.args.text.now c.as_slice-faults.result.now)) Errors) (RowsGive c.args.text.now c.args.steps (rows_of c.args.file.now c.args.text.now c.as_slice-faults.result.now)) _ _ _
     (given_by_rows c.args.file.now c.args.text.now c.args.text.now c.args.steps c.as_slice-faults.result.now some) c.report.ensures.writes)
 
-pub program_of-requires : goal.program_of-requires
-program_of-requires g c =
+pub program_of-requires-clause-faultless : goal.program_of-requires-clause-faultless
+program_of-requires-clause-faultless g c =
     let none : c.as_slice-faults.result.now ≡ [] = none_of_length c.as_slice-faults.result.now (sym c.is_empty.ensures ∙ c.if-not-is_empty.false) in
     faultless c.args.text.now _ c.in_ok-checked.ensures.check (sym c.as_slice-faults.ensures ∙ none)
+
+pub returns-in-Some-clause-writes : goal.returns-in-Some-clause-writes
+returns-in-Some-clause-writes g c =
+    let none : c.as_slice-faults.result.now ≡ [] = none_of_length c.as_slice-faults.result.now (sym c.is_empty.ensures ∙ c.if-not-is_empty.false) in
+    let check : IsCheckOf c.args.text.now c.in_ok-checked.checked = c.in_ok-checked.ensures.check in
+    writes_map (Prints (run_of c.in_ok-program-in-Some.program c.args.steps)) _ _ _ _
+    (λ output status prints. given_by_unit c.args.file.now c.args.text.now c.args.steps c.in_ok-checked.checked (Some c.in-Some.unit) check (sym c.as_slice-faults.ensures ∙ none) c.in-Some.is output status
+    (given_by_program c.args.steps c.in-Some.unit c.in_ok-program-in-Some.program c.in_ok-program-in-Some.ensures.program c.in_ok-program-in-Some.ensures.sound output status prints))
+    c.run_program.ensures.writes
 
 pub returns-clause-writes : goal.returns-clause-writes
 returns-clause-writes g c =
     let none : c.as_slice-faults.result.now ≡ [] = none_of_length c.as_slice-faults.result.now (sym c.is_empty.ensures ∙ c.if-not-is_empty.false) in
     let check : IsCheckOf c.args.text.now c.in_ok-checked.checked = c.in_ok-checked.ensures.check in
-    writes_map (Prints (run_of c.in_ok-program.program c.args.steps)) _ _ _ _
-    (given_by_program c.args.file.now c.args.text.now c.args.steps c.in_ok-checked.checked c.in_ok-program.program check (sym c.as_slice-faults.ensures ∙ none) c.in_ok-program.ensures.program c.in_ok-program.ensures.sound)
-    c.run_program.ensures.writes
+    writes_map (Says no_main_line Refused) _ _ _ _
+    (λ output status says. given_by_unit c.args.file.now c.args.text.now c.args.steps c.in_ok-checked.checked None check (sym c.as_slice-faults.ensures ∙ none) c.in-None.is output status says)
+    c.say.ensures.writes

@@ -2,7 +2,7 @@ use Rattle.std.proofs.Common.{◌≡◌, ◌∙◌, List, [], sym}
 use Rattle.rule_tests.proofs.Faultless.{none_of_length, faultless}
 use Rattle.rule_tests.proofs.program_tests.program_of.Goals as goal
 
-pub elaborate-requires : goal.elaborate-requires
-elaborate-requires c =
+pub elaborate-requires-clause-faultless : goal.elaborate-requires-clause-faultless
+elaborate-requires-clause-faultless c =
     let none : c.as_slice.result.now ≡ [] = none_of_length c.as_slice.result.now (sym c.is_empty.ensures ∙ c.if-not-is_empty.false) in
     faultless _ c.as_bytes.result.now _ (c.as_bytes.ensures.value ∙ c.as_str.ensures.same) c.no_diagnostics_means_no_faults.ensures c.in_ok-checked.ensures.check (sym c.as_slice.ensures ∙ none)

@@ -1,0 +1,4 @@
+pub mod LiteralLemmas
+pub mod Alone
+pub mod Sorting
+pub mod Listing

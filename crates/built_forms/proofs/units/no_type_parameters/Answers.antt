@@ -1,0 +1,6 @@
+use Rattle.std.proofs.Common.{◌∙◌}
+use Rattle.built_forms.proofs.Alone.{none_by_length}
+use Rattle.built_forms.proofs.units.no_type_parameters.Goals as goal
+
+pub returns : goal.returns
+returns c = c.is_empty.ensures ∙ none_by_length c.args.parameters.now
