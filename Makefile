@@ -1,6 +1,6 @@
 # `make demo` proves and builds the program, feeds it the session of examples/ and prints its replies.
 # `make test` is the gate: it proves, tries and runs everything.
-# `make bench` proves and builds the programs, and prints how long tokens, trees, checks, edits and runs take, by the size of the text, tests of subtyping, bounds and inference, and unions of rows, look-ups and joins of flow models.
+# `make bench` proves and builds the programs, and prints how long trees, checks, edits and runs take, by the size of the text, tests of subtyping, bounds and inference, and unions of rows, look-ups and joins of flow models.
 .PHONY: demo test bench
 
 SESSION := $(CURDIR)/examples/session.jsonl
@@ -15,7 +15,6 @@ bench:
 	@cd crates/dart_serve && mkdir -p out && { rt run -- serve < /dev/null > /dev/null 2> out/bench.log || { cat out/bench.log >&2; exit 1; }; }
 	@cd crates/parse_lines && mkdir -p out && { rt run < /dev/null > /dev/null 2> out/bench.log || { cat out/bench.log >&2; exit 1; }; }
 	@cd crates/unit_lines && mkdir -p out && { rt run < /dev/null > /dev/null 2> out/bench.log || { cat out/bench.log >&2; exit 1; }; }
-	@python3 bench/tokens.py
 	@python3 bench/parse.py
 	@python3 bench/units.py
 	@python3 bench/check.py
