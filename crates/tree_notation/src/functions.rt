@@ -7,19 +7,22 @@ use std::alloc::AllocError;
 
 /// Writes a body behind a blank.
 pub fn body_of<'t>(out: &mut Pieces<'t>, body: &'t Body) -> Result<(), AllocError> {
+    out.text(" ")?;
+    out.range(body.place())?;
     match &body.node {
         BodyNode::Block { statements, .. } => out.block(statements.as_slice()),
         BodyNode::Expression { value, .. } => {
-            out.text(" =>")?;
+            out.text("=>")?;
             out.spaced_expression(value)
         }
-        BodyNode::Empty { .. } => out.text(" ;"),
-        BodyNode::Native { .. } => out.text(" native"),
+        BodyNode::Empty { .. } => out.text(";"),
+        BodyNode::Native { .. } => out.text("native"),
     }
 }
 
 /// Writes a function with its name.
 pub fn function<'t>(out: &mut Pieces<'t>, function: &'t Function) -> Result<(), AllocError> {
+    out.range(function.place())?;
     match &function.node {
         FunctionNode::Getter { .. } => getter(out, &function.node),
         FunctionNode::Setter { .. } => setter(out, &function.node),
@@ -89,10 +92,13 @@ fn plain<'t>(out: &mut Pieces<'t>, node: &'t FunctionNode) -> Result<(), AllocEr
 
 /// Writes variables that are declared together.
 pub fn variables<'t>(out: &mut Pieces<'t>, list: &'t VariableList) -> Result<(), AllocError> {
+    out.range(list.at)?;
     out.text(if list.is_final { "(final" } else { "(var" })?;
     out.optional_type(&list.written)?;
     for each in list.variables.iter() {
-        out.spaced_word(each.name.word)?;
+        out.text(" ")?;
+        out.range(each.at)?;
+        out.word(each.name.word)?;
         if let Some(value) = &each.initializer {
             out.text("=")?;
             out.expression(value)?;

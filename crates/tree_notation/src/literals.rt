@@ -34,7 +34,8 @@ fn strings_of<'t>(out: &mut Pieces<'t>, strings: &'t [StringLiteral]) -> Result<
 }
 
 /// Writes a string: as it stands, or with its interpolations.
-fn string<'t>(out: &mut Pieces<'t>, string: &'t StringLiteral) -> Result<(), AllocError> {
+pub fn string<'t>(out: &mut Pieces<'t>, string: &'t StringLiteral) -> Result<(), AllocError> {
+    out.range(string.place())?;
     match &string.node {
         StringLiteralNode::Simple { word, .. } => out.word(*word),
         StringLiteralNode::Interpolated { elements, .. } => {

@@ -5,7 +5,7 @@
 
 use crate::{expressions, statements, types};
 use dart_tokens::Words;
-use dart_tree::{Expr, Identifier, Stmt, WrittenType};
+use dart_tree::{Expr, Identifier, Place, Span, Stmt, WrittenType};
 use std::alloc::{AllocError, Global};
 
 /// A piece of a notation.
@@ -15,12 +15,23 @@ pub enum Piece<'t> {
     Text(&'static str),
     /// A word of the source, by its number.
     Word(u32),
+    /// Where the node behind it stands.
+    Range(Span),
     /// A type.
     Type(&'t WrittenType),
     /// An expression.
     Expression(&'t Expr),
     /// A statement.
     Statement(&'t Stmt),
+}
+
+/// Whether a notation tells where its nodes stand.
+#[derive(Clone, Copy, Debug, PartialEq, Eq)]
+pub enum Ranges {
+    /// It doesn't.
+    Hidden,
+    /// Before a node stands its range, `START+LENGTH:`, in UTF-16 code units from 0.
+    Shown,
 }
 
 /// The pieces of a node, in their order.
@@ -30,6 +41,13 @@ pub struct Pieces<'t> {
 }
 
 impl<'t> Pieces<'t> {
+    /// No piece yet. It takes no memory.
+    pub fn new(alloc: Global) -> Pieces<'t> {
+        Pieces {
+            all: Vec::new(alloc),
+        }
+    }
+
     /// Adds text as it stands.
     pub fn text(&mut self, text: &'static str) -> Result<(), AllocError> {
         self.all.push(Piece::Text(text))?;
@@ -44,6 +62,12 @@ impl<'t> Pieces<'t> {
     /// Adds a word of the source.
     pub fn word(&mut self, word: u32) -> Result<(), AllocError> {
         self.all.push(Piece::Word(word))?;
+        Ok(())
+    }
+
+    /// Adds where the node whose notation comes next stands.
+    pub fn range(&mut self, at: Place) -> Result<(), AllocError> {
+        self.all.push(Piece::Range(at.span))?;
         Ok(())
     }
 
@@ -113,9 +137,9 @@ impl<'t> Pieces<'t> {
         Ok(())
     }
 
-    /// Adds statements in braces, with blanks between them, behind a blank.
+    /// Adds statements in braces, with blanks between them.
     pub fn block(&mut self, statements: &'t [Stmt]) -> Result<(), AllocError> {
-        self.text(" {")?;
+        self.text("{")?;
         let mut is_first = true;
         for each in statements.iter() {
             self.text_if(!is_first, " ")?;
@@ -126,19 +150,27 @@ impl<'t> Pieces<'t> {
     }
 }
 
-/// The pieces of a piece: those of a node, or itself.
-fn pieces_of(alloc: Global, piece: Piece<'_>) -> Result<Vec<Piece<'_>>, AllocError> {
-    let mut pieces = Pieces {
-        all: Vec::new(alloc),
-    };
+/// The pieces of a piece: where a node stands and those of the node, or the piece itself.
+fn pieces_of(alloc: Global, piece: Piece<'_>) -> Result<Pieces<'_>, AllocError> {
+    let mut pieces = Pieces::new(alloc);
     match piece {
         Piece::Text(text) => pieces.text(text)?,
         Piece::Word(word) => pieces.word(word)?,
-        Piece::Type(written) => types::written_type(&mut pieces, written)?,
-        Piece::Expression(expr) => expressions::expression(&mut pieces, expr)?,
-        Piece::Statement(stmt) => statements::statement(&mut pieces, stmt)?,
+        Piece::Range(span) => pieces.all.push(Piece::Range(span))?,
+        Piece::Type(written) => {
+            pieces.range(written.place())?;
+            types::written_type(&mut pieces, written)?
+        }
+        Piece::Expression(expr) => {
+            pieces.range(expr.place())?;
+            expressions::expression(&mut pieces, expr)?
+        }
+        Piece::Statement(stmt) => {
+            pieces.range(stmt.place())?;
+            statements::statement(&mut pieces, stmt)?
+        }
     }
-    Ok(pieces.all)
+    Ok(pieces)
 }
 
 /// A word of the source; what has no word is shown as such.
@@ -149,6 +181,20 @@ fn word_at(words: &Words, word: u32) -> &str {
     }
 }
 
+/// Adds a range to a text, where ranges are shown.
+fn add_range(
+    alloc: Global,
+    text: &mut String,
+    span: Span,
+    ranges: Ranges,
+) -> Result<(), AllocError> {
+    if ranges == Ranges::Shown {
+        let length = span.end.saturating_sub(span.start);
+        text.push_str(&format!(in alloc; "{}+{length}:", span.start)?)?;
+    }
+    Ok(())
+}
+
 /// Puts pieces before those that are still to be written, of which the next stands last.
 fn put_before<'t>(open: &mut Vec<Piece<'t>>, pieces: &[Piece<'t>]) -> Result<(), AllocError> {
     for each in pieces.iter().rev() {
@@ -157,11 +203,16 @@ fn put_before<'t>(open: &mut Vec<Piece<'t>>, pieces: &[Piece<'t>]) -> Result<(),
     Ok(())
 }
 
-/// The text of a notation.
-fn text_of(alloc: Global, words: &Words, first: Piece<'_>) -> Result<String, AllocError> {
+/// The text of a notation, with the words of its text. The error is want of memory.
+pub fn text_of(
+    alloc: Global,
+    words: &Words,
+    pieces: &Pieces<'_>,
+    ranges: Ranges,
+) -> Result<String, AllocError> {
     let mut text = String::new(alloc);
     let mut open = Vec::new(alloc);
-    open.push(first)?;
+    put_before(&mut open, pieces.all.as_slice())?;
     // No notation has as many pieces.
     for _ in 0..usize::MAX {
         let Some(piece) = open.pop() else {
@@ -170,7 +221,8 @@ fn text_of(alloc: Global, words: &Words, first: Piece<'_>) -> Result<String, All
         match piece {
             Piece::Text(part) => text.push_str(part)?,
             Piece::Word(word) => text.push_str(word_at(words, word))?,
-            node => put_before(&mut open, pieces_of(alloc, node)?.as_slice())?,
+            Piece::Range(span) => add_range(alloc, &mut text, span, ranges)?,
+            node => put_before(&mut open, pieces_of(alloc, node)?.all.as_slice())?,
         }
     }
     Ok(text)
@@ -178,10 +230,14 @@ fn text_of(alloc: Global, words: &Words, first: Piece<'_>) -> Result<String, All
 
 /// The notation of a statement, with the words of its text. The error is want of memory.
 pub fn statement_text(alloc: Global, words: &Words, stmt: &Stmt) -> Result<String, AllocError> {
-    text_of(alloc, words, Piece::Statement(stmt))
+    let mut pieces = Pieces::new(alloc);
+    pieces.all.push(Piece::Statement(stmt))?;
+    text_of(alloc, words, &pieces, Ranges::Hidden)
 }
 
 /// The notation of an expression, with the words of its text. The error is want of memory.
 pub fn expression_text(alloc: Global, words: &Words, expr: &Expr) -> Result<String, AllocError> {
-    text_of(alloc, words, Piece::Expression(expr))
+    let mut pieces = Pieces::new(alloc);
+    pieces.expression(expr)?;
+    text_of(alloc, words, &pieces, Ranges::Hidden)
 }

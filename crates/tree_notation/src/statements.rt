@@ -2,14 +2,14 @@
 
 use crate::functions::{function, variables};
 use crate::pieces::Pieces;
-use dart_tree::{CatchClause, Expr, ForInitializer, ListedName, Stmt, StmtNode, SwitchCase};
+use dart_tree::{Block, CatchClause, Expr, ForInitializer, ListedName, Stmt, StmtNode, SwitchCase};
 use std::alloc::AllocError;
 
 /// Writes a statement.
 pub fn statement<'t>(out: &mut Pieces<'t>, stmt: &'t Stmt) -> Result<(), AllocError> {
     match &stmt.node {
         StmtNode::Block { statements, .. } => {
-            out.text("(block")?;
+            out.text("(block ")?;
             out.block(statements.as_slice())?;
             out.text(")")
         }
@@ -223,9 +223,12 @@ fn switch<'t>(out: &mut Pieces<'t>, node: &'t StmtNode) -> Result<(), AllocError
 
 /// Writes a case behind a blank.
 fn case<'t>(out: &mut Pieces<'t>, case: &'t SwitchCase) -> Result<(), AllocError> {
-    out.text(" (case")?;
+    out.text(" ")?;
+    out.range(case.at)?;
+    out.text("(case")?;
     out.expressions(case.labels.as_slice())?;
     out.text_if(case.is_default, " default")?;
+    out.text(" ")?;
     out.block(case.statements.as_slice())?;
     out.text(")")
 }
@@ -242,25 +245,34 @@ fn try_statement<'t>(out: &mut Pieces<'t>, node: &'t StmtNode) -> Result<(), All
         return Ok(());
     };
     out.text("(try")?;
-    out.block(body.statements.as_slice())?;
+    block(out, body)?;
     for each in handlers.iter() {
         handler(out, each)?;
     }
     if let Some(last) = finally_block {
         out.text(" finally")?;
-        out.block(last.statements.as_slice())?;
+        block(out, last)?;
     }
     out.text(")")
 }
 
+/// Writes statements in braces behind a blank.
+fn block<'t>(out: &mut Pieces<'t>, block: &'t Block) -> Result<(), AllocError> {
+    out.text(" ")?;
+    out.range(block.at)?;
+    out.block(block.statements.as_slice())
+}
+
 /// Writes a clause that catches, behind a blank: `on` before its type, then the names.
 fn handler<'t>(out: &mut Pieces<'t>, handler: &'t CatchClause) -> Result<(), AllocError> {
-    out.text(" (catch")?;
+    out.text(" ")?;
+    out.range(handler.at)?;
+    out.text("(catch")?;
     out.text_if(handler.written.is_some(), " on")?;
     out.optional_type(&handler.written)?;
     listed_name(out, &handler.exception)?;
     listed_name(out, &handler.stack_trace)?;
-    out.block(handler.body.statements.as_slice())?;
+    block(out, &handler.body)?;
     out.text(")")
 }
 

@@ -98,7 +98,9 @@ pub fn type_parameters<'t>(
     parameters: &'t [TypeParameter],
 ) -> Result<(), AllocError> {
     for each in parameters.iter() {
-        out.text(" <")?;
+        out.text(" ")?;
+        out.range(each.at)?;
+        out.text("<")?;
         out.word(each.name.word)?;
         out.optional_type(&each.bound)?;
         out.text(">")?;
@@ -129,10 +131,12 @@ pub fn parameters_of<'t>(
 ) -> Result<(), AllocError> {
     for each in parameters.iter() {
         let (opening, closing) = match each.kind {
-            ParameterKind::Positional => (" (", ")"),
-            ParameterKind::OptionalPositional => (" [", "]"),
-            ParameterKind::Named => (" {", "}"),
+            ParameterKind::Positional => ("(", ")"),
+            ParameterKind::OptionalPositional => ("[", "]"),
+            ParameterKind::Named => ("{", "}"),
         };
+        out.text(" ")?;
+        out.range(each.at)?;
         out.text(opening)?;
         parameter(out, each)?;
         out.text(closing)?;
