@@ -13,9 +13,13 @@ use Rattle.built_forms.specs.Places.{place, span}
 use Rattle.built_forms.specs.Forms.{block_of, is_error}
 use Rattle.built_forms.specs.DeclaredNames.{declared_in, brings_names}
 
--- a word is `main`, and just one of the names that are declared
-abbrev pub is_main : (words : List (List ℕ)) → (declared : List ℕ) → (word : ℕ) → Bool
-is_main words declared word = bytes_eq (slice_index_or words word []) (codes "main") && length (filter (nat_eq word) declared) == 1
+-- a word is `main`
+abbrev pub is_main : (words : List (List ℕ)) → (word : ℕ) → Bool
+is_main words word = bytes_eq (slice_index_or words word []) (codes "main")
+
+-- just one of the names that are declared is `main`
+abbrev pub has_one_main : (words : List (List ℕ)) → (declared : List ℕ) → Bool
+has_one_main words declared = length (filter (is_main words) declared) == 1
 
 -- `void` is written
 abbrev pub is_void : Part → Bool
@@ -33,31 +37,31 @@ takes_nothing (parameter_list at parameters) = are_none parameters
 takes_nothing _ = false
 
 -- `void main() { .. }`
-abbrev pub main_of : List Meaning → (words : List (List ℕ)) → (declared : List ℕ) → Place → Tree → Option small.Tree
-main_of meanings words declared at (plain_function over result name type_parameters parameters body) =
-    if is_void result && (are_none type_parameters && (takes_nothing parameters && is_main words declared name.word))
+abbrev pub main_of : List Meaning → (words : List (List ℕ)) → (one : Bool) → Place → Tree → Option small.Tree
+main_of meanings words one at (plain_function over result name type_parameters parameters body) =
+    if is_void result && (are_none type_parameters && (takes_nothing parameters && (one && is_main words name.word)))
     then option_map (small.function at) (block_of meanings words body) else None
-main_of meanings words declared at _ = None
+main_of meanings words one at _ = None
 
 -- the function that an item is, if it is built: it has no annotations
-abbrev pub function_of : List Meaning → (words : List (List ℕ)) → (declared : List ℕ) → Tree → Option small.Tree
-function_of meanings words declared (function_declaration at metadata function) = if are_none metadata then main_of meanings words declared (place at) function else None
-function_of meanings words declared _ = None
+abbrev pub function_of : List Meaning → (words : List (List ℕ)) → (one : Bool) → Tree → Option small.Tree
+function_of meanings words one (function_declaration at metadata function) = if are_none metadata then main_of meanings words one (place at) function else None
+function_of meanings words one _ = None
 
 -- the first of these items that is built
-abbrev pub function_in : List Meaning → (words : List (List ℕ)) → (declared : List ℕ) → Trees → Option small.Tree
-function_in meanings words declared no_more = None
-function_in meanings words declared (more first rest) = option_or (function_of meanings words declared first) (function_in meanings words declared rest)
+abbrev pub function_in : List Meaning → (words : List (List ℕ)) → (one : Bool) → Trees → Option small.Tree
+function_in meanings words one no_more = None
+function_in meanings words one (more first rest) = option_or (function_of meanings words one first) (function_in meanings words one rest)
 
 -- where an item stands that isn't built; an error is none
-abbrev pub unbuilt_item : List Meaning → (words : List (List ℕ)) → (declared : List ℕ) → Tree → List Span
-unbuilt_item meanings words declared item =
-    if is_error item || is_some (function_of meanings words declared item) then [] else span (place_of item).span ∷ []
+abbrev pub unbuilt_item : List Meaning → (words : List (List ℕ)) → (one : Bool) → Tree → List Span
+unbuilt_item meanings words one item =
+    if is_error item || is_some (function_of meanings words one item) then [] else span (place_of item).span ∷ []
 
 -- where these items stand that aren't built
-abbrev pub unbuilt_in : List Meaning → (words : List (List ℕ)) → (declared : List ℕ) → Trees → List Span
-unbuilt_in meanings words declared no_more = []
-unbuilt_in meanings words declared (more first rest) = unbuilt_item meanings words declared first ++ unbuilt_in meanings words declared rest
+abbrev pub unbuilt_in : List Meaning → (words : List (List ℕ)) → (one : Bool) → Trees → List Span
+unbuilt_in meanings words one no_more = []
+unbuilt_in meanings words one (more first rest) = unbuilt_item meanings words one first ++ unbuilt_in meanings words one rest
 
 -- the items of a unit
 abbrev pub items_of : Tree → Trees
@@ -71,11 +75,11 @@ meanings_in words items = meanings_of words (declared_in items)
 -- the unit of the first language that a unit holds, if its function `main` is built
 abbrev pub built_unit : (words : List (List ℕ)) → Tree → Option small.Tree
 built_unit words tree =
-    option_map (small.unit (place (place_of tree))) (function_in (meanings_in words (items_of tree)) words (declared_in (items_of tree)) (items_of tree))
+    option_map (small.unit (place (place_of tree))) (function_in (meanings_in words (items_of tree)) words (has_one_main words (declared_in (items_of tree))) (items_of tree))
 
 -- where its directives and declarations stand that aren't built
 abbrev pub unbuilt : (words : List (List ℕ)) → Tree → List Span
-unbuilt words tree = unbuilt_in (meanings_in words (items_of tree)) words (declared_in (items_of tree)) (items_of tree)
+unbuilt words tree = unbuilt_in (meanings_in words (items_of tree)) words (has_one_main words (declared_in (items_of tree))) (items_of tree)
 
 -- a directive of it may bring names that others declare
 abbrev pub has_other_names : Tree → Bool

@@ -1,8 +1,7 @@
 //! Which declarations of a unit are built.
 
-ghost use Rattle.std.specs.Prelude.{◌≡◌, ◌⊎◌, ◌+◌, ◌<◌, ◌≤◌, [], ◌∷◌, ◌++◌, ℕ, Some, length, nat_eq, option_map, if◌then◌else◌, IfOk, IfSome, OnOk};
+ghost use Rattle.std.specs.Prelude.{◌≡◌, ◌⊎◌, ◌+◌, ◌<◌, ◌≤◌, [], ◌∷◌, ◌++◌, ℕ, Some, option_map, if◌then◌else◌, IfOk, IfSome, OnOk};
 ghost use Rattle.std.specs.Option.{option_or};
-ghost use Rattle.std.specs.List.{filter};
 ghost use Rattle.small_tree.specs.Tree.{unit};
 ghost use Rattle.small_tree.specs.Numbers.{nodes_in};
 ghost use Rattle.dart_tree.specs.Tree.{trees_of, part_of};
@@ -11,7 +10,7 @@ ghost use Rattle.dart_tree.specs.Places.{place_of};
 ghost use Rattle.built_forms.specs.Answers.{Gives};
 ghost use Rattle.built_forms.specs.Forms.{block_of, is_error};
 ghost use Rattle.built_forms.specs.Places.{span as span_seen};
-ghost use Rattle.built_forms.specs.Units.{is_main, is_void, are_none, main_of, function_of, function_in, unbuilt_item, unbuilt_in, built_unit, unbuilt, has_other_names};
+ghost use Rattle.built_forms.specs.Units.{is_main, has_one_main, is_void, are_none, main_of, function_of, function_in, unbuilt_item, unbuilt_in, built_unit, unbuilt, has_other_names};
 
 use crate::declared::{brings_names, declared_in};
 use crate::form::Unbuilt;
@@ -38,28 +37,27 @@ pub struct Forms {
     pub has_other_names: bool,
 }
 
-/// How often a word stands among others.
-fn occurrences(words: &[u32], word: u32) -> usize
-    ensures { result ≡ length (filter (nat_eq word) words.now) }
+/// Whether a word is `main`.
+fn is_main(words: &[PlainText], word: u32) -> bool
+    ensures { result ≡ is_main words.now word }
 {
-    let mut count = 0;
-    for other in words {
-        if word == *other {
+    match words.get(word as usize) {
+        Some(text) => text.as_str().as_bytes() == b"main".as_slice(),
+        None => false,
+    }
+}
+
+/// Whether just one of the names that are declared is `main`.
+fn has_one_main(words: &[PlainText], declared: &[u32]) -> bool
+    ensures { result ≡ has_one_main words.now declared.now }
+{
+    let mut count: usize = 0;
+    for word in declared {
+        if is_main(words, *word) {
             count += 1;
         }
     }
-    count
-}
-
-/// Whether a word is `main`, and just one of the names that are declared.
-fn is_main(words: &[PlainText], declared: &[u32], word: u32) -> bool
-    ensures { result ≡ is_main words.now declared.now word }
-{
-    let named = match words.get(word as usize) {
-        Some(text) => text.as_str().as_bytes() == b"main".as_slice(),
-        None => false,
-    };
-    named && occurrences(declared, word) == 1
+    count == 1
 }
 
 /// Whether `void` is written.
@@ -124,11 +122,11 @@ fn main_of(
     alloc: Global,
     meanings: &[Meaning],
     words: &[PlainText],
-    declared: &[u32],
+    one: bool,
     at: Place,
     function: &dart_tree::Function,
 ) -> Result<Function, Unbuilt>
-    ensures function { Gives (λ f. f) result (main_of meanings.now words.now declared.now at function.now) }
+    ensures function { Gives (λ f. f) result (main_of meanings.now words.now one at function.now) }
     ensures few { IfOk result (λ f. nodes_in f ≤ nodes_of function.now) }
 {
     match &function.node {
@@ -151,7 +149,10 @@ fn main_of(
             if !no_parameters(&parameters.parameters) {
                 return Err(Unbuilt::OtherForm);
             }
-            if !is_main(words, declared, name.word) {
+            if !one {
+                return Err(Unbuilt::OtherForm);
+            }
+            if !is_main(words, name.word) {
                 return Err(Unbuilt::OtherForm);
             }
             let body = block_of(alloc, meanings, words, body)?;
@@ -165,10 +166,10 @@ fn function_of(
     alloc: Global,
     meanings: &[Meaning],
     words: &[PlainText],
-    declared: &[u32],
+    one: bool,
     item: &Item,
 ) -> Result<Function, Unbuilt>
-    ensures function { Gives (λ f. f) result (function_of meanings.now words.now declared.now item.now) }
+    ensures function { Gives (λ f. f) result (function_of meanings.now words.now one item.now) }
     ensures few { IfOk result (λ f. nodes_in f < nodes_of item.now) }
 {
     match &item.node {
@@ -180,7 +181,7 @@ fn function_of(
             if !no_annotations(metadata) {
                 return Err(Unbuilt::OtherForm);
             }
-            main_of(alloc, meanings, words, declared, place(*at), function)
+            main_of(alloc, meanings, words, one, place(*at), function)
         }
         ItemNode::Class { .. } => Err(Unbuilt::OtherForm),
         ItemNode::Mixin { .. } => Err(Unbuilt::OtherForm),
@@ -231,16 +232,16 @@ fn add_item(
     alloc: Global,
     meanings: &[Meaning],
     words: &[PlainText],
-    declared: &[u32],
+    one: bool,
     item: &Item,
     main: &mut Option<Function>,
     unbuilt: &mut Vec<Span>,
 ) -> Result<(), AllocError>
-    ensures main { OnOk result (main.new ≡ option_or main.old (function_of meanings.now words.now declared.now item.now)) }
-    ensures unbuilt { OnOk result (unbuilt.new.items ≡ unbuilt.old.items ++ unbuilt_item meanings.now words.now declared.now item.now) }
+    ensures main { OnOk result (main.new ≡ option_or main.old (function_of meanings.now words.now one item.now)) }
+    ensures unbuilt { OnOk result (unbuilt.new.items ≡ unbuilt.old.items ++ unbuilt_item meanings.now words.now one item.now) }
     ensures few { OnOk result (IfSome main.new (λ f. (main.old ≡ Some f) ⊎ (nodes_in f < nodes_of item.now))) }
 {
-    match function_of(alloc, meanings, words, declared, item) {
+    match function_of(alloc, meanings, words, one, item) {
         Ok(function) => {
             if main.is_none() {
                 *main = Some(function);
@@ -257,25 +258,17 @@ fn sorted_out(
     alloc: Global,
     meanings: &[Meaning],
     words: &[PlainText],
-    declared: &[u32],
+    one: bool,
     items: &[Item],
 ) -> Result<(Option<Function>, Vec<Span>), AllocError>
-    ensures main { IfOk result (λ found. found.0 ≡ function_in meanings.now words.now declared.now (trees_of items.now)) }
-    ensures unbuilt { IfOk result (λ found. found.1.items ≡ unbuilt_in meanings.now words.now declared.now (trees_of items.now)) }
+    ensures main { IfOk result (λ found. found.0 ≡ function_in meanings.now words.now one (trees_of items.now)) }
+    ensures unbuilt { IfOk result (λ found. found.1.items ≡ unbuilt_in meanings.now words.now one (trees_of items.now)) }
     ensures few { IfOk result (λ found. IfSome found.0 (λ f. nodes_in f < nodes_of_all (trees_of items.now))) }
 {
     let mut main = None;
     let mut unbuilt = Vec::new(alloc);
     for item in items {
-        add_item(
-            alloc,
-            meanings,
-            words,
-            declared,
-            item,
-            &mut main,
-            &mut unbuilt,
-        )?;
+        add_item(alloc, meanings, words, one, item, &mut main, &mut unbuilt)?;
     }
     Ok((main, unbuilt))
 }
@@ -299,7 +292,8 @@ pub fn forms_of(alloc: Global, words: &Words, tree: &UnitTree) -> Result<Forms, 
 {
     let declared = declared_in(alloc, &tree.items)?;
     let meanings = meanings_of(alloc, words.as_slice(), &declared)?;
-    let (main, unbuilt) = sorted_out(alloc, &meanings, words.as_slice(), &declared, &tree.items)?;
+    let one = has_one_main(words.as_slice(), &declared);
+    let (main, unbuilt) = sorted_out(alloc, &meanings, words.as_slice(), one, &tree.items)?;
     let unit = unit_around(place(tree.at), main);
     let has_other_names = brings_names(&tree.items);
     Ok(Forms {
