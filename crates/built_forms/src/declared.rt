@@ -11,7 +11,7 @@ use std::alloc::{AllocError, Global};
 fn function_word(function: &Function) -> u32
     ensures { declared_by_function function.now ≡ result ∷ [] }
 {
-    match &function.node {
+    match &*function.node {
         FunctionNode::Getter { name, .. } => name.word,
         FunctionNode::Setter { name, .. } => name.word,
         FunctionNode::Plain { name, .. } => name.word,
@@ -42,7 +42,7 @@ fn add_prefix(prefix: &Option<ListedName>, words: &mut Vec<u32>) -> Result<(), A
 fn add_item(item: &Item, words: &mut Vec<u32>) -> Result<(), AllocError>
     ensures { OnOk result (words.new.items ≡ words.old.items ++ declared_by item.now) }
 {
-    match &item.node {
+    match &*item.node {
         ItemNode::Class { name, .. } => words.push(name.word)?,
         ItemNode::Mixin { name, .. } => words.push(name.word)?,
         ItemNode::TypeAlias { name, .. } => words.push(name.word)?,
@@ -74,7 +74,7 @@ pub(crate) fn declared_in(alloc: Global, items: &[Item]) -> Result<Vec<u32>, All
 fn brings(item: &Item) -> bool
     ensures { result ≡ brings item.now }
 {
-    match &item.node {
+    match &*item.node {
         ItemNode::Import { .. } => true,
         ItemNode::Part { .. } => true,
         ItemNode::PartOf { .. } => true,

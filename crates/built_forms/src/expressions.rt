@@ -149,7 +149,7 @@ pub(crate) fn form_of(
     ensures form { Gives (λ f. f) result (form_of meanings.now words.now expr.now) }
     ensures few { IfOk result (λ f. nodes_in_form f ≤ nodes_of expr.now) }
 {
-    match &expr.node {
+    match &*expr.node {
         dart_tree::ExprNode::Identifier { at, word } => {
             return name_row(meaning_at(meanings, *word), place(*at), *word)
         }

@@ -45,7 +45,7 @@ fn type_of(meanings: &[Meaning], written: &dart_tree::WrittenType) -> Result<Wri
     ensures written { Gives (λ t. t) result (type_of meanings.now written.now) }
     ensures few { IfOk result (λ t. nodes_in t ≤ nodes_of written.now) }
 {
-    match &written.node {
+    match &*written.node {
         dart_tree::WrittenTypeNode::Void { .. } => Err(Unbuilt::OtherForm),
         dart_tree::WrittenTypeNode::Named {
             at,

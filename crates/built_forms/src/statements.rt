@@ -63,7 +63,7 @@ fn effect_of(
 fn is_error(statement: &dart_tree::Stmt) -> bool
     ensures { result ≡ is_error statement.now }
 {
-    match &statement.node {
+    match &*statement.node {
         dart_tree::StmtNode::Error { .. } => true,
         dart_tree::StmtNode::Block { .. } => false,
         dart_tree::StmtNode::Variables { .. } => false,
@@ -96,7 +96,7 @@ fn statement_of(
     ensures statement { Gives (λ s. s) result (statement_of meanings.now words.now statement.now) }
     ensures few { IfOk result (λ s. nodes_in s ≤ nodes_of statement.now) }
 {
-    match &statement.node {
+    match &*statement.node {
         dart_tree::StmtNode::Block { at, statements } => {
             let at = place(*at);
             let statements = statements_of(alloc, meanings, words, statements)?;
@@ -169,7 +169,7 @@ fn block_of(
     ensures block { Gives (λ b. b) result (block_of meanings.now words.now statement.now) }
     ensures few { IfOk result (λ b. nodes_in b ≤ nodes_of statement.now) }
 {
-    match &statement.node {
+    match &*statement.node {
         dart_tree::StmtNode::Block { at, statements } => {
             let at = place(*at);
             let statements = statements_of(alloc, meanings, words, statements)?;
@@ -201,10 +201,10 @@ fn else_of(
     alloc: Global,
     meanings: &[Meaning],
     words: &[PlainText],
-    branch: &Option<Box<dart_tree::Stmt>>,
+    branch: &Option<dart_tree::Stmt>,
 ) -> Result<Option<Block>, Unbuilt>
-    ensures part { Gives small_part result (else_of meanings.now words.now (part_of (option_map (λ b. b.value) branch.now))) }
-    ensures few { IfOk result (λ part. nodes_in_part (small_part part) ≤ nodes_of_part (part_of (option_map (λ b. b.value) branch.now))) }
+    ensures part { Gives small_part result (else_of meanings.now words.now (part_of branch.now)) }
+    ensures few { IfOk result (λ part. nodes_in_part (small_part part) ≤ nodes_of_part (part_of branch.now)) }
 {
     match branch {
         None => Ok(None),

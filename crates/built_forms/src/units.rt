@@ -66,7 +66,7 @@ fn is_void(written: &Option<WrittenType>) -> bool
 {
     match written {
         None => false,
-        Some(written) => match &written.node {
+        Some(written) => match &*written.node {
             WrittenTypeNode::Void { .. } => true,
             WrittenTypeNode::Named { .. } => false,
             WrittenTypeNode::Function { .. } => false,
@@ -129,7 +129,7 @@ fn main_of(
     ensures function { Gives (λ f. f) result (main_of meanings.now words.now one at function.now) }
     ensures few { IfOk result (λ f. nodes_in f ≤ nodes_of function.now) }
 {
-    match &function.node {
+    match &*function.node {
         FunctionNode::Getter { .. } => Err(Unbuilt::OtherForm),
         FunctionNode::Setter { .. } => Err(Unbuilt::OtherForm),
         FunctionNode::Plain {
@@ -172,7 +172,7 @@ fn function_of(
     ensures function { Gives (λ f. f) result (function_of meanings.now words.now one item.now) }
     ensures few { IfOk result (λ f. nodes_in f < nodes_of item.now) }
 {
-    match &item.node {
+    match &*item.node {
         ItemNode::Function {
             at,
             metadata,
@@ -201,7 +201,7 @@ fn function_of(
 fn is_error(item: &Item) -> bool
     ensures { result ≡ is_error item.now }
 {
-    match &item.node {
+    match &*item.node {
         ItemNode::Error { .. } => true,
         ItemNode::Function { .. } => false,
         ItemNode::Class { .. } => false,

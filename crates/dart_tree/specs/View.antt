@@ -1,6 +1,5 @@
 -- What each form of a node is as a tree: one level, as the nodes in it are trees already.
 use Rattle.std.specs.Prelude.{Some, None}
-use Rattle.std.specs.Option.{option_map}
 use Rattle.dart_tree.specs.Tree.{Tree, Part, absent, present, trees_of, part_of, void_type, named_type, function_type, integer_literal, string_literal, boolean_literal, null_literal, this_expression, super_expression, identifier, parenthesis, new_expression, list_literal, set_or_map_literal, function_expression, generic_identifier, property_access, index_expression, null_check, call, unary_expression, postfix_expression, binary_expression, type_test, type_cast, conditional, assignment, throw_expression, cascade, cascaded_name, cascaded_index, simple_string, interpolated_string, string_text, string_interpolation, block, expression_body, empty_body, native_body, getter, setter, plain_function, variable_statement, function_statement, expression_statement, if_statement, while_statement, do_statement, for_statement, for_in_statement, for_in_assignment, switch_statement, try_statement, return_statement, break_statement, continue_statement, rethrow_statement, labeled_statement, error_node, constructor_declaration, factory_declaration, method_declaration, field_declaration, operator_declaration, field_initializer, super_initializer, redirection, class_declaration, mixin_declaration, type_alias, function_declaration, variable_declaration, library_directive, import_directive, export_directive, part_directive, part_of_directive, part_of_library_directive, show_combinator, hide_combinator}
 use Rattle.dart_tree.specs.declared.types.WrittenTypeNode.{WrittenTypeNode}
 use Rattle.dart_tree.specs.declared.types.WrittenTypeNode.TheVariants as written_type
@@ -37,7 +36,7 @@ for_initializer_of (for_initializer.Expression value) = present value
 abbrev pub written_type_of : WrittenTypeNode → Tree
 written_type_of (written_type.Void at) = void_type at
 written_type_of (written_type.Named at prefix name arguments nullable) = named_type at prefix name (part_of arguments) nullable
-written_type_of (written_type.Function at result type_parameters parameters optional nullable) = function_type at (part_of (option_map (λ b. b.value) result)) (trees_of type_parameters.items) (trees_of parameters.items) (trees_of optional.items) nullable
+written_type_of (written_type.Function at result type_parameters parameters optional nullable) = function_type at (part_of result) (trees_of type_parameters.items) (trees_of parameters.items) (trees_of optional.items) nullable
 
 -- an expression
 abbrev pub expr_of : ExprNode → Tree
@@ -48,27 +47,27 @@ expr_of (expr.Null at) = null_literal at
 expr_of (expr.This at) = this_expression at
 expr_of (expr.Super at) = super_expression at
 expr_of (expr.Identifier at word) = identifier at word
-expr_of (expr.Parenthesis at inner) = parenthesis at inner.value
+expr_of (expr.Parenthesis at inner) = parenthesis at inner
 expr_of (expr.New at written name arguments) = new_expression at written name arguments
 expr_of (expr.List at type_arguments elements) = list_literal at (part_of type_arguments) (trees_of elements.items)
 expr_of (expr.SetOrMap at type_arguments entries) = set_or_map_literal at (part_of type_arguments) (trees_of entries.items)
 expr_of (expr.Function at parameters body) = function_expression at parameters body
 expr_of (expr.GenericIdentifier at name type_arguments) = generic_identifier at name type_arguments
-expr_of (expr.Property at receiver null_aware name) = property_access at receiver.value null_aware name
-expr_of (expr.Index at receiver null_aware bracket index) = index_expression at receiver.value null_aware bracket index.value
-expr_of (expr.NullCheck at operand) = null_check at operand.value
-expr_of (expr.Call at callee type_arguments arguments) = call at callee.value (part_of type_arguments) arguments
-expr_of (expr.Unary at operator operand) = unary_expression at operator operand.value
-expr_of (expr.Postfix at operator operand) = postfix_expression at operator operand.value
-expr_of (expr.Binary at operator left right) = binary_expression at operator left.value right.value
-expr_of (expr.TypeTest at operand negated written) = type_test at operand.value negated written
-expr_of (expr.TypeCast at operand written) = type_cast at operand.value written
-expr_of (expr.Conditional at condition then_value else_value) = conditional at condition.value then_value.value else_value.value
-expr_of (expr.Assignment at operator target value) = assignment at operator target.value value.value
-expr_of (expr.Throw at value) = throw_expression at value.value
-expr_of (expr.Cascade at receiver null_aware section) = cascade at receiver.value null_aware section.value
+expr_of (expr.Property at receiver null_aware name) = property_access at receiver null_aware name
+expr_of (expr.Index at receiver null_aware bracket index) = index_expression at receiver null_aware bracket index
+expr_of (expr.NullCheck at operand) = null_check at operand
+expr_of (expr.Call at callee type_arguments arguments) = call at callee (part_of type_arguments) arguments
+expr_of (expr.Unary at operator operand) = unary_expression at operator operand
+expr_of (expr.Postfix at operator operand) = postfix_expression at operator operand
+expr_of (expr.Binary at operator left right) = binary_expression at operator left right
+expr_of (expr.TypeTest at operand negated written) = type_test at operand negated written
+expr_of (expr.TypeCast at operand written) = type_cast at operand written
+expr_of (expr.Conditional at condition then_value else_value) = conditional at condition then_value else_value
+expr_of (expr.Assignment at operator target value) = assignment at operator target value
+expr_of (expr.Throw at value) = throw_expression at value
+expr_of (expr.Cascade at receiver null_aware section) = cascade at receiver null_aware section
 expr_of (expr.CascadedName at name) = cascaded_name at name
-expr_of (expr.CascadedIndex at bracket index) = cascaded_index at bracket index.value
+expr_of (expr.CascadedIndex at bracket index) = cascaded_index at bracket index
 
 -- one string of a string literal
 abbrev pub string_literal_of : StringLiteralNode → Tree
@@ -78,12 +77,12 @@ string_literal_of (string_literal.Interpolated at elements) = interpolated_strin
 -- a part of a string with interpolations
 abbrev pub string_element_of : StringElementNode → Tree
 string_element_of (string_element.Text at kind word) = string_text at kind word
-string_element_of (string_element.Interpolation at value) = string_interpolation at value.value
+string_element_of (string_element.Interpolation at value) = string_interpolation at value
 
 -- what a function runs
 abbrev pub body_of : BodyNode → Tree
 body_of (body.Block at statements) = block at (trees_of statements.items)
-body_of (body.Expression at value) = expression_body at value.value
+body_of (body.Expression at value) = expression_body at value
 body_of (body.Empty at) = empty_body at
 body_of (body.Native at) = native_body at
 
@@ -99,19 +98,19 @@ stmt_of (stmt.Block at statements) = block at (trees_of statements.items)
 stmt_of (stmt.Variables at variables) = variable_statement at variables
 stmt_of (stmt.Function at function) = function_statement at function
 stmt_of (stmt.Expression at value) = expression_statement at (part_of value)
-stmt_of (stmt.If at condition then_branch else_branch) = if_statement at condition then_branch.value (part_of (option_map (λ b. b.value) else_branch))
-stmt_of (stmt.While at condition body) = while_statement at condition body.value
-stmt_of (stmt.Do at body condition) = do_statement at body.value condition
-stmt_of (stmt.For at initializer condition updates body) = for_statement at (for_initializer_of initializer) (part_of condition) (trees_of updates.items) body.value
-stmt_of (stmt.ForIn at is_final written name iterable body) = for_in_statement at is_final (part_of written) name iterable body.value
-stmt_of (stmt.ForInAssignment at name iterable body) = for_in_assignment at name iterable body.value
+stmt_of (stmt.If at condition then_branch else_branch) = if_statement at condition then_branch (part_of else_branch)
+stmt_of (stmt.While at condition body) = while_statement at condition body
+stmt_of (stmt.Do at body condition) = do_statement at body condition
+stmt_of (stmt.For at initializer condition updates body) = for_statement at (for_initializer_of initializer) (part_of condition) (trees_of updates.items) body
+stmt_of (stmt.ForIn at is_final written name iterable body) = for_in_statement at is_final (part_of written) name iterable body
+stmt_of (stmt.ForInAssignment at name iterable body) = for_in_assignment at name iterable body
 stmt_of (stmt.Switch at value cases) = switch_statement at value (trees_of cases.items)
 stmt_of (stmt.Try at body handlers finally_block) = try_statement at body (trees_of handlers.items) (part_of finally_block)
 stmt_of (stmt.Return at value) = return_statement at (part_of value)
 stmt_of (stmt.Break at label) = break_statement at label
 stmt_of (stmt.Continue at label) = continue_statement at label
 stmt_of (stmt.Rethrow at) = rethrow_statement at
-stmt_of (stmt.Labeled at label body) = labeled_statement at label body.value
+stmt_of (stmt.Labeled at label body) = labeled_statement at label body
 stmt_of (stmt.Error at) = error_node at
 
 -- a member of a class or a mixin

@@ -12,7 +12,7 @@ use std::marker::Model;
 #[cycle(tree)]
 pub struct Expr {
     /// Its form, with its parts.
-    pub node: ExprNode,
+    pub node: Box<ExprNode>,
 }
 
 impl Drop for Expr {
@@ -62,7 +62,7 @@ pub enum ExprNode {
     /// `(e)`.
     Parenthesis {
         at: Place,
-        inner: Box<Expr>,
+        inner: Expr,
     },
     /// `new T(a)`, `new T.n(a)`.
     New {
@@ -98,27 +98,27 @@ pub enum ExprNode {
     /// `r.m`, `r?.m`.
     Property {
         at: Place,
-        receiver: Box<Expr>,
+        receiver: Expr,
         null_aware: bool,
         name: Identifier,
     },
     /// `r[i]`, `r?[i]`; the range is that of the opening bracket.
     Index {
         at: Place,
-        receiver: Box<Expr>,
+        receiver: Expr,
         null_aware: bool,
         bracket: Span,
-        index: Box<Expr>,
+        index: Expr,
     },
     /// `e!`.
     NullCheck {
         at: Place,
-        operand: Box<Expr>,
+        operand: Expr,
     },
     /// `f(a)`, `f<T>(a)`.
     Call {
         at: Place,
-        callee: Box<Expr>,
+        callee: Expr,
         type_arguments: Option<TypeArguments>,
         arguments: ArgumentList,
     },
@@ -126,59 +126,59 @@ pub enum ExprNode {
     Unary {
         at: Place,
         operator: UnaryOperator,
-        operand: Box<Expr>,
+        operand: Expr,
     },
     /// `e++`.
     Postfix {
         at: Place,
         operator: PostfixOperator,
-        operand: Box<Expr>,
+        operand: Expr,
     },
     /// `a + b`, `a && b`.
     Binary {
         at: Place,
         operator: BinaryOperator,
-        left: Box<Expr>,
-        right: Box<Expr>,
+        left: Expr,
+        right: Expr,
     },
     /// `e is T`, `e is! T`.
     TypeTest {
         at: Place,
-        operand: Box<Expr>,
+        operand: Expr,
         negated: bool,
         written: WrittenType,
     },
     /// `e as T`.
     TypeCast {
         at: Place,
-        operand: Box<Expr>,
+        operand: Expr,
         written: WrittenType,
     },
     /// `c ? a : b`.
     Conditional {
         at: Place,
-        condition: Box<Expr>,
-        then_value: Box<Expr>,
-        else_value: Box<Expr>,
+        condition: Expr,
+        then_value: Expr,
+        else_value: Expr,
     },
     /// `t = e`, `t += e`.
     Assignment {
         at: Place,
         operator: AssignmentOperator,
-        target: Box<Expr>,
-        value: Box<Expr>,
+        target: Expr,
+        value: Expr,
     },
     /// `throw e`.
     Throw {
         at: Place,
-        value: Box<Expr>,
+        value: Expr,
     },
     /// `r..s`, `r?..s`: one section over what stands before it.
     Cascade {
         at: Place,
-        receiver: Box<Expr>,
+        receiver: Expr,
         null_aware: bool,
-        section: Box<Expr>,
+        section: Expr,
     },
     /// The `m` of `r..m`, with which a section begins: no node of its own depth.
     CascadedName {
@@ -189,7 +189,7 @@ pub enum ExprNode {
     CascadedIndex {
         at: Place,
         bracket: Span,
-        index: Box<Expr>,
+        index: Expr,
     },
 }
 
@@ -247,7 +247,7 @@ pub enum StringElementNode {
     /// `'a`, or what else of a string stands before, between or behind its interpolations.
     Text { at: Place, kind: Kind, word: u32 },
     /// `$b`, `${c}`.
-    Interpolation { at: Place, value: Box<Expr> },
+    Interpolation { at: Place, value: Expr },
 }
 
 /// An entry of a map or set literal.
@@ -324,13 +324,13 @@ impl Model for Expr {
 
     ghost use Rattle.dart_tree.specs.View.{expr_of};
 
-    ghost view = { λ a. expr_of a.node };
+    ghost view = { λ a. expr_of a.node.value };
 
     ghost size = { nodes_in };
 
     ghost use Rattle.dart_tree.specs.Falls.{expr_falls};
 
-    ghost size_decreases = { λ a h. expr_falls a.node };
+    ghost size_decreases = { λ a h. expr_falls a.node.value };
 }
 
 impl Model for StringLiteral {

@@ -88,7 +88,7 @@ pub enum BodyNode {
     /// `{ .. }`, as a statement or as a body.
     Block { at: Place, statements: Vec<Stmt> },
     /// `=> e`, with its `;` where there is one.
-    Expression { at: Place, value: Box<Expr> },
+    Expression { at: Place, value: Expr },
     /// `;`.
     Empty { at: Place },
     /// `native;`.
@@ -99,7 +99,7 @@ pub enum BodyNode {
 #[cycle(tree)]
 pub struct Function {
     /// Its form, with its parts.
-    pub node: FunctionNode,
+    pub node: Box<FunctionNode>,
 }
 
 impl Drop for Function {
@@ -258,13 +258,13 @@ impl Model for Function {
 
     ghost use Rattle.dart_tree.specs.View.{function_of};
 
-    ghost view = { λ a. function_of a.node };
+    ghost view = { λ a. function_of a.node.value };
 
     ghost size = { nodes_in };
 
     ghost use Rattle.dart_tree.specs.Falls.{function_falls};
 
-    ghost size_decreases = { λ a h. function_falls a.node };
+    ghost size_decreases = { λ a h. function_falls a.node.value };
 }
 
 impl Model for VariableList {

@@ -12,7 +12,7 @@ use std::marker::Model;
 #[derive(Drop)]
 pub struct Member {
     /// Its form, with its parts.
-    pub node: MemberNode,
+    pub node: Box<MemberNode>,
 }
 
 /// The forms of a member.
@@ -104,7 +104,7 @@ impl Model for Member {
 
     ghost use Rattle.dart_tree.specs.View.{member_of};
 
-    ghost view = { λ a. member_of a.node };
+    ghost view = { λ a. member_of a.node.value };
 }
 
 impl Model for Initializer {

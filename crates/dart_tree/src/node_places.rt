@@ -16,7 +16,7 @@ impl WrittenType {
     pub fn place(&self) -> Place
         ensures { result ≡ place_of self.now }
     {
-        match &self.node {
+        match &*self.node {
             WrittenTypeNode::Void { at } => *at,
             WrittenTypeNode::Named { at, .. } => *at,
             WrittenTypeNode::Function { at, .. } => *at,
@@ -29,7 +29,7 @@ impl Expr {
     pub fn place(&self) -> Place
         ensures { result ≡ place_of self.now }
     {
-        match &self.node {
+        match &*self.node {
             ExprNode::Integer { at, .. } => *at,
             ExprNode::Text { at, .. } => *at,
             ExprNode::Boolean { at, .. } => *at,
@@ -93,7 +93,7 @@ impl Function {
     pub fn place(&self) -> Place
         ensures { result ≡ place_of self.now }
     {
-        match &self.node {
+        match &*self.node {
             FunctionNode::Getter { at, .. } => *at,
             FunctionNode::Setter { at, .. } => *at,
             FunctionNode::Plain { at, .. } => *at,
@@ -106,7 +106,7 @@ impl Stmt {
     pub fn place(&self) -> Place
         ensures { result ≡ place_of self.now }
     {
-        match &self.node {
+        match &*self.node {
             StmtNode::Block { at, .. } => *at,
             StmtNode::Variables { at, .. } => *at,
             StmtNode::Function { at, .. } => *at,
@@ -134,7 +134,7 @@ impl Member {
     pub fn place(&self) -> Place
         ensures { result ≡ place_of self.now }
     {
-        match &self.node {
+        match &*self.node {
             MemberNode::Constructor { at, .. } => *at,
             MemberNode::Factory { at, .. } => *at,
             MemberNode::Method { at, .. } => *at,
@@ -150,7 +150,7 @@ impl Item {
     pub fn place(&self) -> Place
         ensures { result ≡ place_of self.now }
     {
-        match &self.node {
+        match &*self.node {
             ItemNode::Class { at, .. } => *at,
             ItemNode::Mixin { at, .. } => *at,
             ItemNode::TypeAlias { at, .. } => *at,

@@ -47,7 +47,7 @@ fn number_member(member: &mut Member, first: u32) -> u32
     ensures tree { member.new ≡ numbered first member.old }
     ensures next { result ≡ first + nodes_in member.old }
 {
-    match &mut member.node {
+    match &mut *member.node {
         MemberNode::Constructor {
             at,
             metadata,
@@ -169,7 +169,7 @@ fn number_item(item: &mut Item, first: u32) -> u32
     ensures tree { item.new ≡ numbered first item.old }
     ensures next { result ≡ first + nodes_in item.old }
 {
-    match &mut item.node {
+    match &mut *item.node {
         ItemNode::Class {
             at,
             metadata,

@@ -1,7 +1,6 @@
 //! The numbers of the nodes of types, expressions and functions.
 
 ghost use Rattle.std.specs.Prelude.{◌≡◌, ◌+◌, ◌<◌, ◌^◌};
-ghost use Rattle.std.specs.Option.{option_map};
 ghost use Rattle.dart_tree.specs.Tree.{trees_of, part_of};
 ghost use Rattle.dart_tree.specs.Numbers.{nodes_in, nodes_in_all, nodes_in_part, numbered, all_numbered, part_numbered, place_numbered};
 
@@ -25,7 +24,7 @@ pub(crate) fn number_written_type(written_type: &mut WrittenType, first: u32) ->
     ensures tree { written_type.new ≡ numbered first written_type.old }
     ensures next { result ≡ first + nodes_in written_type.old }
 {
-    match &mut written_type.node {
+    match &mut *written_type.node {
         WrittenTypeNode::Void { at } => number_place(at, first),
         WrittenTypeNode::Named { at, arguments, .. } => {
             let next = number_place(at, first);
@@ -40,7 +39,7 @@ pub(crate) fn number_written_type(written_type: &mut WrittenType, first: u32) ->
             ..
         } => {
             let next = number_place(at, first);
-            let next = number_boxed_written_type(result, next);
+            let next = number_optional_written_type(result, next);
             let next = number_type_parameters(type_parameters.as_mut_slice(), next);
             let next = number_parameter_types(parameters.as_mut_slice(), next);
             number_parameters(optional.as_mut_slice(), next)
@@ -60,19 +59,6 @@ pub(crate) fn number_written_types(written_types: &mut [WrittenType], first: u32
         next = number_written_type(item, next);
     }
     next
-}
-
-/// So of one that may be left out.
-#[cycle(number)]
-fn number_boxed_written_type(written_type: &mut Option<Box<WrittenType>>, first: u32) -> u32
-    requires { first + nodes_in_part (part_of (option_map (λ b. b.value) written_type.old)) < 2 ^ 32 }
-    ensures part { part_of (option_map (λ b. b.value) written_type.new) ≡ part_numbered first (part_of (option_map (λ b. b.value) written_type.old)) }
-    ensures next { result ≡ first + nodes_in_part (part_of (option_map (λ b. b.value) written_type.old)) }
-{
-    match written_type {
-        None => first,
-        Some(tree) => number_written_type(tree, first),
-    }
 }
 
 /// So of one that may be left out.
@@ -173,7 +159,7 @@ pub(crate) fn number_expr(expr: &mut Expr, first: u32) -> u32
     ensures tree { expr.new ≡ numbered first expr.old }
     ensures next { result ≡ first + nodes_in expr.old }
 {
-    match &mut expr.node {
+    match &mut *expr.node {
         ExprNode::Integer { at, .. } => number_place(at, first),
         ExprNode::Text { at, strings } => {
             let next = number_place(at, first);
@@ -553,7 +539,7 @@ pub(crate) fn number_function(function: &mut Function, first: u32) -> u32
     ensures tree { function.new ≡ numbered first function.old }
     ensures next { result ≡ first + nodes_in function.old }
 {
-    match &mut function.node {
+    match &mut *function.node {
         FunctionNode::Getter {
             at,
             result,

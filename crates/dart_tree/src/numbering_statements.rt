@@ -1,7 +1,6 @@
 //! The numbers of the nodes of statements.
 
 ghost use Rattle.std.specs.Prelude.{◌≡◌, ◌+◌, ◌<◌, ◌^◌};
-ghost use Rattle.std.specs.Option.{option_map};
 ghost use Rattle.dart_tree.specs.Tree.{trees_of, part_of};
 ghost use Rattle.dart_tree.specs.Numbers.{nodes_in, nodes_in_all, nodes_in_part, numbered, all_numbered, part_numbered};
 ghost use Rattle.dart_tree.specs.View.{for_initializer_of};
@@ -21,7 +20,7 @@ fn number_stmt(stmt: &mut Stmt, first: u32) -> u32
     ensures tree { stmt.new ≡ numbered first stmt.old }
     ensures next { result ≡ first + nodes_in stmt.old }
 {
-    match &mut stmt.node {
+    match &mut *stmt.node {
         StmtNode::Block { at, statements } => {
             let next = number_place(at, first);
             number_stmts(statements.as_mut_slice(), next)
@@ -47,7 +46,7 @@ fn number_stmt(stmt: &mut Stmt, first: u32) -> u32
             let next = number_place(at, first);
             let next = number_expr(condition, next);
             let next = number_stmt(then_branch, next);
-            number_boxed_stmt(else_branch, next)
+            number_optional_stmt(else_branch, next)
         }
         StmtNode::While {
             at,
@@ -167,10 +166,10 @@ pub(crate) fn number_stmts(stmts: &mut [Stmt], first: u32) -> u32
 
 /// So of one that may be left out.
 #[cycle(number)]
-fn number_boxed_stmt(stmt: &mut Option<Box<Stmt>>, first: u32) -> u32
-    requires { first + nodes_in_part (part_of (option_map (λ b. b.value) stmt.old)) < 2 ^ 32 }
-    ensures part { part_of (option_map (λ b. b.value) stmt.new) ≡ part_numbered first (part_of (option_map (λ b. b.value) stmt.old)) }
-    ensures next { result ≡ first + nodes_in_part (part_of (option_map (λ b. b.value) stmt.old)) }
+fn number_optional_stmt(stmt: &mut Option<Stmt>, first: u32) -> u32
+    requires { first + nodes_in_part (part_of stmt.old) < 2 ^ 32 }
+    ensures part { part_of stmt.new ≡ part_numbered first (part_of stmt.old) }
+    ensures next { result ≡ first + nodes_in_part (part_of stmt.old) }
 {
     match stmt {
         None => first,

@@ -11,7 +11,7 @@ use std::marker::Model;
 #[cycle(tree)]
 pub struct Stmt {
     /// Its form, with its parts.
-    pub node: StmtNode,
+    pub node: Box<StmtNode>,
 }
 
 impl Drop for Stmt {
@@ -50,19 +50,19 @@ pub enum StmtNode {
     If {
         at: Place,
         condition: Expr,
-        then_branch: Box<Stmt>,
-        else_branch: Option<Box<Stmt>>,
+        then_branch: Stmt,
+        else_branch: Option<Stmt>,
     },
     /// `while (c) s`.
     While {
         at: Place,
         condition: Expr,
-        body: Box<Stmt>,
+        body: Stmt,
     },
     /// `do s while (c);`.
     Do {
         at: Place,
-        body: Box<Stmt>,
+        body: Stmt,
         condition: Expr,
     },
     /// `for (i; c; u, v) s`, where `i` declares variables or is an expression.
@@ -71,7 +71,7 @@ pub enum StmtNode {
         initializer: ForInitializer,
         condition: Option<Expr>,
         updates: Vec<Expr>,
-        body: Box<Stmt>,
+        body: Stmt,
     },
     /// `for (final int x in e) s`: the variable is declared.
     ForIn {
@@ -80,14 +80,14 @@ pub enum StmtNode {
         written: Option<WrittenType>,
         name: Name,
         iterable: Expr,
-        body: Box<Stmt>,
+        body: Stmt,
     },
     /// `for (x in e) s`: a variable declared elsewhere.
     ForInAssignment {
         at: Place,
         name: Name,
         iterable: Expr,
-        body: Box<Stmt>,
+        body: Stmt,
     },
     /// `switch (e) { .. }`.
     Switch {
@@ -125,7 +125,7 @@ pub enum StmtNode {
     Labeled {
         at: Place,
         label: Name,
-        body: Box<Stmt>,
+        body: Stmt,
     },
     /// What derives nothing.
     Error {
@@ -228,13 +228,13 @@ impl Model for Stmt {
 
     ghost use Rattle.dart_tree.specs.View.{stmt_of};
 
-    ghost view = { λ a. stmt_of a.node };
+    ghost view = { λ a. stmt_of a.node.value };
 
     ghost size = { nodes_in };
 
     ghost use Rattle.dart_tree.specs.Falls.{stmt_falls};
 
-    ghost size_decreases = { λ a h. stmt_falls a.node };
+    ghost size_decreases = { λ a h. stmt_falls a.node.value };
 }
 
 impl Model for Block {

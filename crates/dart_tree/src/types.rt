@@ -9,7 +9,7 @@ use std::marker::Model;
 #[cycle(tree)]
 pub struct WrittenType {
     /// Its form, with its parts.
-    pub node: WrittenTypeNode,
+    pub node: Box<WrittenTypeNode>,
 }
 
 impl Drop for WrittenType {
@@ -39,7 +39,7 @@ pub enum WrittenTypeNode {
     /// `R Function<X>(A a, [B b])`, `?` behind it or not: the required parameters, and then those between brackets or braces.
     Function {
         at: Place,
-        result: Option<Box<WrittenType>>,
+        result: Option<WrittenType>,
         type_parameters: Vec<TypeParameter>,
         parameters: Vec<ParameterType>,
         optional: Vec<Parameter>,
@@ -118,13 +118,13 @@ impl Model for WrittenType {
 
     ghost use Rattle.dart_tree.specs.View.{written_type_of};
 
-    ghost view = { λ a. written_type_of a.node };
+    ghost view = { λ a. written_type_of a.node.value };
 
     ghost size = { nodes_in };
 
     ghost use Rattle.dart_tree.specs.Falls.{written_type_falls};
 
-    ghost size_decreases = { λ a h. written_type_falls a.node };
+    ghost size_decreases = { λ a h. written_type_falls a.node.value };
 }
 
 impl Model for TypeArguments {

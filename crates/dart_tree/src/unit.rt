@@ -13,7 +13,7 @@ use std::marker::Model;
 #[derive(Drop)]
 pub struct Item {
     /// Its form, with its parts.
-    pub node: ItemNode,
+    pub node: Box<ItemNode>,
 }
 
 /// The forms of an item.
@@ -134,7 +134,7 @@ impl Model for Item {
 
     ghost use Rattle.dart_tree.specs.View.{item_of};
 
-    ghost view = { λ a. item_of a.node };
+    ghost view = { λ a. item_of a.node.value };
 }
 
 impl Model for Combinator {

@@ -19,7 +19,7 @@ use std::alloc::AllocError;
 pub(crate) fn add_from_expr(expr: &Expr, errors: &mut Vec<Place>) -> Result<(), AllocError>
     ensures { OnOk result (errors.new.items ≡ errors.old.items ++ errors_of expr.now) }
 {
-    match &expr.node {
+    match &*expr.node {
         ExprNode::Integer { .. } => return Ok(()),
         ExprNode::Text { strings, .. } => return add_from_strings(strings.as_slice(), errors),
         ExprNode::Boolean { .. } => return Ok(()),

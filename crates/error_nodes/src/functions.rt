@@ -70,7 +70,7 @@ pub(crate) fn add_from_function(
 ) -> Result<(), AllocError>
     ensures { OnOk result (errors.new.items ≡ errors.old.items ++ errors_of function.now) }
 {
-    match &function.node {
+    match &*function.node {
         FunctionNode::Getter { result, body, .. } => {
             add_from_optional_written_type(result, errors)?;
             add_from_body(body, errors)

@@ -43,7 +43,7 @@ pub(crate) fn add_from_initializers(
 pub(crate) fn add_from_member(member: &Member, errors: &mut Vec<Place>) -> Result<(), AllocError>
     ensures { OnOk result (errors.new.items ≡ errors.old.items ++ errors_of member.now) }
 {
-    match &member.node {
+    match &*member.node {
         MemberNode::Constructor {
             parameters,
             initializers,

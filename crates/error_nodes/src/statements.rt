@@ -1,7 +1,6 @@
 //! The errors in statements and their parts.
 
 ghost use Rattle.std.specs.Prelude.{◌≡◌, ◌++◌, OnOk};
-ghost use Rattle.std.specs.Option.{option_map};
 ghost use Rattle.dart_tree.specs.Tree.{trees_of, part_of};
 ghost use Rattle.dart_tree.specs.View.{for_initializer_of};
 ghost use Rattle.error_nodes.specs.Errors.{errors_of, errors_of_all, errors_of_part};
@@ -17,7 +16,7 @@ use std::alloc::AllocError;
 pub(crate) fn add_from_stmt(stmt: &Stmt, errors: &mut Vec<Place>) -> Result<(), AllocError>
     ensures { OnOk result (errors.new.items ≡ errors.old.items ++ errors_of stmt.now) }
 {
-    match &stmt.node {
+    match &*stmt.node {
         StmtNode::Block { statements, .. } => return add_from_stmts(statements.as_slice(), errors),
         StmtNode::Variables { variables, .. } => return add_from_variable_list(variables, errors),
         StmtNode::Function { function, .. } => return add_from_function(function, errors),
@@ -30,7 +29,7 @@ pub(crate) fn add_from_stmt(stmt: &Stmt, errors: &mut Vec<Place>) -> Result<(), 
         } => {
             add_from_expr(condition, errors)?;
             add_from_stmt(then_branch, errors)?;
-            return add_from_boxed_stmt(else_branch, errors);
+            return add_from_optional_stmt(else_branch, errors);
         }
         StmtNode::While {
             condition,
@@ -128,11 +127,11 @@ pub(crate) fn add_from_stmts(stmts: &[Stmt], errors: &mut Vec<Place>) -> Result<
 
 /// Adds those in one that may be left out.
 #[cycle(parts)]
-pub(crate) fn add_from_boxed_stmt(
-    stmt: &Option<Box<Stmt>>,
+pub(crate) fn add_from_optional_stmt(
+    stmt: &Option<Stmt>,
     errors: &mut Vec<Place>,
 ) -> Result<(), AllocError>
-    ensures { OnOk result (errors.new.items ≡ errors.old.items ++ errors_of_part (part_of (option_map (λ b. b.value) stmt.now))) }
+    ensures { OnOk result (errors.new.items ≡ errors.old.items ++ errors_of_part (part_of stmt.now)) }
 {
     match stmt {
         None => Ok(()),

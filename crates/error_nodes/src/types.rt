@@ -1,7 +1,6 @@
 //! The errors in types.
 
 ghost use Rattle.std.specs.Prelude.{◌≡◌, ◌++◌, OnOk};
-ghost use Rattle.std.specs.Option.{option_map};
 ghost use Rattle.dart_tree.specs.Tree.{trees_of, part_of};
 ghost use Rattle.error_nodes.specs.Errors.{errors_of, errors_of_all, errors_of_part};
 
@@ -17,7 +16,7 @@ pub(crate) fn add_from_written_type(
 ) -> Result<(), AllocError>
     ensures { OnOk result (errors.new.items ≡ errors.old.items ++ errors_of written_type.now) }
 {
-    match &written_type.node {
+    match &*written_type.node {
         WrittenTypeNode::Void { .. } => Ok(()),
         WrittenTypeNode::Named { arguments, .. } => add_from_optional_type_arguments(
             arguments, errors,
@@ -29,7 +28,7 @@ pub(crate) fn add_from_written_type(
             optional,
             ..
         } => {
-            add_from_boxed_written_type(result, errors)?;
+            add_from_optional_written_type(result, errors)?;
             add_from_type_parameters(type_parameters.as_slice(), errors)?;
             add_from_parameter_types(parameters.as_slice(), errors)?;
             add_from_parameters(optional.as_slice(), errors)
@@ -49,20 +48,6 @@ pub(crate) fn add_from_written_types(
         add_from_written_type(item, errors)?;
     }
     Ok(())
-}
-
-/// Adds those in one that may be left out.
-#[cycle(parts)]
-pub(crate) fn add_from_boxed_written_type(
-    written_type: &Option<Box<WrittenType>>,
-    errors: &mut Vec<Place>,
-) -> Result<(), AllocError>
-    ensures { OnOk result (errors.new.items ≡ errors.old.items ++ errors_of_part (part_of (option_map (λ b. b.value) written_type.now))) }
-{
-    match written_type {
-        None => Ok(()),
-        Some(tree) => add_from_written_type(tree, errors),
-    }
 }
 
 /// Adds those in one that may be left out.

@@ -18,7 +18,7 @@ use std::alloc::{AllocError, Global};
 pub(crate) fn add_from_item(item: &Item, errors: &mut Vec<Place>) -> Result<(), AllocError>
     ensures { OnOk result (errors.new.items ≡ errors.old.items ++ errors_of item.now) }
 {
-    match &item.node {
+    match &*item.node {
         ItemNode::Class {
             type_parameters,
             superclass,

@@ -47,7 +47,7 @@ fn hide_in_function(
 ) -> Result<(), AllocError>
     ensures { OnOk result (parts.new.items ≡ parts.old.items ++ hidden_in_function in_mixin function.now) }
 {
-    match &function.node {
+    match &*function.node {
         FunctionNode::Getter { body, .. } => hide_body(parts, in_mixin, body),
         FunctionNode::Setter { body, .. } => hide_body(parts, in_mixin, body),
         FunctionNode::Plain { body, .. } => hide_body(parts, in_mixin, body),
@@ -105,7 +105,7 @@ fn hide_in_member(
 ) -> Result<(), AllocError>
     ensures { OnOk result (parts.new.items ≡ parts.old.items ++ hidden_in_member in_mixin member.now) }
 {
-    match &member.node {
+    match &*member.node {
         MemberNode::Constructor { body, .. } => hide_body(parts, in_mixin, body),
         MemberNode::Factory { body, .. } => hide_body(parts, in_mixin, body),
         MemberNode::Method { function, .. } => hide_in_function(parts, in_mixin, function),
@@ -134,7 +134,7 @@ fn hide_in_members(
 fn hide_in_item(parts: &mut Vec<Hidden>, item: &Item) -> Result<(), AllocError>
     ensures { OnOk result (parts.new.items ≡ parts.old.items ++ hidden_in_item item.now) }
 {
-    match &item.node {
+    match &*item.node {
         ItemNode::Class { members, .. } => hide_in_members(parts, false, members.as_slice()),
         ItemNode::Mixin { members, .. } => hide_in_members(parts, true, members.as_slice()),
         ItemNode::Function { function, .. } => hide_in_function(parts, false, function),

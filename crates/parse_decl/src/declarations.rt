@@ -1,6 +1,6 @@
 //! Declarations of libraries.
 
-ghost use Rattle.std.specs.Prelude.{◌≡◌, ◌≤◌, false, option_map};
+ghost use Rattle.std.specs.Prelude.{◌≡◌, ◌≤◌, false, IfOk, option_map};
 ghost use Rattle.readings.specs.Readings.{tokens_read};
 ghost use Rattle.readings.specs.Descent.{take_token, take_maybe, take_turn, take_where, ◌▸◌};
 ghost use Rattle.grammar.specs.Tokens.{is};
@@ -20,7 +20,7 @@ use parse_leaves::{Below, Miss, name_at, place_over, token, type_word};
 use parse_members::{Bodies, function, heads_word, member_list, some_token};
 use parse_statements::variables;
 use parse_types::{annotations, listed_type_parameters, some_type_parameters, type_list};
-use std::alloc::Global;
+use std::alloc::{AllocError, Global};
 
 /// A word and a type.
 fn type_behind<'k, B: Below<'k>>(
@@ -289,12 +289,13 @@ fn declaration_form<'k, B: Below<'k>, C: Below<'k>>(
 
 /// A declaration that was read from `tokens`, where `rest` is left.
 fn declaration_with(
+    alloc: Global,
     tokens: &[Token],
     rest: &[Token],
     metadata: Vec<Annotation>,
     form: DeclarationForm,
-) -> Item
-    ensures { result ≡ declaration_with (tokens_read tokens.now rest.now) metadata.items (declaration_form_of form) }
+) -> Result<Item, AllocError>
+    ensures { IfOk result (λ x. x ≡ declaration_with (tokens_read tokens.now rest.now) metadata.items (declaration_form_of form)) }
 {
     let at = place_over(tokens, rest);
     let node = match form {
@@ -349,7 +350,8 @@ fn declaration_with(
             variables,
         },
     };
-    Item { node }
+    let node = Box::new(alloc, node)?;
+    Ok(Item { node })
 }
 
 /// A declaration of a library: `below` reads the parts of its node, and `inner` those of its members.
@@ -369,5 +371,6 @@ pub fn declaration<'k, B: Below<'k>, C: Below<'k>>(
 {
     let (metadata, rest) = annotations(alloc, tokens)?;
     let (form, rest) = declaration_form(below, inner, alloc, in_core, rest)?;
-    Ok((declaration_with(tokens, rest, metadata, form), rest))
+    let found = declaration_with(alloc, tokens, rest, metadata, form)?;
+    Ok((found, rest))
 }

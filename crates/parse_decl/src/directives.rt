@@ -101,7 +101,7 @@ fn library(alloc: Global, tokens: &[Token]) -> Result<(Item, &[Token]), Miss>
     let (names, rest) = library_names(alloc, rest)?;
     let (_, rest) = token(rest, Kind::Semicolon).ok_or(Miss::NoReading)?;
     let at = place_over(tokens, rest);
-    let node = ItemNode::Library { at, names };
+    let node = Box::new(alloc, ItemNode::Library { at, names })?;
     Ok((Item { node }, rest))
 }
 
@@ -228,12 +228,15 @@ fn import<'k, B: Below<'k>>(
     let (found, rest) = some_prefix(rest);
     let (combinators, rest) = combinators(alloc, rest)?;
     let (_, rest) = token(rest, Kind::Semicolon).ok_or(Miss::NoReading)?;
-    let node = ItemNode::Import {
-        at: place_over(tokens, rest),
-        uri,
-        prefix: listed_prefix(found),
-        combinators,
-    };
+    let node = Box::new(
+        alloc,
+        ItemNode::Import {
+            at: place_over(tokens, rest),
+            uri,
+            prefix: listed_prefix(found),
+            combinators,
+        },
+    )?;
     Ok((Item { node }, rest))
 }
 
@@ -252,11 +255,14 @@ fn export<'k, B: Below<'k>>(
     let (uri, _, rest) = string(below, alloc, rest)?;
     let (combinators, rest) = combinators(alloc, rest)?;
     let (_, rest) = token(rest, Kind::Semicolon).ok_or(Miss::NoReading)?;
-    let node = ItemNode::Export {
-        at: place_over(tokens, rest),
-        uri,
-        combinators,
-    };
+    let node = Box::new(
+        alloc,
+        ItemNode::Export {
+            at: place_over(tokens, rest),
+            uri,
+            combinators,
+        },
+    )?;
     Ok((Item { node }, rest))
 }
 
@@ -289,7 +295,7 @@ fn part<'k, B: Below<'k>>(
     let (_, rest) = token(tokens, Kind::Part).ok_or(Miss::NoReading)?;
     let (uri, _, rest) = ended_uri(below, alloc, rest)?;
     let at = place_over(tokens, rest);
-    let node = ItemNode::Part { at, uri };
+    let node = Box::new(alloc, ItemNode::Part { at, uri })?;
     Ok((Item { node }, rest))
 }
 
@@ -308,7 +314,7 @@ fn part_of_uri<'k, B: Below<'k>>(
     let (_, rest) = token(rest, Kind::Of).ok_or(Miss::NoReading)?;
     let (uri, _, rest) = ended_uri(below, alloc, rest)?;
     let at = place_over(tokens, rest);
-    let node = ItemNode::PartOf { at, uri };
+    let node = Box::new(alloc, ItemNode::PartOf { at, uri })?;
     Ok((Item { node }, rest))
 }
 
@@ -322,7 +328,7 @@ fn part_of_library(alloc: Global, tokens: &[Token]) -> Result<(Item, &[Token]), 
     let (names, rest) = library_names(alloc, rest)?;
     let (_, rest) = token(rest, Kind::Semicolon).ok_or(Miss::NoReading)?;
     let at = place_over(tokens, rest);
-    let node = ItemNode::PartOfLibrary { at, names };
+    let node = Box::new(alloc, ItemNode::PartOfLibrary { at, names })?;
     Ok((Item { node }, rest))
 }
 

@@ -49,13 +49,16 @@ pub fn behind_segment(tokens: &[Token]) -> &[Token]
 }
 
 /// An error over the tokens before others.
-fn error(tokens: &[Token], after: &[Token]) -> Stmt
-    ensures { result ≡ error_of (tokens_read tokens.now after.now) }
+fn error(alloc: Global, tokens: &[Token], after: &[Token]) -> Result<Stmt, AllocError>
+    ensures { IfOk result (λ x. x ≡ error_of (tokens_read tokens.now after.now)) }
 {
-    let node = StmtNode::Error {
-        at: place_over(tokens, after),
-    };
-    Stmt { node }
+    let node = Box::new(
+        alloc,
+        StmtNode::Error {
+            at: place_over(tokens, after),
+        },
+    )?;
+    Ok(Stmt { node })
 }
 
 /// A statement, whose lists aren't read yet, and the tokens that are left.
@@ -88,7 +91,8 @@ fn item<'k>(
         Ok((found, rest)) => Ok((found, rest)),
         Err(Miss::NoReading) => {
             let after = behind_segment(tokens);
-            Ok((error(tokens, after), after))
+            let error = error(alloc, tokens, after)?;
+            Ok((error, after))
         }
         Err(Miss::Memory) => Err(AllocError),
     }

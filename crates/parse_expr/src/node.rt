@@ -26,23 +26,27 @@ fn last_levels(levels: usize) -> &'static [Level]
 
 /// A section where no node may lie: a name alone.
 #[tactic(auto, using(crate::proofs::Sections::gives_name))]
-fn section_without_room(tokens: &[Token]) -> Result<(Expr, u32, &[Token]), Miss>
+fn section_without_room(alloc: Global, tokens: &[Token]) -> Result<(Expr, u32, &[Token]), Miss>
     ensures reading { Gives (λ x. (x.0, x.2.now)) result (take_section_head (λ us. None) tokens.now) }
     ensures deep { IfOk result (λ x. (x.1 ≡ height x.0) × (x.1 ≡ 0)) }
 {
-    section_name(tokens)
+    section_name(alloc, tokens)
 }
 
 /// A part where no node may lie: a section that is a name alone, or none.
 #[tactic(auto, unfolding(grammar::specs::Descents::lower))]
-fn part_without_room<'k>(part: Part, tokens: &'k [Token]) -> Result<(Node, u32, &'k [Token]), Miss>
+fn part_without_room<'k>(
+    alloc: Global,
+    part: Part,
+    tokens: &'k [Token],
+) -> Result<(Node, u32, &'k [Token]), Miss>
     ensures reading { Gives (λ x. (tree_of x.0, x.2.now)) result (reads (lower 0) part tokens.now) }
     ensures form { IfOk result (λ x. IsFormOf part x.0) }
     ensures deep { IfOk result (λ x. IsDeep 0 (tree_of x.0) x.1) }
 {
     match part {
         Part::Section(_) => {
-            let (section, height, rest) = section_without_room(tokens)?;
+            let (section, height, rest) = section_without_room(alloc, tokens)?;
             Ok((Node::Expr(section), height, rest))
         }
         Part::Written => Err(Miss::NoReading),
@@ -173,7 +177,7 @@ fn part_within<'k, B: Below<'k>>(
             Ok((Node::Expr(found), height, rest))
         }
         Part::Simple => {
-            let (found, height, rest) = simple_within(tokens)?;
+            let (found, height, rest) = simple_within(alloc, tokens)?;
             Ok((Node::Expr(found), height, rest))
         }
         Part::Block => {
@@ -202,7 +206,7 @@ pub fn part_at<'k>(
     ensures deep { IfOk result (λ x. IsDeep room (tree_of x.0) x.1) }
 {
     if room == 0 {
-        return part_without_room(part, tokens);
+        return part_without_room(alloc, part, tokens);
     }
     let less = room - 1;
     let below = Reader {

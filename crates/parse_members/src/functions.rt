@@ -1,6 +1,6 @@
 //! Functions of libraries and classes.
 
-ghost use Rattle.std.specs.Prelude.{◌≡◌, ◌≤◌};
+ghost use Rattle.std.specs.Prelude.{◌≡◌, ◌≤◌, IfOk};
 ghost use Rattle.readings.specs.Readings.{tokens_read};
 ghost use Rattle.readings.specs.Descent.{take_token, take_maybe, take_make, take_turn, ◌▸◌};
 ghost use Rattle.grammar.specs.Tokens.{is, is_name};
@@ -18,7 +18,7 @@ use grammar::Token;
 use parse_leaves::{Below, Miss, heads, name, name_at, place_of, place_over, token};
 use parse_statements::{local_body, some_name_type};
 use parse_types::{listed_type_parameters, parameter_list, some_type_parameters};
-use std::alloc::Global;
+use std::alloc::{AllocError, Global};
 
 /// `;` as a body.
 pub fn semicolon_body(tokens: &[Token]) -> Result<(Body, &[Token]), Miss>
@@ -177,12 +177,13 @@ fn signature<'k, B: Below<'k>>(
 
 /// A function that was read from `tokens`, where `rest` is left.
 fn function_with(
+    alloc: Global,
     tokens: &[Token],
     rest: &[Token],
     written: Option<WrittenType>,
     signature: Signature,
-) -> Function
-    ensures { result ≡ function_with (tokens_read tokens.now rest.now) written (signature_of signature) }
+) -> Result<Function, AllocError>
+    ensures { IfOk result (λ x. x ≡ function_with (tokens_read tokens.now rest.now) written (signature_of signature)) }
 {
     let at = place_over(tokens, rest);
     let node = match signature {
@@ -217,7 +218,8 @@ fn function_with(
             body,
         },
     };
-    Function { node }
+    let node = Box::new(alloc, node)?;
+    Ok(Function { node })
 }
 
 /// A function of a library or a class.
@@ -235,5 +237,6 @@ pub fn function<'k, B: Below<'k>>(
 {
     let (written, _, rest) = some_name_type(below, alloc, tokens)?;
     let (signature, rest) = signature(below, alloc, bodies, rest)?;
-    Ok((function_with(tokens, rest, written, signature), rest))
+    let found = function_with(alloc, tokens, rest, written, signature)?;
+    Ok((found, rest))
 }

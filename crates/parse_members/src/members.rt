@@ -208,12 +208,13 @@ fn member_form<'k, B: Below<'k>>(
 
 /// A member that was read from `tokens`, where `rest` is left.
 fn member_with(
+    alloc: Global,
     tokens: &[Token],
     rest: &[Token],
     metadata: Vec<Annotation>,
     form: MemberForm,
-) -> Member
-    ensures { result ≡ member_with (tokens_read tokens.now rest.now) metadata.items (member_form_of form) }
+) -> Result<Member, AllocError>
+    ensures { IfOk result (λ x. x ≡ member_with (tokens_read tokens.now rest.now) metadata.items (member_form_of form)) }
 {
     let at = place_over(tokens, rest);
     let node = match form {
@@ -273,7 +274,8 @@ fn member_with(
             body,
         },
     };
-    Member { node }
+    let node = Box::new(alloc, node)?;
+    Ok(Member { node })
 }
 
 /// A member of a class whose constructors have this name, or of a mixin, which has none.
@@ -291,17 +293,21 @@ fn member<'k, B: Below<'k>>(
 {
     let (metadata, rest) = annotations(alloc, tokens)?;
     let (form, rest) = member_form(below, alloc, in_core, class, rest)?;
-    Ok((member_with(tokens, rest, metadata, form), rest))
+    let found = member_with(alloc, tokens, rest, metadata, form)?;
+    Ok((found, rest))
 }
 
 /// An error over the tokens before others.
-fn error(tokens: &[Token], after: &[Token]) -> Member
-    ensures { result ≡ error_of (tokens_read tokens.now after.now) }
+fn error(alloc: Global, tokens: &[Token], after: &[Token]) -> Result<Member, AllocError>
+    ensures { IfOk result (λ x. x ≡ error_of (tokens_read tokens.now after.now)) }
 {
-    let node = MemberNode::Error {
-        at: place_over(tokens, after),
-    };
-    Member { node }
+    let node = Box::new(
+        alloc,
+        MemberNode::Error {
+            at: place_over(tokens, after),
+        },
+    )?;
+    Ok(Member { node })
 }
 
 /// The member that comes next, or an error over the segment that does, and the tokens that are left.
@@ -321,7 +327,8 @@ fn member_item<'k, B: Below<'k>>(
         Ok((found, rest)) => Ok((found, rest)),
         Err(Miss::NoReading) => {
             let after = behind_segment(tokens);
-            Ok((error(tokens, after), after))
+            let error = error(alloc, tokens, after)?;
+            Ok((error, after))
         }
         Err(Miss::Memory) => Err(AllocError),
     }

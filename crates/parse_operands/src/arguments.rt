@@ -20,7 +20,7 @@ use parse_leaves::{
     token,
 };
 use parse_types::some_type_arguments;
-use std::alloc::Global;
+use std::alloc::{AllocError, Global};
 
 /// An argument.
 #[tactic(auto, unfolding(grammar::specs::Descents::take_argument))]
@@ -322,13 +322,14 @@ fn contents<'k, B: Below<'k>>(
 
 /// The literal of a list, a set or a map, of what it holds.
 fn literal(
+    alloc: Global,
     start: &[Token],
     after: &[Token],
     type_arguments: Option<TypeArguments>,
     contents: Contents,
-) -> Expr
-    ensures reading { result ≡ collection_with (tokens_read start.now after.now) type_arguments (contents_of contents) }
-    ensures deep { height result ≡ higher (height_of_part (part_of type_arguments)) (contents_height (contents_of contents)) + 1 }
+) -> Result<Expr, AllocError>
+    ensures reading { IfOk result (λ x. x ≡ collection_with (tokens_read start.now after.now) type_arguments (contents_of contents)) }
+    ensures deep { IfOk result (λ x. height x ≡ higher (height_of_part (part_of type_arguments)) (contents_height (contents_of contents)) + 1) }
 {
     let at = place_over(start, after);
     let node = match contents {
@@ -343,7 +344,8 @@ fn literal(
             entries,
         },
     };
-    Expr { node }
+    let node = Box::new(alloc, node)?;
+    Ok(Expr { node })
 }
 
 /// A literal of a list, a set or a map.
@@ -360,6 +362,6 @@ pub fn collection<'k, B: Below<'k>>(
 {
     let (type_arguments, tall, rest) = some_type_arguments(below, alloc, tokens)?;
     let (contents, height, rest) = contents(below, alloc, rest)?;
-    let value = literal(tokens, rest, type_arguments, contents);
+    let value = literal(alloc, tokens, rest, type_arguments, contents)?;
     Ok((value, higher(tall, height) + 1, rest))
 }

@@ -36,11 +36,14 @@ fn generic_name<'k, B: Below<'k>>(
     let (type_arguments, height, rest) = type_arguments(below, alloc, rest)?;
     let at = place_over(tokens, rest);
     let name = identifier_at(word);
-    let node = ExprNode::GenericIdentifier {
-        at,
-        name,
-        type_arguments,
-    };
+    let node = Box::new(
+        alloc,
+        ExprNode::GenericIdentifier {
+            at,
+            name,
+            type_arguments,
+        },
+    )?;
     Ok((Expr { node }, height + 1, rest))
 }
 
@@ -60,10 +63,13 @@ fn name_expression<'k, B: Below<'k>>(
         return generic_name(below, alloc, tokens);
     }
     let (word, rest) = name(tokens).ok_or(Miss::NoReading)?;
-    let node = ExprNode::Identifier {
-        at: place_of(word),
-        word: word.word,
-    };
+    let node = Box::new(
+        alloc,
+        ExprNode::Identifier {
+            at: place_of(word),
+            word: word.word,
+        },
+    )?;
     Ok((Expr { node }, 1, rest))
 }
 
@@ -80,10 +86,13 @@ fn parenthesis<'k, B: Below<'k>>(
     ensures deep { IfOk result (λ x. IsDeep (B.room below.now + 1) x.0 x.1) }
 {
     let ((_, value), height, rest) = expression_group(below, alloc, Kind::OpenParenthesis, tokens)?;
-    let node = ExprNode::Parenthesis {
-        at: place_over(tokens, rest),
-        inner: Box::new(alloc, value)?,
-    };
+    let node = Box::new(
+        alloc,
+        ExprNode::Parenthesis {
+            at: place_over(tokens, rest),
+            inner: value,
+        },
+    )?;
     Ok((Expr { node }, height + 1, rest))
 }
 
@@ -103,7 +112,7 @@ fn arrow_body<'k, B: Below<'k>>(
     let (value, height, rest) = below.expression(alloc, setting, rest)?;
     let node = BodyNode::Expression {
         at: place_over(tokens, rest),
-        value: Box::new(alloc, value)?,
+        value: value,
     };
     Ok((Body { node }, height, rest))
 }
@@ -163,11 +172,14 @@ fn closure<'k, B: Below<'k>>(
     let (parameters, tall, rest) = parameter_list(below, alloc, tokens)?;
     let (body, height, rest) = closure_body(below, alloc, setting, rest)?;
     let at = place_over(tokens, rest);
-    let node = ExprNode::Function {
-        at,
-        parameters,
-        body,
-    };
+    let node = Box::new(
+        alloc,
+        ExprNode::Function {
+            at,
+            parameters,
+            body,
+        },
+    )?;
     Ok((Expr { node }, higher(tall, height) + 1, rest))
 }
 
@@ -208,98 +220,107 @@ fn new_expression<'k, B: Below<'k>>(
     let (arguments, height, rest) = argument_list(below, alloc, rest)?;
     let at = place_over(tokens, rest);
     let name = found.map(|(_, word)| identifier_at(word));
-    let node = ExprNode::New {
-        at,
-        written,
-        name,
-        arguments,
-    };
+    let node = Box::new(
+        alloc,
+        ExprNode::New {
+            at,
+            written,
+            name,
+            arguments,
+        },
+    )?;
     Ok((Expr { node }, higher(tall, height) + 1, rest))
 }
 
 /// An integer.
-fn integer(tokens: &[Token]) -> Result<(Expr, u32, &[Token]), Miss>
+fn integer(alloc: Global, tokens: &[Token]) -> Result<(Expr, u32, &[Token]), Miss>
     ensures reading { Gives (λ x. (x.0, x.2.now)) result (take_turn integer_of (take_token (is Kind.Integer)) tokens.now) }
     ensures deep { IfOk result (λ x. (x.1 ≡ height x.0) × (x.1 ≡ 1)) }
 {
     let (word, rest) = token(tokens, Kind::Integer).ok_or(Miss::NoReading)?;
     let at = place_of(word);
-    let node = ExprNode::Integer {
-        at,
-        word: word.word,
-    };
+    let node = Box::new(
+        alloc,
+        ExprNode::Integer {
+            at,
+            word: word.word,
+        },
+    )?;
     Ok((Expr { node }, 1, rest))
 }
 
 /// `true`.
-fn true_word(tokens: &[Token]) -> Result<(Expr, u32, &[Token]), Miss>
+fn true_word(alloc: Global, tokens: &[Token]) -> Result<(Expr, u32, &[Token]), Miss>
     ensures reading { Gives (λ x. (x.0, x.2.now)) result (take_turn (boolean_of true) (take_token (is Kind.True)) tokens.now) }
     ensures deep { IfOk result (λ x. (x.1 ≡ height x.0) × (x.1 ≡ 1)) }
 {
     let (word, rest) = token(tokens, Kind::True).ok_or(Miss::NoReading)?;
     let at = place_of(word);
-    let node = ExprNode::Boolean { at, value: true };
+    let node = Box::new(alloc, ExprNode::Boolean { at, value: true })?;
     Ok((Expr { node }, 1, rest))
 }
 
 /// `false`.
-fn false_word(tokens: &[Token]) -> Result<(Expr, u32, &[Token]), Miss>
+fn false_word(alloc: Global, tokens: &[Token]) -> Result<(Expr, u32, &[Token]), Miss>
     ensures reading { Gives (λ x. (x.0, x.2.now)) result (take_turn (boolean_of false) (take_token (is Kind.False)) tokens.now) }
     ensures deep { IfOk result (λ x. (x.1 ≡ height x.0) × (x.1 ≡ 1)) }
 {
     let (word, rest) = token(tokens, Kind::False).ok_or(Miss::NoReading)?;
     let at = place_of(word);
-    let node = ExprNode::Boolean { at, value: false };
+    let node = Box::new(alloc, ExprNode::Boolean { at, value: false })?;
     Ok((Expr { node }, 1, rest))
 }
 
 /// `null`.
-fn null(tokens: &[Token]) -> Result<(Expr, u32, &[Token]), Miss>
+fn null(alloc: Global, tokens: &[Token]) -> Result<(Expr, u32, &[Token]), Miss>
     ensures reading { Gives (λ x. (x.0, x.2.now)) result (take_turn null_of (take_token (is Kind.Null)) tokens.now) }
     ensures deep { IfOk result (λ x. (x.1 ≡ height x.0) × (x.1 ≡ 1)) }
 {
     let (word, rest) = token(tokens, Kind::Null).ok_or(Miss::NoReading)?;
     let at = place_of(word);
-    let node = ExprNode::Null { at };
+    let node = Box::new(alloc, ExprNode::Null { at })?;
     Ok((Expr { node }, 1, rest))
 }
 
 /// `this`.
-fn this(tokens: &[Token]) -> Result<(Expr, u32, &[Token]), Miss>
+fn this(alloc: Global, tokens: &[Token]) -> Result<(Expr, u32, &[Token]), Miss>
     ensures reading { Gives (λ x. (x.0, x.2.now)) result (take_turn this_of (take_token (is Kind.This)) tokens.now) }
     ensures deep { IfOk result (λ x. (x.1 ≡ height x.0) × (x.1 ≡ 1)) }
 {
     let (word, rest) = token(tokens, Kind::This).ok_or(Miss::NoReading)?;
     let at = place_of(word);
-    let node = ExprNode::This { at };
+    let node = Box::new(alloc, ExprNode::This { at })?;
     Ok((Expr { node }, 1, rest))
 }
 
 /// `super`.
-fn super_word(tokens: &[Token]) -> Result<(Expr, u32, &[Token]), Miss>
+fn super_word(alloc: Global, tokens: &[Token]) -> Result<(Expr, u32, &[Token]), Miss>
     ensures reading { Gives (λ x. (x.0, x.2.now)) result (take_turn super_of (take_token (is Kind.Super)) tokens.now) }
     ensures deep { IfOk result (λ x. (x.1 ≡ height x.0) × (x.1 ≡ 1)) }
 {
     let (word, rest) = token(tokens, Kind::Super).ok_or(Miss::NoReading)?;
     let at = place_of(word);
-    let node = ExprNode::Super { at };
+    let node = Box::new(alloc, ExprNode::Super { at })?;
     Ok((Expr { node }, 1, rest))
 }
 
 /// What a string names behind `$`.
 #[tactic(auto, unfolding(grammar::specs::Descents::take_simple))]
-pub fn simple_within(tokens: &[Token]) -> Result<(Expr, u32, &[Token]), Miss>
+pub fn simple_within(alloc: Global, tokens: &[Token]) -> Result<(Expr, u32, &[Token]), Miss>
     ensures reading { Gives (λ x. (x.0, x.2.now)) result (take_simple tokens.now) }
     ensures deep { IfOk result (λ x. (x.1 ≡ height x.0) × (x.1 ≡ 1)) }
 {
     if !heads_name(tokens) {
-        return this(tokens);
+        return this(alloc, tokens);
     }
     let (word, rest) = name(tokens).ok_or(Miss::NoReading)?;
-    let node = ExprNode::Identifier {
-        at: place_of(word),
-        word: word.word,
-    };
+    let node = Box::new(
+        alloc,
+        ExprNode::Identifier {
+            at: place_of(word),
+            word: word.word,
+        },
+    )?;
     Ok((Expr { node }, 1, rest))
 }
 
@@ -317,25 +338,25 @@ pub fn primary<'k, B: Below<'k>>(
     ensures deep { IfOk result (λ x. IsDeep (B.room below.now + 1) x.0 x.1) }
 {
     if heads(tokens, Kind::Integer) {
-        return integer(tokens);
+        return integer(alloc, tokens);
     }
     if heads_string(tokens) {
         return strings(below, alloc, tokens);
     }
     if heads(tokens, Kind::True) {
-        return true_word(tokens);
+        return true_word(alloc, tokens);
     }
     if heads(tokens, Kind::False) {
-        return false_word(tokens);
+        return false_word(alloc, tokens);
     }
     if heads(tokens, Kind::Null) {
-        return null(tokens);
+        return null(alloc, tokens);
     }
     if heads(tokens, Kind::This) {
-        return this(tokens);
+        return this(alloc, tokens);
     }
     if heads(tokens, Kind::Super) {
-        return super_word(tokens);
+        return super_word(alloc, tokens);
     }
     if heads_name(tokens) {
         return name_expression(below, alloc, tokens);

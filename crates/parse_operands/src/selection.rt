@@ -158,7 +158,7 @@ fn selected_node(
     ensures whole { result ≢ Err NoReading }
 {
     let at = place_over(start, after);
-    let left = Box::new(alloc, left)?;
+    let left = left;
     let node = match selector {
         Selector::Member { null_aware, name } => ExprNode::Property {
             at,
@@ -175,7 +175,7 @@ fn selected_node(
             receiver: left,
             null_aware,
             bracket,
-            index: Box::new(alloc, index)?,
+            index: index,
         },
         Selector::Check => ExprNode::NullCheck { at, operand: left },
         Selector::Called {
@@ -188,6 +188,7 @@ fn selected_node(
             arguments,
         },
     };
+    let node = Box::new(alloc, node)?;
     Ok(Expr { node })
 }
 
@@ -259,11 +260,14 @@ fn postfix_node(
     ensures reading { IfOk result (λ x. x ≡ postfix_of (tokens_read start.now after.now) left operator) }
     ensures whole { result ≢ Err NoReading }
 {
-    let node = ExprNode::Postfix {
-        at: place_over(start, after),
-        operator,
-        operand: Box::new(alloc, left)?,
-    };
+    let node = Box::new(
+        alloc,
+        ExprNode::Postfix {
+            at: place_over(start, after),
+            operator,
+            operand: left,
+        },
+    )?;
     Ok(Expr { node })
 }
 
@@ -307,11 +311,14 @@ fn prefixed<'k, B: Below<'k>>(
 {
     let (operator, rest) = prefix_operator(tokens).ok_or(Miss::NoReading)?;
     let (operand, height, rest) = below.unary(alloc, setting, rest)?;
-    let node = ExprNode::Unary {
-        at: place_over(tokens, rest),
-        operator,
-        operand: Box::new(alloc, operand)?,
-    };
+    let node = Box::new(
+        alloc,
+        ExprNode::Unary {
+            at: place_over(tokens, rest),
+            operator,
+            operand: operand,
+        },
+    )?;
     Ok((Expr { node }, height + 1, rest))
 }
 

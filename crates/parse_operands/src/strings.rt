@@ -105,7 +105,7 @@ fn interpolated(
 {
     let node = StringElementNode::Interpolation {
         at: place_over(start, after),
-        value: Box::new(alloc, value)?,
+        value: value,
     };
     Ok(StringElement { node })
 }
@@ -304,6 +304,6 @@ pub fn strings<'k, B: Below<'k>>(
     let (others, height, rest) = more_strings(below, alloc, rest)?;
     let strings = with_first(alloc, first, others)?;
     let at = place_over(tokens, rest);
-    let node = ExprNode::Text { at, strings };
+    let node = Box::new(alloc, ExprNode::Text { at, strings })?;
     Ok((Expr { node }, higher(tall, height) + 1, rest))
 }

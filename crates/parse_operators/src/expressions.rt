@@ -201,13 +201,13 @@ fn operated_node(
     ensures whole { result ≢ Err NoReading }
 {
     let at = place_over(start, after);
-    let left = Box::new(alloc, left)?;
+    let left = left;
     let node = match side {
         Side::Operated { operator, right } => ExprNode::Binary {
             at,
             operator,
             left,
-            right: Box::new(alloc, right)?,
+            right: right,
         },
         Side::Tested { negated, written } => ExprNode::TypeTest {
             at,
@@ -226,10 +226,11 @@ fn operated_node(
         } => ExprNode::Conditional {
             at,
             condition: left,
-            then_value: Box::new(alloc, then_value)?,
-            else_value: Box::new(alloc, else_value)?,
+            then_value: then_value,
+            else_value: else_value,
         },
     };
+    let node = Box::new(alloc, node)?;
     Ok(Expr { node })
 }
 
@@ -389,12 +390,15 @@ pub fn assignment<'k>(
     ensures reading { Gives (λ x. (x.0, x.2.now)) result (Some (assign_of (tokens_read start.now after.now) target (operator, value), after.now)) }
     ensures deep { (room : ℕ) → reach ≤ room → tall ≤ room → IfOk result (λ x. IsDeep (room + 1) x.0 x.1) }
 {
-    let node = ExprNode::Assignment {
-        at: place_over(start, after),
-        operator,
-        target: Box::new(alloc, target)?,
-        value: Box::new(alloc, value)?,
-    };
+    let node = Box::new(
+        alloc,
+        ExprNode::Assignment {
+            at: place_over(start, after),
+            operator,
+            target: target,
+            value: value,
+        },
+    )?;
     Ok((Expr { node }, higher(reach, tall) + 1, after))
 }
 
@@ -413,10 +417,13 @@ fn throw<'k, B: Below<'k>>(
 {
     let (_, rest) = token(tokens, Kind::Throw).ok_or(Miss::NoReading)?;
     let (value, height, rest) = below.expression(alloc, setting, rest)?;
-    let node = ExprNode::Throw {
-        at: place_over(tokens, rest),
-        value: Box::new(alloc, value)?,
-    };
+    let node = Box::new(
+        alloc,
+        ExprNode::Throw {
+            at: place_over(tokens, rest),
+            value: value,
+        },
+    )?;
     Ok((Expr { node }, height + 1, rest))
 }
 
@@ -456,12 +463,15 @@ fn cascade_node(
     ensures deep { IfOk result (λ x. height x ≡ higher (height receiver) (height section) + 1) }
     ensures whole { result ≢ Err NoReading }
 {
-    let node = ExprNode::Cascade {
-        at: place_over(start, after),
-        receiver: Box::new(alloc, receiver)?,
-        null_aware,
-        section: Box::new(alloc, section)?,
-    };
+    let node = Box::new(
+        alloc,
+        ExprNode::Cascade {
+            at: place_over(start, after),
+            receiver: receiver,
+            null_aware,
+            section: section,
+        },
+    )?;
     Ok(Expr { node })
 }
 

@@ -34,11 +34,14 @@ fn section_index<'k, B: Below<'k>>(
     ensures deep { IfOk result (λ x. IsDeep (B.room below.now + 1) x.0 x.1) }
 {
     let (bracket, index, height, rest) = index_group(below, alloc, setting, tokens)?;
-    let node = ExprNode::CascadedIndex {
-        at: place_over(tokens, rest),
-        bracket: span_of(bracket),
-        index: Box::new(alloc, index)?,
-    };
+    let node = Box::new(
+        alloc,
+        ExprNode::CascadedIndex {
+            at: place_over(tokens, rest),
+            bracket: span_of(bracket),
+            index: index,
+        },
+    )?;
     Ok((Expr { node }, height, rest))
 }
 
@@ -71,15 +74,18 @@ fn index_group<'k, B: Below<'k>>(
 }
 
 /// A name with which a section begins.
-pub fn section_name(tokens: &[Token]) -> Result<(Expr, u32, &[Token]), Miss>
+pub fn section_name(alloc: Global, tokens: &[Token]) -> Result<(Expr, u32, &[Token]), Miss>
     ensures reading { Gives (λ x. (x.0, x.2.now)) result (take_turn cascaded_name_of (take_token is_name) tokens.now) }
     ensures deep { IfOk result (λ x. (x.1 ≡ height x.0) × (x.1 ≡ 0)) }
 {
     let (word, rest) = name(tokens).ok_or(Miss::NoReading)?;
-    let node = ExprNode::CascadedName {
-        at: place_of(word),
-        name: identifier_at(word),
-    };
+    let node = Box::new(
+        alloc,
+        ExprNode::CascadedName {
+            at: place_of(word),
+            name: identifier_at(word),
+        },
+    )?;
     Ok((Expr { node }, 0, rest))
 }
 
@@ -97,7 +103,7 @@ fn section_head<'k, B: Below<'k>>(
     ensures deep { IfOk result (λ x. IsDeep (B.room below.now + 1) x.0 x.1) }
 {
     if heads_name(tokens) {
-        section_name(tokens)
+        section_name(alloc, tokens)
     } else {
         section_index(below, alloc, setting, tokens)
     }

@@ -22,17 +22,20 @@ use parse_leaves::{
 };
 use parse_operands::block_body;
 use parse_types::{listed_type_parameters, parameter_list, some_initializer, some_type_parameters};
-use std::alloc::Global;
+use std::alloc::{AllocError, Global};
 
 /// The error over tokens that are not read yet.
-fn unread_error(tokens: &[Token]) -> Stmt
-    ensures reading { result ≡ error_of tokens.now }
-    ensures deep { height result ≡ 0 }
+fn unread_error(alloc: Global, tokens: &[Token]) -> Result<Stmt, AllocError>
+    ensures reading { IfOk result (λ x. x ≡ error_of tokens.now) }
+    ensures deep { IfOk result (λ x. height x ≡ 0) }
 {
-    let node = StmtNode::Error {
-        at: place_over(tokens, &[]),
-    };
-    Stmt { node }
+    let node = Box::new(
+        alloc,
+        StmtNode::Error {
+            at: place_over(tokens, &[]),
+        },
+    )?;
+    Ok(Stmt { node })
 }
 
 /// A list of statements that is not read yet: an error over all its tokens, and none where there are
@@ -47,7 +50,8 @@ pub fn unread(alloc: Global, tokens: &[Token]) -> Result<Vec<Stmt>, Miss>
     if tokens.is_empty() {
         return Ok(list);
     }
-    list.push(unread_error(tokens))?;
+    let error = unread_error(alloc, tokens)?;
+    list.push(error)?;
     Ok(list)
 }
 
@@ -236,7 +240,7 @@ pub fn variable_statement<'k, B: Below<'k>>(
     let (variables, height, rest) = variables(below, alloc, tokens)?;
     let (_, rest) = token(rest, Kind::Semicolon).ok_or(Miss::NoReading)?;
     let at = place_over(tokens, rest);
-    let node = StmtNode::Variables { at, variables };
+    let node = Box::new(alloc, StmtNode::Variables { at, variables })?;
     Ok((Stmt { node }, height + 1, rest))
 }
 
@@ -258,7 +262,7 @@ fn arrow_statement_body<'k, B: Below<'k>>(
     let (_, rest) = token(rest, Kind::Semicolon).ok_or(Miss::NoReading)?;
     let node = BodyNode::Expression {
         at: place_over(tokens, rest),
-        value: Box::new(alloc, value)?,
+        value: value,
     };
     Ok((Body { node }, height, rest))
 }
@@ -319,14 +323,17 @@ fn local_function<'k, B: Below<'k>>(
     let (word, rest) = name(rest).ok_or(Miss::NoReading)?;
     let (found, reach, rest) = some_type_parameters(below, alloc, rest)?;
     let ((parameters, body), height, rest) = local_rest(below, alloc, rest)?;
-    let node = FunctionNode::Plain {
-        at: place_over(tokens, rest),
-        result,
-        name: name_at(word),
-        type_parameters: listed_type_parameters(alloc, found),
-        parameters,
-        body,
-    };
+    let node = Box::new(
+        alloc,
+        FunctionNode::Plain {
+            at: place_over(tokens, rest),
+            result,
+            name: name_at(word),
+            type_parameters: listed_type_parameters(alloc, found),
+            parameters,
+            body,
+        },
+    )?;
     let height = higher(highest, higher(reach, height));
     Ok((Function { node }, height, rest))
 }
@@ -345,6 +352,6 @@ pub fn function_statement<'k, B: Below<'k>>(
 {
     let (function, height, rest) = local_function(below, alloc, tokens)?;
     let at = place_over(tokens, rest);
-    let node = StmtNode::Function { at, function };
+    let node = Box::new(alloc, StmtNode::Function { at, function })?;
     Ok((Stmt { node }, height + 1, rest))
 }

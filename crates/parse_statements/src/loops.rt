@@ -288,7 +288,7 @@ fn for_node(
     ensures whole { result ≢ Err NoReading }
 {
     let at = place_over(start, after);
-    let body = Box::new(alloc, body)?;
+    let body = body;
     let node = match header {
         Header::Counted {
             initializer,
@@ -321,6 +321,7 @@ fn for_node(
             body,
         },
     };
+    let node = Box::new(alloc, node)?;
     Ok(Stmt { node })
 }
 

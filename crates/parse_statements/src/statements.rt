@@ -57,7 +57,7 @@ fn expression_statement<'k, B: Below<'k>>(
     let (value, height, rest) = some_expression(below, alloc, tokens)?;
     let (_, rest) = token(rest, Kind::Semicolon).ok_or(Miss::NoReading)?;
     let at = place_over(tokens, rest);
-    let node = StmtNode::Expression { at, value };
+    let node = Box::new(alloc, StmtNode::Expression { at, value })?;
     Ok((Stmt { node }, height + 1, rest))
 }
 
@@ -77,13 +77,13 @@ fn return_statement<'k, B: Below<'k>>(
     let (value, height, rest) = some_expression(below, alloc, rest)?;
     let (_, rest) = token(rest, Kind::Semicolon).ok_or(Miss::NoReading)?;
     let at = place_over(tokens, rest);
-    let node = StmtNode::Return { at, value };
+    let node = Box::new(alloc, StmtNode::Return { at, value })?;
     Ok((Stmt { node }, height + 1, rest))
 }
 
 /// `break`.
 #[tactic(auto, unfolding(grammar::specs::Descents::take_break))]
-fn break_statement(tokens: &[Token]) -> Result<(Stmt, u32, &[Token]), Miss>
+fn break_statement(alloc: Global, tokens: &[Token]) -> Result<(Stmt, u32, &[Token]), Miss>
     ensures reading { Gives (λ x. (x.0, x.2.now)) result (take_break tokens.now) }
     ensures deep { IfOk result (λ x. (x.1 ≡ height x.0) × (x.1 ≡ 1)) }
 {
@@ -92,13 +92,13 @@ fn break_statement(tokens: &[Token]) -> Result<(Stmt, u32, &[Token]), Miss>
     let (_, rest) = token(rest, Kind::Semicolon).ok_or(Miss::NoReading)?;
     let at = place_over(tokens, rest);
     let label = found.map(|word| identifier_at(word));
-    let node = StmtNode::Break { at, label };
+    let node = Box::new(alloc, StmtNode::Break { at, label })?;
     Ok((Stmt { node }, 1, rest))
 }
 
 /// `continue`.
 #[tactic(auto, unfolding(grammar::specs::Descents::take_continue))]
-fn continue_statement(tokens: &[Token]) -> Result<(Stmt, u32, &[Token]), Miss>
+fn continue_statement(alloc: Global, tokens: &[Token]) -> Result<(Stmt, u32, &[Token]), Miss>
     ensures reading { Gives (λ x. (x.0, x.2.now)) result (take_continue tokens.now) }
     ensures deep { IfOk result (λ x. (x.1 ≡ height x.0) × (x.1 ≡ 1)) }
 {
@@ -107,20 +107,20 @@ fn continue_statement(tokens: &[Token]) -> Result<(Stmt, u32, &[Token]), Miss>
     let (_, rest) = token(rest, Kind::Semicolon).ok_or(Miss::NoReading)?;
     let at = place_over(tokens, rest);
     let label = found.map(|word| identifier_at(word));
-    let node = StmtNode::Continue { at, label };
+    let node = Box::new(alloc, StmtNode::Continue { at, label })?;
     Ok((Stmt { node }, 1, rest))
 }
 
 /// `rethrow`.
 #[tactic(auto, unfolding(grammar::specs::Descents::take_rethrow))]
-fn rethrow_statement(tokens: &[Token]) -> Result<(Stmt, u32, &[Token]), Miss>
+fn rethrow_statement(alloc: Global, tokens: &[Token]) -> Result<(Stmt, u32, &[Token]), Miss>
     ensures reading { Gives (λ x. (x.0, x.2.now)) result (take_rethrow tokens.now) }
     ensures deep { IfOk result (λ x. (x.1 ≡ height x.0) × (x.1 ≡ 1)) }
 {
     let (_, rest) = token(tokens, Kind::Rethrow).ok_or(Miss::NoReading)?;
     let (_, rest) = token(rest, Kind::Semicolon).ok_or(Miss::NoReading)?;
     let at = place_over(tokens, rest);
-    let node = StmtNode::Rethrow { at };
+    let node = Box::new(alloc, StmtNode::Rethrow { at })?;
     Ok((Stmt { node }, 1, rest))
 }
 
@@ -139,11 +139,14 @@ fn labeled_statement<'k, B: Below<'k>>(
     let (word, rest) = name(tokens).ok_or(Miss::NoReading)?;
     let (_, rest) = token(rest, Kind::Colon).ok_or(Miss::NoReading)?;
     let (body, height, rest) = below.statement(alloc, rest)?;
-    let node = StmtNode::Labeled {
-        at: place_over(tokens, rest),
-        label: name_at(word),
-        body: Box::new(alloc, body)?,
-    };
+    let node = Box::new(
+        alloc,
+        StmtNode::Labeled {
+            at: place_over(tokens, rest),
+            label: name_at(word),
+            body,
+        },
+    )?;
     Ok((Stmt { node }, height + 1, rest))
 }
 
@@ -183,7 +186,7 @@ fn else_branch<'k, B: Below<'k>>(
 fn ends_open(statement: &Stmt) -> bool
     ensures { result ≡ ends_open statement.now }
 {
-    match &statement.node {
+    match &*statement.node {
         StmtNode::If { else_branch, .. } => match else_branch {
             None => true,
             Some(branch) => ends_open(branch),
@@ -223,17 +226,6 @@ fn some_else_branch<'k, B: Below<'k>>(
     }
 }
 
-/// The other branch, in a box.
-fn boxed(alloc: Global, found: Option<Stmt>) -> Result<Option<Box<Stmt>>, Miss>
-    ensures reading { IfOk result (λ b. option_map (λ s. s.value) b ≡ found) }
-    ensures whole { result ≢ Err NoReading }
-{
-    match found {
-        Some(statement) => Ok(Some(Box::new(alloc, statement)?)),
-        None => Ok(None),
-    }
-}
-
 /// `if`.
 #[tactic(auto, unfolding(grammar::specs::Descents::take_if), using(crate::proofs::Nearest::nearest_read))]
 fn if_statement<'k, B: Below<'k>>(
@@ -250,12 +242,15 @@ fn if_statement<'k, B: Below<'k>>(
     let (condition, reach, rest) = condition(below, alloc, rest)?;
     let (branch, tall, rest) = below.statement(alloc, rest)?;
     let (found, height, rest) = some_else_branch(below, alloc, &branch, rest)?;
-    let node = StmtNode::If {
-        at: place_over(tokens, rest),
-        condition,
-        then_branch: Box::new(alloc, branch)?,
-        else_branch: boxed(alloc, found)?,
-    };
+    let node = Box::new(
+        alloc,
+        StmtNode::If {
+            at: place_over(tokens, rest),
+            condition,
+            then_branch: branch,
+            else_branch: found,
+        },
+    )?;
     Ok((Stmt { node }, higher(reach, higher(tall, height)) + 1, rest))
 }
 
@@ -274,11 +269,14 @@ fn while_statement<'k, B: Below<'k>>(
     let (_, rest) = token(tokens, Kind::While).ok_or(Miss::NoReading)?;
     let (condition, tall, rest) = condition(below, alloc, rest)?;
     let (body, height, rest) = below.statement(alloc, rest)?;
-    let node = StmtNode::While {
-        at: place_over(tokens, rest),
-        condition,
-        body: Box::new(alloc, body)?,
-    };
+    let node = Box::new(
+        alloc,
+        StmtNode::While {
+            at: place_over(tokens, rest),
+            condition,
+            body,
+        },
+    )?;
     Ok((Stmt { node }, higher(tall, height) + 1, rest))
 }
 
@@ -299,11 +297,14 @@ fn do_statement<'k, B: Below<'k>>(
     let (_, rest) = token(rest, Kind::While).ok_or(Miss::NoReading)?;
     let (condition, height, rest) = condition(below, alloc, rest)?;
     let (_, rest) = token(rest, Kind::Semicolon).ok_or(Miss::NoReading)?;
-    let node = StmtNode::Do {
-        at: place_over(tokens, rest),
-        body: Box::new(alloc, body)?,
-        condition,
-    };
+    let node = Box::new(
+        alloc,
+        StmtNode::Do {
+            at: place_over(tokens, rest),
+            body,
+            condition,
+        },
+    )?;
     Ok((Stmt { node }, higher(tall, height) + 1, rest))
 }
 
@@ -373,7 +374,7 @@ fn block_statement(alloc: Global, tokens: &[Token]) -> Result<(Stmt, u32, &[Toke
 {
     let (_, statements, rest) = block_group(alloc, tokens)?;
     let at = place_over(tokens, rest);
-    let node = StmtNode::Block { at, statements };
+    let node = Box::new(alloc, StmtNode::Block { at, statements })?;
     Ok((Stmt { node }, 1, rest))
 }
 
@@ -414,13 +415,13 @@ pub fn statement_within<'k, B: Below<'k>>(
         return return_statement(below, alloc, tokens);
     }
     if heads(tokens, Kind::Break) {
-        return break_statement(tokens);
+        return break_statement(alloc, tokens);
     }
     if heads(tokens, Kind::Continue) {
-        return continue_statement(tokens);
+        return continue_statement(alloc, tokens);
     }
     if heads(tokens, Kind::Rethrow) {
-        return rethrow_statement(tokens);
+        return rethrow_statement(alloc, tokens);
     }
     other_statement(below, alloc, tokens)
 }

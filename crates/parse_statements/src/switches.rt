@@ -326,6 +326,6 @@ pub fn switch_statement<'k, B: Below<'k>>(
     let (_, found, height, rest) = cases(below, alloc, rest)?;
     let cases = cases_alone(alloc, found)?;
     let at = place_over(tokens, rest);
-    let node = StmtNode::Switch { at, value, cases };
+    let node = Box::new(alloc, StmtNode::Switch { at, value, cases })?;
     Ok((Stmt { node }, higher(tall, height) + 1, rest))
 }

@@ -283,11 +283,14 @@ pub fn try_statement<'k, B: Below<'k>>(
     if !has_clause(&handlers, &found) {
         return Err(Miss::NoReading);
     }
-    let node = StmtNode::Try {
-        at: place_over(tokens, rest),
-        body,
-        handlers,
-        finally_block: block_behind(found),
-    };
+    let node = Box::new(
+        alloc,
+        StmtNode::Try {
+            at: place_over(tokens, rest),
+            body,
+            handlers,
+            finally_block: block_behind(found),
+        },
+    )?;
     Ok((Stmt { node }, higher(reach, higher(tall, height)) + 1, rest))
 }

@@ -22,7 +22,7 @@ use parse_leaves::{
     Below, Miss, Tail, TypePlace, group, heads, heads_end, higher, identifier_at, name_at,
     place_of, place_over, question, some_name, token, type_name, type_word,
 };
-use std::alloc::Global;
+use std::alloc::{AllocError, Global};
 
 /// Types with commas between them.
 #[tactic(auto, using(parse_leaves::specs::Loops::list_out, parse_leaves::specs::Loops::list_stop, parse_leaves::specs::Commas::comma_goes, parse_leaves::specs::Commas::comma_stop, parse_leaves::specs::Loops::continued_first, parse_leaves::specs::Sizes::heights_behind, parse_leaves::specs::Sizes::higher_within))]
@@ -234,19 +234,22 @@ pub fn plain_type<'k, B: Below<'k>>(
 {
     if heads(tokens, Kind::Void) {
         let (word, rest) = token(tokens, Kind::Void).ok_or(Miss::NoReading)?;
-        let node = WrittenTypeNode::Void { at: place_of(word) };
+        let node = Box::new(alloc, WrittenTypeNode::Void { at: place_of(word) })?;
         return Ok((WrittenType { node }, 1, rest));
     }
     let (prefix, word, rest) = type_name(tokens).ok_or(Miss::NoReading)?;
     let (arguments, height, rest) = some_type_arguments(below, alloc, rest)?;
     let (mark, rest) = question(place, rest).ok_or(Miss::NoReading)?;
-    let node = WrittenTypeNode::Named {
-        at: place_over(tokens, rest),
-        prefix: prefix.map(|word| identifier_at(word)),
-        name: identifier_at(word),
-        arguments,
-        nullable: mark.is_some(),
-    };
+    let node = Box::new(
+        alloc,
+        WrittenTypeNode::Named {
+            at: place_over(tokens, rest),
+            prefix: prefix.map(|word| identifier_at(word)),
+            name: identifier_at(word),
+            arguments,
+            nullable: mark.is_some(),
+        },
+    )?;
     Ok((WrittenType { node }, height + 1, rest))
 }
 
@@ -417,19 +420,27 @@ pub fn listed_type_parameters(
 
 /// The function type that a tail makes of nothing.
 #[tactic(auto, using(parse_leaves::specs::Sizes::zero_higher))]
-fn tail_alone(start: &[Token], after: &[Token], tail: Tail) -> WrittenType
-    ensures reading { result ≡ first_tail_of (tokens_read start.now after.now) (tail_of tail) }
-    ensures deep { height result ≡ tail_height (tail_of tail) + 1 }
+fn tail_alone(
+    alloc: Global,
+    start: &[Token],
+    after: &[Token],
+    tail: Tail,
+) -> Result<WrittenType, AllocError>
+    ensures reading { IfOk result (λ x. x ≡ first_tail_of (tokens_read start.now after.now) (tail_of tail)) }
+    ensures deep { IfOk result (λ x. height x ≡ tail_height (tail_of tail) + 1) }
 {
-    let node = WrittenTypeNode::Function {
-        at: place_over(start, after),
-        result: None,
-        type_parameters: tail.type_parameters,
-        parameters: tail.parameters,
-        optional: tail.optional,
-        nullable: tail.nullable,
-    };
-    WrittenType { node }
+    let node = Box::new(
+        alloc,
+        WrittenTypeNode::Function {
+            at: place_over(start, after),
+            result: None,
+            type_parameters: tail.type_parameters,
+            parameters: tail.parameters,
+            optional: tail.optional,
+            nullable: tail.nullable,
+        },
+    )?;
+    Ok(WrittenType { node })
 }
 
 /// The function type that a tail makes of its result.
@@ -444,14 +455,17 @@ fn tail_behind(
     ensures deep { IfOk result (λ x. height x ≡ higher (height left) (tail_height (tail_of tail)) + 1) }
     ensures whole { result ≢ Err NoReading }
 {
-    let node = WrittenTypeNode::Function {
-        at: place_over(start, after),
-        result: Some(Box::new(alloc, left)?),
-        type_parameters: tail.type_parameters,
-        parameters: tail.parameters,
-        optional: tail.optional,
-        nullable: tail.nullable,
-    };
+    let node = Box::new(
+        alloc,
+        WrittenTypeNode::Function {
+            at: place_over(start, after),
+            result: Some(left),
+            type_parameters: tail.type_parameters,
+            parameters: tail.parameters,
+            optional: tail.optional,
+            nullable: tail.nullable,
+        },
+    )?;
     Ok(WrittenType { node })
 }
 
@@ -468,7 +482,10 @@ fn first_type<'k, B: Below<'k>>(
     ensures deep { IfOk result (λ x. IsDeep (B.room below.now + 1) x.0 x.1) }
 {
     match tail_before(below, alloc, place, tokens) {
-        Ok((tail, height, rest)) => Ok((tail_alone(tokens, rest, tail), height + 1, rest)),
+        Ok((tail, height, rest)) => {
+            let written = tail_alone(alloc, tokens, rest, tail)?;
+            Ok((written, height + 1, rest))
+        }
         Err(Miss::NoReading) => plain_type(below, alloc, place, tokens),
         Err(Miss::Memory) => Err(Miss::Memory),
     }

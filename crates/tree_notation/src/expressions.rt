@@ -9,7 +9,7 @@ use std::alloc::AllocError;
 
 /// Writes an expression.
 pub fn expression<'t>(out: &mut Pieces<'t>, expr: &'t Expr) -> Result<(), AllocError> {
-    match &expr.node {
+    match &*expr.node {
         ExprNode::Integer { word, .. } => out.word(*word),
         ExprNode::Boolean { value, .. } => out.text(if *value { "true" } else { "false" }),
         ExprNode::Null { .. } => out.text("null"),

@@ -23,10 +23,10 @@ pub fn body_of<'t>(out: &mut Pieces<'t>, body: &'t Body) -> Result<(), AllocErro
 /// Writes a function with its name.
 pub fn function<'t>(out: &mut Pieces<'t>, function: &'t Function) -> Result<(), AllocError> {
     out.range(function.place())?;
-    match &function.node {
-        FunctionNode::Getter { .. } => getter(out, &function.node),
-        FunctionNode::Setter { .. } => setter(out, &function.node),
-        FunctionNode::Plain { .. } => plain(out, &function.node),
+    match &*function.node {
+        FunctionNode::Getter { .. } => getter(out, &*function.node),
+        FunctionNode::Setter { .. } => setter(out, &*function.node),
+        FunctionNode::Plain { .. } => plain(out, &*function.node),
     }
 }
 

@@ -7,7 +7,7 @@ use std::alloc::AllocError;
 
 /// Writes a statement.
 pub fn statement<'t>(out: &mut Pieces<'t>, stmt: &'t Stmt) -> Result<(), AllocError> {
-    match &stmt.node {
+    match &*stmt.node {
         StmtNode::Block { statements, .. } => {
             out.text("(block ")?;
             out.block(statements.as_slice())?;

@@ -9,10 +9,10 @@ use std::alloc::AllocError;
 
 /// Writes a type.
 pub fn written_type<'t>(out: &mut Pieces<'t>, written: &'t WrittenType) -> Result<(), AllocError> {
-    match &written.node {
+    match &*written.node {
         WrittenTypeNode::Void { .. } => out.text("void"),
-        WrittenTypeNode::Named { .. } => named_type(out, &written.node),
-        WrittenTypeNode::Function { .. } => function_type(out, &written.node),
+        WrittenTypeNode::Named { .. } => named_type(out, &*written.node),
+        WrittenTypeNode::Function { .. } => function_type(out, &*written.node),
     }
 }
 

@@ -12,12 +12,12 @@ use tree_notation::{Pieces, arguments_of, body_of, function, parameters_of, vari
 /// Writes a member.
 pub fn member<'t>(out: &mut Pieces<'t>, member: &'t Member) -> Result<(), AllocError> {
     out.range(member.place())?;
-    match &member.node {
-        MemberNode::Constructor { .. } => constructor(out, &member.node),
-        MemberNode::Factory { .. } => factory(out, &member.node),
-        MemberNode::Method { .. } => method(out, &member.node),
-        MemberNode::Fields { .. } => fields(out, &member.node),
-        MemberNode::Operator { .. } => operator_member(out, &member.node),
+    match &*member.node {
+        MemberNode::Constructor { .. } => constructor(out, &*member.node),
+        MemberNode::Factory { .. } => factory(out, &*member.node),
+        MemberNode::Method { .. } => method(out, &*member.node),
+        MemberNode::Fields { .. } => fields(out, &*member.node),
+        MemberNode::Operator { .. } => operator_member(out, &*member.node),
         MemberNode::Error { .. } => out.text("(error)"),
     }
 }

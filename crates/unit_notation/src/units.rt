@@ -10,7 +10,7 @@ use tree_notation::{Pieces, Ranges, function, text_of, variables};
 /// Writes a directive or a declaration.
 fn item<'t>(out: &mut Pieces<'t>, item: &'t Item) -> Result<(), AllocError> {
     out.range(item.place())?;
-    match &item.node {
+    match &*item.node {
         ItemNode::Function {
             metadata,
             function: declared,
@@ -28,7 +28,7 @@ fn item<'t>(out: &mut Pieces<'t>, item: &'t Item) -> Result<(), AllocError> {
             variables(out, declared)
         }
         ItemNode::Class { .. } | ItemNode::Mixin { .. } | ItemNode::TypeAlias { .. } => {
-            declaration(out, &item.node)
+            declaration(out, &*item.node)
         }
         ItemNode::Error { .. } => out.text("(error)"),
         other => directive(out, other),

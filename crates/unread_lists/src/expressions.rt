@@ -26,7 +26,7 @@ pub fn read_expr<R: ReadsLists>(
     ensures { OnOk result (expr.new ≡ with_lists (R.lists reader.now) room expr.old) }
 {
     let inside = room.saturating_sub(1);
-    match &mut expr.node {
+    match &mut *expr.node {
         ExprNode::Integer { .. } => return Ok(()),
         ExprNode::Text { strings, .. } => return read_strings(
             reader,

@@ -98,7 +98,7 @@ pub fn read_function<R: ReadsLists>(
     requires sound { R.sound reader.now }
     ensures { OnOk result (function.new ≡ with_lists (R.lists reader.now) room function.old) }
 {
-    match &mut function.node {
+    match &mut *function.node {
         FunctionNode::Getter { result, body, .. } => {
             read_optional_written_type(reader, alloc, room, result)?;
             read_body(reader, alloc, room, body)

@@ -62,7 +62,7 @@ pub fn read_member<R: ReadsLists>(
     ensures { OnOk result (member.new ≡ with_lists (R.lists reader.now) room member.old) }
 {
     let inside = room.saturating_sub(1);
-    match &mut member.node {
+    match &mut *member.node {
         MemberNode::Constructor {
             parameters,
             initializers,

@@ -1,7 +1,6 @@
 //! Reading the lists of statements in statements and their parts.
 
 ghost use Rattle.std.specs.Prelude.{◌≡◌, ◌≤◌, OnOk};
-ghost use Rattle.std.specs.Option.{option_map};
 ghost use Rattle.dart_tree.specs.Tree.{trees_of, part_of};
 ghost use Rattle.dart_tree.specs.View.{for_initializer_of};
 ghost use Rattle.unread_lists.specs.WithLists.{with_lists, all_with_lists, part_with_lists};
@@ -26,7 +25,7 @@ pub fn read_stmt<R: ReadsLists>(
     ensures { OnOk result (stmt.new ≡ with_lists (R.lists reader.now) room stmt.old) }
 {
     let inside = room.saturating_sub(1);
-    match &mut stmt.node {
+    match &mut *stmt.node {
         StmtNode::Block { statements, .. } => return read_list(reader, alloc, inside, statements),
         StmtNode::Variables { variables, .. } => return read_variable_list(
             reader, alloc, inside, variables,
@@ -45,7 +44,7 @@ pub fn read_stmt<R: ReadsLists>(
         } => {
             read_expr(reader, alloc, inside, condition)?;
             read_stmt(reader, alloc, inside, then_branch)?;
-            return read_boxed_stmt(reader, alloc, inside, else_branch);
+            return read_optional_stmt(reader, alloc, inside, else_branch);
         }
         StmtNode::While {
             condition,
@@ -132,16 +131,16 @@ pub(crate) fn read_for_initializer<R: ReadsLists>(
 
 /// So of one that may be left out.
 #[cycle(branches)]
-pub(crate) fn read_boxed_stmt<R: ReadsLists>(
+pub(crate) fn read_optional_stmt<R: ReadsLists>(
     reader: &R,
     alloc: Global,
     room: u32,
-    stmt: &mut Option<Box<Stmt>>,
+    stmt: &mut Option<Stmt>,
 ) -> Result<(), AllocError>
     requires limit { room ≤ 201 }
     requires sound { R.sound reader.now }
-    ensures { OnOk result (part_of (option_map (λ b. b.value) stmt.new)
-        ≡ part_with_lists (R.lists reader.now) room (part_of (option_map (λ b. b.value) stmt.old))) }
+    ensures { OnOk result (part_of stmt.new
+        ≡ part_with_lists (R.lists reader.now) room (part_of stmt.old)) }
 {
     match stmt {
         None => Ok(()),

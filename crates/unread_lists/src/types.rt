@@ -1,7 +1,6 @@
 //! Reading the lists of statements in types.
 
 ghost use Rattle.std.specs.Prelude.{◌≡◌, ◌≤◌, OnOk};
-ghost use Rattle.std.specs.Option.{option_map};
 ghost use Rattle.dart_tree.specs.Tree.{trees_of, part_of};
 ghost use Rattle.unread_lists.specs.WithLists.{with_lists, all_with_lists, part_with_lists};
 
@@ -23,7 +22,7 @@ pub fn read_written_type<R: ReadsLists>(
     ensures { OnOk result (written_type.new ≡ with_lists (R.lists reader.now) room written_type.old) }
 {
     let inside = room.saturating_sub(1);
-    match &mut written_type.node {
+    match &mut *written_type.node {
         WrittenTypeNode::Void { .. } => Ok(()),
         WrittenTypeNode::Named { arguments, .. } => read_optional_type_arguments(
             reader, alloc, inside, arguments,
@@ -35,7 +34,7 @@ pub fn read_written_type<R: ReadsLists>(
             optional,
             ..
         } => {
-            read_boxed_written_type(reader, alloc, inside, result)?;
+            read_optional_written_type(reader, alloc, inside, result)?;
             read_type_parameters(reader, alloc, inside, type_parameters.as_mut_slice())?;
             read_parameter_types(reader, alloc, inside, parameters.as_mut_slice())?;
             read_parameters(reader, alloc, inside, optional.as_mut_slice())
@@ -59,25 +58,6 @@ pub(crate) fn read_written_types<R: ReadsLists>(
         read_written_type(reader, alloc, room, item)?;
     }
     Ok(())
-}
-
-/// So of one that may be left out.
-#[cycle(parts)]
-pub(crate) fn read_boxed_written_type<R: ReadsLists>(
-    reader: &R,
-    alloc: Global,
-    room: u32,
-    written_type: &mut Option<Box<WrittenType>>,
-) -> Result<(), AllocError>
-    requires limit { room ≤ 201 }
-    requires sound { R.sound reader.now }
-    ensures { OnOk result (part_of (option_map (λ b. b.value) written_type.new)
-        ≡ part_with_lists (R.lists reader.now) room (part_of (option_map (λ b. b.value) written_type.old))) }
-{
-    match written_type {
-        None => Ok(()),
-        Some(tree) => read_written_type(reader, alloc, room, tree),
-    }
 }
 
 /// So of one that may be left out.

@@ -26,7 +26,7 @@ pub fn read_item<R: ReadsLists>(
     ensures { OnOk result (item.new ≡ with_lists (R.lists reader.now) room item.old) }
 {
     let inside = room.saturating_sub(1);
-    match &mut item.node {
+    match &mut *item.node {
         ItemNode::Class {
             type_parameters,
             superclass,

@@ -1,5 +1,4 @@
 use Rattle.std.specs.Prelude.{◌+◌, ◌*◌}
-use Rattle.std.specs.Option.{option_map}
 use Rattle.dart_tree.specs.Tree.{trees_of, part_of}
 use Rattle.dart_tree.specs.View.{for_initializer_of}
 use Rattle.dart_tree.specs.Numbers.{nodes_in, nodes_in_all, nodes_in_part}
@@ -108,17 +107,14 @@ decreases-statements::add_from_handlers l = 2 * nodes_in_all (trees_of l.handler
 abbrev pub decreases-types::add_from_optional_type_arguments : goal.decreases-types::add_from_optional_type_arguments
 decreases-types::add_from_optional_type_arguments l = 2 * nodes_in_part (part_of l.type_arguments.now) + 1
 
-abbrev pub decreases-types::add_from_boxed_written_type : goal.decreases-types::add_from_boxed_written_type
-decreases-types::add_from_boxed_written_type l = 2 * nodes_in_part (part_of (option_map (λ b. b.value) l.written_type.now)) + 1
-
 abbrev pub decreases-types::add_from_optional_written_type : goal.decreases-types::add_from_optional_written_type
 decreases-types::add_from_optional_written_type l = 2 * nodes_in_part (part_of l.written_type.now) + 1
 
 abbrev pub decreases-expressions::add_from_optional_expr : goal.decreases-expressions::add_from_optional_expr
 decreases-expressions::add_from_optional_expr l = 2 * nodes_in_part (part_of l.expr.now) + 1
 
-abbrev pub decreases-statements::add_from_boxed_stmt : goal.decreases-statements::add_from_boxed_stmt
-decreases-statements::add_from_boxed_stmt l = 2 * nodes_in_part (part_of (option_map (λ b. b.value) l.stmt.now)) + 1
+abbrev pub decreases-statements::add_from_optional_stmt : goal.decreases-statements::add_from_optional_stmt
+decreases-statements::add_from_optional_stmt l = 2 * nodes_in_part (part_of l.stmt.now) + 1
 
 abbrev pub decreases-statements::add_from_optional_block : goal.decreases-statements::add_from_optional_block
 decreases-statements::add_from_optional_block l = 2 * nodes_in_part (part_of l.block.now) + 1

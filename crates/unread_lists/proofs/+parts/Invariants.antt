@@ -1,5 +1,4 @@
 use Rattle.std.specs.Prelude.{◌+◌, ◌*◌}
-use Rattle.std.specs.Option.{option_map}
 use Rattle.dart_tree.specs.Tree.{trees_of, part_of}
 use Rattle.dart_tree.specs.Numbers.{nodes_in, nodes_in_all, nodes_in_part}
 use Rattle.unread_lists.proofs.Sequences.{AreReadUpTo}
@@ -73,9 +72,6 @@ decreases-expressions::read_arguments g l = 2 * nodes_in_all (trees_of l.argumen
 
 abbrev pub decreases-types::read_optional_type_arguments : goal.decreases-types::read_optional_type_arguments
 decreases-types::read_optional_type_arguments g l = 2 * nodes_in_part (part_of l.type_arguments.now) + 1
-
-abbrev pub decreases-types::read_boxed_written_type : goal.decreases-types::read_boxed_written_type
-decreases-types::read_boxed_written_type g l = 2 * nodes_in_part (part_of (option_map (λ b. b.value) l.written_type.now)) + 1
 
 abbrev pub decreases-types::read_optional_written_type : goal.decreases-types::read_optional_written_type
 decreases-types::read_optional_written_type g l = 2 * nodes_in_part (part_of l.written_type.now) + 1

@@ -13,7 +13,7 @@ abbrev pub decreases-block_of : goal.decreases-block_of
 decreases-block_of l = 4 * nodes_of l.statement.now + 1
 
 abbrev pub decreases-else_of : goal.decreases-else_of
-decreases-else_of l = 4 * nodes_of_part (part_of (option_map (λ b. b.value) l.branch.now)) + 2
+decreases-else_of l = 4 * nodes_of_part (part_of l.branch.now) + 2
 
 abbrev pub decreases-add_statement : goal.decreases-add_statement
 decreases-add_statement l = 4 * nodes_of l.statement.now + 2

@@ -1,10 +1,13 @@
--- A value is assigned to the operand that has been read.
-use Rattle.std.proofs.Common.{◌≡◌, ◌≤◌, Some, arith}
+-- What is read behind the first operand of an expression.
+use Rattle.std.proofs.Common.{◌≡◌, ◌<◌, ◌≤◌, Some, None, arith}
 use Rattle.readings.specs.Readings.{tokens_read}
+use Rattle.readings.specs.Descent.{◌▸◌}
+use Rattle.grammar.specs.Operators.{take_assignment}
 use Rattle.grammar.specs.Expressions.{assign_of}
 use Rattle.grammar.specs.Descents.{lower, take_expression}
 use Rattle.parse_leaves.specs.Loops.{fits_deep}
 use Rattle.parse_leaves.specs.Ways.{expression_assigned}
+use Rattle.parse_operators.proofs.Behind.{gives_deep, gives_plain}
 use Rattle.parse_operators.proofs.expressions.expression_behind.Goals as goal
 
 pub returns-in-Ok-clause-reading : goal.returns-in-Ok-clause-reading
@@ -19,3 +22,16 @@ pub returns-in-Ok-clause-deep : goal.returns-in-Ok-clause-deep
 returns-in-Ok-clause-deep g c =
     let less : c.args.reach ≤ g.B.Below.room c.args.below.now = omega (arith, c.room.ensures) in
     c.assignment.ensures.deep (g.B.Below.room c.args.below.now) less c.in-Ok.ensures.deep.1
+
+pub returns-then-reach-room-clause-reading : goal.returns-then-reach-room-clause-reading
+returns-then-reach-room-clause-reading g c =
+    let more : g.B.Below.room c.args.below.now < c.args.reach = omega (arith, c.room.ensures, c.if-reach-room.true) in
+    gives_deep _ _ (g.B.Below.room c.args.below.now) c.args.setting (lower (g.B.Below.room c.args.below.now)) c.args.start.now c.args.tokens.now c.args.first c.args.reach c.requires.read c.requires.known.0 more
+    c.unassigned_behind.ensures.reading
+
+pub returns-in-Err-NoReading-clause-reading : goal.returns-in-Err-NoReading-clause-reading
+returns-in-Err-NoReading-clause-reading g c =
+    let none : (take_assignment ▸ (lower (g.B.Below.room c.args.below.now)).expression c.args.setting) c.args.tokens.now ≡ None =
+    rw c.in-Err-NoReading.field-0-is at c.in-Err-NoReading.ensures.reading in
+    gives_plain _ _ (g.B.Below.room c.args.below.now) c.args.setting (lower (g.B.Below.room c.args.below.now)) c.args.start.now c.args.tokens.now c.args.first c.requires.read none
+    c.unassigned_behind-in-Err-NoReading.ensures.reading
