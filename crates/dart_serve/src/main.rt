@@ -2,7 +2,7 @@
 //!
 //! The run that is stored beside it (`args`, `data/`, and what comes of them in `stdout` and
 //! `status`) is one of a file whose steps are spent, so that its status isn't 0; what is served
-//! stands beside `session_contents`, `session_requests` and `session_errors`.
+//! stands beside `session`.
 #![tactic(auto)]
 
 use std::process::ExitCode;

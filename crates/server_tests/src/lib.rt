@@ -1,6 +1,6 @@
 //! Tests of `dart_server`: whole runs of the program over objects in memory. They show what needs
 //! files, faults or texts of millions of bytes; sessions that need none are stored beside the
-//! programs `session_contents`, `session_requests` and `session_errors`.
+//! program `session`.
 #![tactic(auto)]
 
 #[cfg(test)]

@@ -1,0 +1,8 @@
+//! A stored session of `dart_serve` (`stdin`, and its replies in `stdout`): texts that are given, edited and taken away; texts of every rule, and their errors; roots over the files in `data`; and lines of every form, with their refusals.
+#![tactic(auto)]
+
+use std::process::ExitCode;
+
+fn main(rt: HostRuntime) -> ExitCode {
+    dart_server::on_host(&rt)
+}
