@@ -1,0 +1,5 @@
+use Rattle.library_graph.specs.Paths.{AreWithin}
+use Rattle.library_graph.proofs.tests.edges.Given as goal
+
+abbrev pub invariant-loop-from : goal.invariant-loop-from
+invariant-loop-from l = AreWithin l.edges.items l.count
