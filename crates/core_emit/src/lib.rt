@@ -1,0 +1,13 @@
+//! Emission: the points that code is made into, and that they are fine where each part of the code leads
+//! from what is known before it to what is known behind it.
+//!
+//! Code (`specs/Code.antt`) is terms one after another, choices and loops, with what is known before each
+//! term and without numbers of points. `emit` (`specs/Emitted.antt`) makes its points from the end to the
+//! start, so that each point names points that there are, but for the head of a loop. The law of
+//! `points_of_code_are_fine` is all that a form of the language needs of it: that its own code passes. The
+//! crate has definitions and the law alone; it stands on core programs and on their acceptance.
+#![tactic(auto)]
+
+mod laws;
+
+pub use laws::points_of_code_are_fine;

@@ -1,0 +1,3 @@
+pub mod PointFacts
+pub mod Program
+pub mod Values

@@ -1,0 +1,5 @@
+pub mod Values
+pub mod Steps
+pub mod State
+pub mod Sound
+pub mod GoingWrong
