@@ -1,0 +1,21 @@
+//! The rules: what each form of a body gives, from what is known before it.
+//!
+//! For an expression these are its static type, the flow models after it, where it is true and where
+//! it is false, its diagnostics, and what is said of its nodes; for a statement the flow model after
+//! it, the jumps out of it and the types that it returns, its diagnostics and its nodes. There is one
+//! row of a table for each form (`specs/ExpressionRows.antt`, `specs/StatementRows.antt`), and the
+//! recursion over trees that cites them (`specs/Judgement.antt`). The rules are those of the Dart
+//! specification and its null safety, restated in docs/LANGUAGE.md. The crate has these definitions
+//! and the plain types of what they say; it stands on the trees, the types and the flow models of the
+//! whole language, and the judge proves its code against it.
+#![tactic(auto)]
+
+mod fault;
+mod meaning;
+mod operation;
+mod typed;
+
+pub use fault::Fault;
+pub use meaning::Meaning;
+pub use operation::Operation;
+pub use typed::TypedNode;
