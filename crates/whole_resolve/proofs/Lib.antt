@@ -1,0 +1,13 @@
+pub mod Ahead
+pub mod Declarations
+pub mod Ends
+pub mod Exits
+pub mod Forms
+pub mod Jumps
+pub mod LiteralLemmas
+pub mod Loops
+pub mod Meanings
+pub mod Operators
+pub mod Parts
+pub mod Shadowing
+pub mod Sizes

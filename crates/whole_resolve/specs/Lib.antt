@@ -1,0 +1,4 @@
+pub mod Around
+pub mod CoreTypes
+pub mod Judged
+pub mod Shadows

@@ -1,0 +1,119 @@
+//! The judge: what the rules say of a body, one function for each row.
+
+mod core_types;
+mod expressions;
+mod literals;
+mod models;
+mod operators;
+mod statements;
+mod types;
+mod writes;
+mod written;
+
+ghost use Rattle.std.specs.Prelude.{◌≡◌, ◌++◌, [], IfOk, OnOk};
+ghost use Rattle.std.specs.FinMap.{empty};
+ghost use Rattle.flow_model.specs.Flow.{start_of};
+ghost use Rattle.whole_judgement.specs.Given.{fault_over, of_type};
+ghost use Rattle.whole_judgement.specs.Judgement.{run};
+ghost use Rattle.whole_resolve.specs.Around.{around};
+ghost use Rattle.whole_resolve.specs.Judged.{typed_of};
+
+use crate::names::NamesInScope;
+use core_types::CoreTypes;
+use dart_tree::{Place, Span, Stmt};
+use dart_types::{DartType, Rows};
+use flow_model::Flow;
+use judgement::DiagnosticCode;
+use plain_text::PlainText;
+use statements::judge_statement;
+use std::alloc::{AllocError, Global};
+use std::rc::Rc;
+use whole_judgement::{Fault, Meaning, TypedNode};
+
+/// What the rules say of a body.
+#[derive(Drop)]
+pub struct Found {
+    /// Its diagnostics, in the order in which its statements are judged.
+    pub faults: Vec<Fault>,
+    /// Its typed tree: what is said of its nodes, those in a node before it.
+    pub nodes: Vec<TypedNode>,
+}
+
+/// What the rules say of a statement that is the body of a function without parameters, in a library
+/// with these classes, in which words mean this outside of functions. A name costs the logarithm of
+/// the names and of the locals in scope. What changes what is known of the locals copies it, once;
+/// what leaves it as it was shares it. A loop goes through its body once before it is judged, and each
+/// write there costs these logarithms too. The error is want of memory.
+pub fn judge_body(
+    alloc: Global,
+    rows: &Rows,
+    words: &[PlainText],
+    outside: &[Meaning],
+    body: &Stmt,
+) -> Result<Found, AllocError>
+    ensures faults { IfOk result (λ found. found.faults.items ≡ (run (around rows.now.table words.now outside.now empty) body.now (start_of [])).faults) }
+    ensures nodes { IfOk result (λ found. found.nodes.items ≡ (run (around rows.now.table words.now outside.now empty) body.now (start_of [])).nodes) }
+{
+    let core = CoreTypes::new(alloc)?;
+    let context = Context {
+        alloc,
+        rows,
+        words,
+        outside,
+        core: &core,
+    };
+    let mut names = NamesInScope::new(alloc);
+    let flow = Flow::start(alloc, &[])?;
+    let start = Rc::new(alloc, flow)?;
+    let faults = Vec::new(alloc);
+    let nodes = Vec::new(alloc);
+    let mut found = Found { faults, nodes };
+    judge_statement(context, &mut names, body, &start, &mut found)?;
+    Ok(found)
+}
+
+/// What all of a body is judged with: the allocator, the classes, the words and what they mean outside
+/// of the body, and the types that rows name.
+#[derive(Clone, Copy)]
+struct Context<'a> {
+    alloc: Global,
+    rows: &'a Rows,
+    words: &'a [PlainText],
+    outside: &'a [Meaning],
+    core: &'a CoreTypes,
+}
+
+/// An expression that was judged: where it stands, its static type, and what is known after it, where
+/// it is true and where it is false.
+#[derive(Drop)]
+struct Typed {
+    at: Place,
+    ty: DartType,
+    after: Rc<Flow>,
+    when_true: Rc<Flow>,
+    when_false: Rc<Flow>,
+}
+
+// An expression of the type, which says no more where it is true or false.
+fn of_type(at: Place, ty: DartType, after: Rc<Flow>) -> Result<Typed, AllocError>
+    ensures row { IfOk result (λ typed. typed_of typed ≡ of_type ty after.value) }
+    ensures place { IfOk result (λ typed. typed.at ≡ at) }
+{
+    let when_true = after.clone()?;
+    let when_false = after.clone()?;
+    Ok(Typed {
+        at,
+        ty,
+        after,
+        when_true,
+        when_false,
+    })
+}
+
+// Adds a diagnostic to those that were found.
+fn report(span: Span, code: DiagnosticCode, faults: &mut Vec<Fault>) -> Result<(), AllocError>
+    ensures { OnOk result (faults.new.items ≡ faults.old.items ++ fault_over span code) }
+{
+    faults.push(Fault { span, code })?;
+    Ok(())
+}

@@ -1,0 +1,151 @@
+//! What operators give, once their sides are judged.
+
+ghost use Rattle.std.specs.Prelude.{◌≡◌, ◌++◌, IfOk, OnOk};
+ghost use Rattle.std.specs.Option.{option_copied};
+ghost use Rattle.whole_judgement.specs.ExpressionRows as row;
+ghost use Rattle.whole_judgement.specs.Given.{fit_faults};
+ghost use Rattle.whole_resolve.specs.Judged.{Has, RowEvaluates, typed_of};
+
+use super::models::where_not_null;
+use super::types::{fits, invalid_type, is_never, is_null, operation_in, operation_of};
+use super::{Context, Typed, of_type, report};
+use dart_tree::{BinaryOperator, Place};
+use dart_types::{DartType, Rows, is_subtype};
+use flow_model::LocalId;
+use judgement::DiagnosticCode;
+use std::alloc::AllocError;
+use whole_judgement::{Fault, Operation};
+
+// An operator of a class, from its sides and what it takes and gives.
+pub(super) fn operate(
+    context: Context,
+    at: Place,
+    operator: BinaryOperator,
+    operation: &Option<Operation>,
+    left: &Typed,
+    right: &Typed,
+    faults: &mut Vec<Fault>,
+) -> Result<Typed, AllocError>
+    requires { operation.now ≡ row.operation_of left.now.ty operator.kind }
+    ensures { IfOk result (λ typed. RowEvaluates faults.old.items faults.new.items typed at (row.operated_row context.entry.rows.now.table operator right.now.at (typed_of left.now) (typed_of right.now))) }
+{
+    check_receiver(context, operator, operation, &left.ty, faults)?;
+    check_argument(context.rows, operation, right, faults)?;
+    let ty = result_type(context, &left.ty, operation, &right.ty)?;
+    of_type(at, ty, right.after.clone()?)
+}
+
+// The type that is wanted of the right side: what the operator takes.
+pub(super) fn parameter_of(operation: &Option<Operation>) -> Option<&DartType>
+    ensures { option_copied result ≡ row.parameter_of operation.now }
+{
+    match operation {
+        None => None,
+        Some(operation) => Some(&operation.parameter),
+    }
+}
+
+// The type on the left must have the operator, and may not be one that has it null aside.
+fn check_receiver(
+    context: Context,
+    operator: BinaryOperator,
+    operation: &Option<Operation>,
+    ty: &DartType,
+    faults: &mut Vec<Fault>,
+) -> Result<(), AllocError>
+    requires { operation.now ≡ row.operation_of ty.now operator.kind }
+    ensures { OnOk result (faults.new.items ≡ faults.old.items ++ row.receiver_faults context.entry.rows.now.table operator.span ty.now operator.kind) }
+{
+    let own = operation_in(context.alloc, context.core, ty, operator.kind)?;
+    if own.is_some() || ty.holds_invalid() || is_never(ty) {
+        return Ok(());
+    }
+    if !is_subtype(context.rows, ty, context.core.object())
+        && (operation.is_some() || is_null(ty))
+    {
+        return report(operator.span, DiagnosticCode::UncheckedNullableUse, faults);
+    }
+    report(operator.span, DiagnosticCode::UndefinedOperator, faults)
+}
+
+// The right side of an operator must fit what it takes.
+fn check_argument(
+    rows: &Rows,
+    operation: &Option<Operation>,
+    argument: &Typed,
+    faults: &mut Vec<Fault>,
+) -> Result<(), AllocError>
+    ensures { OnOk result (faults.new.items ≡ faults.old.items ++ row.argument_faults rows.now.table argument.now.at operation.now argument.now.ty) }
+{
+    match operation {
+        None => Ok(()),
+        Some(operation) => check_fit(
+            rows,
+            DiagnosticCode::ArgumentType,
+            argument,
+            &operation.parameter,
+            faults,
+        ),
+    }
+}
+
+// A value must fit where a type is wanted.
+pub(super) fn check_fit(
+    rows: &Rows,
+    code: DiagnosticCode,
+    value: &Typed,
+    wanted: &DartType,
+    faults: &mut Vec<Fault>,
+) -> Result<(), AllocError>
+    ensures { OnOk result (faults.new.items ≡ faults.old.items ++ fit_faults rows.now.table code value.now.at value.now.ty wanted.now) }
+{
+    if fits(rows, &value.ty, wanted) {
+        return Ok(());
+    }
+    report(value.at.span, code, faults)
+}
+
+// The type of an operator's result: its own where the right side fits.
+fn result_type(
+    context: Context,
+    receiver: &DartType,
+    operation: &Option<Operation>,
+    argument: &DartType,
+) -> Result<DartType, AllocError>
+    ensures { IfOk result (λ ty. ty ≡ row.result_type context.entry.rows.now.table receiver.now operation.now argument.now) }
+{
+    match operation {
+        None => {
+            if is_never(receiver) {
+                return receiver.copy(context.alloc);
+            }
+            Ok(invalid_type())
+        }
+        Some(operation) => {
+            if is_subtype(context.rows, argument, &operation.parameter) {
+                return operation.result.copy(context.alloc);
+            }
+            Ok(invalid_type())
+        }
+    }
+}
+
+// `!=`: where it compares a local with `null` and is true, the local isn't null.
+pub(super) fn differ(
+    context: Context,
+    at: Place,
+    compared: Option<LocalId>,
+    right: &Typed,
+) -> Result<Typed, AllocError>
+    ensures { IfOk result (λ typed. Has typed at (row.not_equal_row context.entry.rows.now.table compared (typed_of right.now) (typed_of right.now))) }
+{
+    let ty = context.core.bool().copy(context.alloc)?;
+    let when_true = where_not_null(context, compared, &right.after)?;
+    Ok(Typed {
+        at,
+        ty,
+        after: right.after.clone()?,
+        when_true,
+        when_false: right.after.clone()?,
+    })
+}

@@ -1,0 +1,211 @@
+//! What declarations and assignments do with a local.
+
+ghost use Rattle.std.specs.Prelude.{◌≡◌, ◌++◌, if◌then◌else◌, IfOk, IsNone, OnOk};
+ghost use Rattle.dart_types.specs.Ty.{invalid};
+ghost use Rattle.dart_types.specs.SubTest.{sub};
+ghost use Rattle.std.specs.Option.{option_copied};
+ghost use Rattle.flow_model.specs.Flow.{at_local, declare_of, facts_of};
+ghost use Rattle.flow_model.specs.Assign.{assign_facts};
+ghost use Rattle.whole_judgement.specs.ExpressionRows as row;
+ghost use Rattle.whole_judgement.specs.StatementRows as statement;
+ghost use Rattle.whole_resolve.specs.Around.{around};
+ghost use Rattle.whole_resolve.specs.Judged.{Has, RowEvaluates, RowGives, typed_of};
+
+use super::models::shared;
+use super::operators::check_fit;
+use super::types::invalid_type;
+use super::{Context, Typed, of_type, report};
+use crate::names::NamesInScope;
+use dart_tree::{Name, Place};
+use dart_types::{DartType, is_subtype};
+use flow_model::{Flow, LocalDecl, LocalId};
+use judgement::DiagnosticCode;
+use std::alloc::AllocError;
+use std::rc::Rc;
+use whole_judgement::{Fault, Meaning};
+
+// The type that is wanted of a value that is assigned: that of the local.
+pub(super) fn wanted_by(meaning: Meaning, before: &Flow) -> Option<&DartType>
+    ensures { option_copied result ≡ row.wanted_by meaning before.now }
+{
+    match meaning {
+        Meaning::Local(var) => before.declared(var),
+        Meaning::Nothing => None,
+        Meaning::Print => None,
+        Meaning::Class(_) => None,
+        Meaning::Other => None,
+    }
+}
+
+// An assignment, which stands at the place, writes the local that the name means.
+pub(super) fn assign(
+    context: Context,
+    at: Place,
+    meaning: Meaning,
+    target: Place,
+    value: &Typed,
+    faults: &mut Vec<Fault>,
+) -> Result<Typed, AllocError>
+    ensures { IfOk result (λ typed. RowEvaluates faults.old.items faults.new.items typed at (row.assigned_row context.entry.rows.now.table meaning target value.now.at (typed_of value.now))) }
+{
+    match meaning {
+        Meaning::Local(var) => write(context, at, target, var, value, faults),
+        Meaning::Nothing => {
+            report(target.span, DiagnosticCode::UndefinedName, faults)?;
+            unwritten(at, value)
+        }
+        Meaning::Print => unwritten(at, value),
+        Meaning::Class(_) => unwritten(at, value),
+        Meaning::Other => unwritten(at, value),
+    }
+}
+
+// An assignment that writes nothing.
+fn unwritten(at: Place, value: &Typed) -> Result<Typed, AllocError>
+    ensures { IfOk result (λ typed. Has typed at (record (typed_of value.now) { ty = invalid; when_true = value.now.after.value; when_false = value.now.after.value })) }
+{
+    of_type(at, invalid_type(), value.after.clone()?)
+}
+
+// A local is written, if it is declared before.
+fn write(
+    context: Context,
+    at: Place,
+    target: Place,
+    var: LocalId,
+    value: &Typed,
+    faults: &mut Vec<Fault>,
+) -> Result<Typed, AllocError>
+    ensures { IfOk result (λ typed. RowEvaluates faults.old.items faults.new.items typed at (row.write_row context.entry.rows.now.table target value.now.at var (facts_of value.now.after.value var) (typed_of value.now))) }
+{
+    match value.after.declared(var) {
+        Some(declared) => {
+            check_fit(
+                context.rows,
+                DiagnosticCode::InvalidAssignment,
+                value,
+                declared,
+                faults,
+            )?;
+            let ty = assigned_type(context, &value.ty, declared)?;
+            let mut written = value.after.copy(context.alloc)?;
+            written.assign(context.alloc, context.rows, var, &value.ty)?;
+            let after = shared(context.alloc, &value.after, written)?;
+            of_type(at, ty, after)
+        }
+        None => {
+            report(
+                target.span,
+                DiagnosticCode::ReferencedBeforeDeclaration,
+                faults,
+            )?;
+            unwritten(at, value)
+        }
+    }
+}
+
+// The type of an assignment: that of the value, where it fits.
+fn assigned_type(
+    context: Context,
+    value: &DartType,
+    declared: &DartType,
+) -> Result<DartType, AllocError>
+    ensures { IfOk result (λ ty. ty ≡ (if sub context.entry.rows.now.table value.now declared.now then value.now else invalid)) }
+{
+    if is_subtype(context.rows, value, declared) {
+        return value.copy(context.alloc);
+    }
+    Ok(invalid_type())
+}
+
+// A variable without initializer: the local comes into scope, unless it is there already.
+pub(super) fn declare(
+    context: Context,
+    names: &NamesInScope,
+    name: Name,
+    ty: &DartType,
+    before: &Rc<Flow>,
+    faults: &mut Vec<Fault>,
+) -> Result<Rc<Flow>, AllocError>
+    ensures { IfOk result (λ after. RowGives faults.old.items faults.new.items after.value (statement.declare_row (around context.entry.rows.now.table context.entry.words.now context.entry.outside.now names.now) name ty.now before.now.value)) }
+{
+    match names.local(name.word) {
+        Some(var) => {
+            if before.is_in_scope(var) {
+                report(name.at.span, DiagnosticCode::DuplicateDefinition, faults)?;
+                return before.clone();
+            }
+            let mut declared = before.copy(context.alloc)?;
+            let local = local(context, var, ty, false)?;
+            declared.declare(context.alloc, &local)?;
+            Ok(Rc::new(context.alloc, declared)?)
+        }
+        None => before.clone(),
+    }
+}
+
+// What follows an initializer, once that is judged: it must have the declared type, and the local
+// comes into scope with its value, unless it is there already.
+pub(super) fn initialize(
+    context: Context,
+    names: &NamesInScope,
+    name: Name,
+    ty: &DartType,
+    value: &Typed,
+    faults: &mut Vec<Fault>,
+) -> Result<Rc<Flow>, AllocError>
+    ensures { IfOk result (λ after. RowGives faults.old.items faults.new.items after.value (statement.initialized_row (around context.entry.rows.now.table context.entry.words.now context.entry.outside.now names.now) name ty.now value.now.at value.now.ty value.now.after.value)) }
+{
+    match names.local(name.word) {
+        Some(var) => {
+            check_fit(
+                context.rows,
+                DiagnosticCode::InvalidAssignment,
+                value,
+                ty,
+                faults,
+            )?;
+            if value.after.is_in_scope(var) {
+                report(name.at.span, DiagnosticCode::DuplicateDefinition, faults)?;
+                return value.after.clone();
+            }
+            let mut declared = value.after.copy(context.alloc)?;
+            let local = local(context, var, ty, true)?;
+            declare_with_value(context, &local, &value.ty, &mut declared)?;
+            Ok(Rc::new(context.alloc, declared)?)
+        }
+        None => value.after.clone(),
+    }
+}
+
+// A local comes into scope and is written with a value of the type.
+fn declare_with_value(
+    context: Context,
+    local: &LocalDecl,
+    written: &DartType,
+    flow: &mut Flow,
+) -> Result<(), AllocError>
+    requires { IsNone (facts_of flow.old local.now.var) }
+    ensures { OnOk result (flow.new ≡ at_local (declare_of flow.old local.now) local.now.var (assign_facts context.entry.rows.now.table written.now)) }
+{
+    flow.declare(context.alloc, local)?;
+    flow.assign(context.alloc, context.rows, local.var, written)
+}
+
+// A local as it comes into scope: one that admits null and has no initializer starts as null.
+fn local(
+    context: Context,
+    var: LocalId,
+    ty: &DartType,
+    initialized: bool,
+) -> Result<LocalDecl, AllocError>
+    ensures { IfOk result (λ local. local ≡ statement.declared_local context.entry.rows.now.table ty.now var initialized) }
+{
+    let null = is_subtype(context.rows, context.core.null(), ty) && !initialized;
+    Ok(LocalDecl {
+        var,
+        ty: ty.copy(context.alloc)?,
+        assigned: null,
+        unassigned: !null,
+    })
+}
