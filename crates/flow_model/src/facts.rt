@@ -53,7 +53,7 @@ impl Facts {
     }
 
     /// The current type: the last that the local was promoted to, else the declared one.
-    pub(crate) fn current(&self) -> &DartType
+    pub fn current(&self) -> &DartType
         ensures { result.now ≡ current_of self.now }
     {
         last_or(&self.ty, self.chain.as_slice())

@@ -32,5 +32,6 @@ pub use laws::{
     steps_keep_the_order, steps_keep_the_scope, steps_say_more_or_less, tests_keep_the_order,
     tests_narrow, tests_tell, writes_keep_the_order, writes_tell,
 };
+pub use local::Local;
 pub use locals::{Facts, LocalDecl, LocalId};
 pub use model::Flow;

@@ -18,7 +18,7 @@ use std::rc::Rc;
 /// What is known of one local, shared by the models in which it is the same. Contracts see it as
 /// the facts.
 #[derive(Drop)]
-pub(crate) struct Local {
+pub struct Local {
     facts: Rc<Facts>,
 }
 
@@ -54,7 +54,7 @@ impl Local {
     }
 
     /// What is known of the local.
-    pub(crate) fn facts(&self) -> &Facts
+    pub fn facts(&self) -> &Facts
         ensures { result.now ≡ self.now }
     {
         &self.facts

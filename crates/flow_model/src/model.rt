@@ -87,6 +87,13 @@ impl Flow {
         }
     }
 
+    /// What is known of each local in scope, in the order of their numbers.
+    pub fn locals(&self) -> &[Local]
+        ensures { result.now ≡ self.now.locals }
+    {
+        self.locals.as_slice()
+    }
+
     /// A law of every model: its locals stand in the order of their numbers.
     pub fn locals_are_in_order(&self)
         ensures { IsInOrder self.now.locals }

@@ -1,4 +1,4 @@
-//! Models that meet, the end of scopes, and types that are too large.
+//! Models that meet, locals that come into scope, are written and leave it, and types that are too large.
 
 use crate::sample::{letter, local, of, or_null, rows};
 use dart_types::{CORE, ClassId, DartType, NODE_LIMIT, Rows, TypeList, TypeNode};
@@ -95,7 +95,49 @@ fn models_meet_as_the_rules_say(rt: HostRuntime) -> Result<(), Fail> {
     other.exit();
     assert!(rt; !other.reachable());
     assert!(rt; Flow::join(alloc, &other, &one)?.is_same(&one));
+    assert!(rt; Flow::join(alloc, &one, &other)?.is_same(&one));
     assert!(rt; Flow::join(alloc, &one, &one)?.is_same(&one.copy(alloc)?));
+    let before = both(alloc)?;
+    let met = Flow::join(alloc, &before, &one)?;
+    assert!(rt; has(alloc, &met, X, b'i', true)? && has(alloc, &met, Y, b'o', true)?);
+    Ok(())
+}
+
+// A local that has no value yet, beside another that has one.
+#[test]
+fn a_local_has_a_value_where_it_is_written(rt: HostRuntime) -> Result<(), Fail> {
+    let alloc = rt.alloc();
+    let rows = rows(alloc)?;
+    let int = type_of(alloc, b'i')?;
+    let mut empty = local(1, or_null(alloc, int.copy(alloc)?)?);
+    empty.assigned = false;
+    empty.unassigned = true;
+    let mut flow = Flow::start(alloc, &[empty])?;
+    assert!(rt; flow.reachable() && flow.is_in_scope(X) && !flow.is_in_scope(Y));
+    assert!(rt; flow.is_unassigned(X) && !flow.is_assigned(X));
+    flow.assign(alloc, &rows, X, &int)?;
+    assert!(rt; flow.is_assigned(X) && !flow.is_unassigned(X));
+    declare(alloc, &mut flow, &local(2, type_of(alloc, b's')?))?;
+    let mut after = flow.copy(alloc)?;
+    assert!(rt; after.is_same(&flow) && after.is_in_scope(X));
+    after.assign(alloc, &rows, X, &type_of(alloc, b'N')?)?;
+    assert!(rt; !after.is_same(&flow));
+    assert!(rt; has(alloc, &after, X, b'i', true)? && has(alloc, &flow, X, b'i', false)?);
+    after.end(&[Y, LocalId(9), X]);
+    assert!(rt; !after.is_in_scope(X) && !after.is_in_scope(Y));
+    Ok(())
+}
+
+// Code that may run any number of times writes the one local, and captures the other.
+#[test]
+fn code_that_may_run_forgets_what_it_changes(rt: HostRuntime) -> Result<(), Fail> {
+    let alloc = rt.alloc();
+    let rows = rows(alloc)?;
+    let mut around = tested(alloc, &rows, b'n')?;
+    around.conservative_join(alloc, &[X], &[Y])?;
+    assert!(rt; has(alloc, &around, X, b'i', true)? && has(alloc, &around, Y, b'o', true)?);
+    assert!(rt; around.is_captured(Y) && !around.is_captured(X));
+    assert!(rt; around.is_assigned(Y) && !around.is_unassigned(Y));
     Ok(())
 }
 

@@ -10,7 +10,7 @@ use std::test::Fail;
 type Pair = (&'static str, &'static str, bool);
 
 /// Top types, bottom types, `Null` and `?`.
-const TOPS_AND_BOTTOMS: [Pair; 37] = [
+const TOPS_AND_BOTTOMS: [Pair; 42] = [
     ("o?", "o?", true),
     ("i", "o?", true),
     ("V", "o?", true),
@@ -48,6 +48,11 @@ const TOPS_AND_BOTTOMS: [Pair; 37] = [
     ("!", "o", false),
     ("!", "i", false),
     ("i", "!", false),
+    ("E", "!", true),
+    ("!", "E", false),
+    ("N", "!", false),
+    ("i?", "!", false),
+    ("!", "i?", false),
 ];
 
 /// Classes and their arguments.
