@@ -8,11 +8,11 @@ ghost use Rattle.protocol_rules.specs.State.{at_start};
 
 use check_library::check;
 use dart_text::Text;
+use dart_tree::Span;
 use judgement::{DiagnosticCode, Fault};
 use load_files::Packages;
 use protocol_rules::{Contents, CurrentFile};
 use request_core::{Checker, Faults};
-use small_tree::Span;
 use std::alloc::{AllocError, Global};
 use work_counts::{Work, WorkKind};
 

@@ -1,4 +1,3 @@
-pub mod LiteralLemmas
 pub mod Alone
-pub mod Sorting
-pub mod Listing
+pub mod Blocks
+pub mod Sizes

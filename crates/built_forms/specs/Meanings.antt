@@ -1,12 +1,13 @@
 -- What words mean in a library where no local has that name.
 use Rattle.std.specs.Prelude.{ℕ, List, [], ◌∷◌, map, codes, bytes_eq, slice_set, slice_index_or, if◌then◌else◌}
-use Rattle.built_forms.specs.declared.meaning.Meaning.{Meaning}
-use Rattle.built_forms.specs.declared.meaning.Meaning.TheVariants.{Nothing, Print, Int, Bool, Other}
+use Rattle.dart_types.specs.declared.ids.TheConstants.{BOOL, INT}
+use Rattle.judgement.specs.declared.meaning.Meaning.{Meaning}
+use Rattle.judgement.specs.declared.meaning.Meaning.TheVariants.{Nothing, Print, Class, Other}
 
 -- the names that dart:core declares, and those that it leaves out
 abbrev pub core_names : List (List ℕ × Meaning)
 core_names =
-    (codes "print", Print) ∷ (codes "int", Int) ∷ (codes "bool", Bool) ∷ (codes "identical", Other) ∷ (codes "Object", Other) ∷ (codes "Null", Other) ∷
+    (codes "print", Print) ∷ (codes "int", Class INT) ∷ (codes "bool", Class BOOL) ∷ (codes "identical", Other) ∷ (codes "Object", Other) ∷ (codes "Null", Other) ∷
     (codes "Function", Other) ∷ (codes "StackTrace", Other) ∷ (codes "String", Other) ∷ (codes "Iterator", Other) ∷ (codes "Iterable", Other) ∷
     (codes "List", Other) ∷ (codes "Map", Other) ∷ (codes "Error", Other) ∷ (codes "TypeError", Other) ∷ (codes "StackOverflowError", Other) ∷
     (codes "ArgumentError", Other) ∷ (codes "RangeError", Other) ∷ (codes "StateError", Other) ∷ (codes "Exception", Other) ∷

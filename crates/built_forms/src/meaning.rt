@@ -3,23 +3,10 @@
 ghost use Rattle.std.specs.Prelude.{◌≡◌, map, IfOk};
 ghost use Rattle.built_forms.specs.Meanings.{core_names, meaning_beside, core_meaning, hidden_by, meanings_of, meaning_at};
 
+use dart_types::{BOOL, INT};
+use judgement::Meaning;
 use plain_text::PlainText;
 use std::alloc::{AllocError, Global};
-
-/// What a word means in a library where no local has that name.
-#[derive(Clone, Copy, Debug, PartialEq, Eq)]
-pub enum Meaning {
-    /// Nothing.
-    Nothing,
-    /// The function `print` of dart:core.
-    Print,
-    /// The class `int` of dart:core.
-    Int,
-    /// The class `bool` of dart:core.
-    Bool,
-    /// A declaration of the library, or any other name of dart:core.
-    Other,
-}
 
 /// A name of dart:core, and what it means.
 type Row = (&'static [u8], Meaning);
@@ -27,8 +14,8 @@ type Row = (&'static [u8], Meaning);
 /// The names that dart:core declares, and those that it leaves out.
 const CORE_NAMES: [Row; 27] = [
     (b"print", Meaning::Print),
-    (b"int", Meaning::Int),
-    (b"bool", Meaning::Bool),
+    (b"int", Meaning::Class(INT)),
+    (b"bool", Meaning::Class(BOOL)),
     (b"identical", Meaning::Other),
     (b"Object", Meaning::Other),
     (b"Null", Meaning::Other),
@@ -87,7 +74,7 @@ fn core_meanings(alloc: Global, words: &[PlainText]) -> Result<Vec<Meaning>, All
 
 /// What each of the words of a text means in its library, which declares some of them: its own names
 /// hide those of dart:core. The error is want of memory.
-pub fn meanings_of(
+pub(crate) fn meanings_of(
     alloc: Global,
     words: &[PlainText],
     declared: &[u32],
@@ -104,7 +91,7 @@ pub fn meanings_of(
 }
 
 /// What the word at a place means.
-pub fn meaning_at(meanings: &[Meaning], word: u32) -> Meaning
+pub(crate) fn meaning_at(meanings: &[Meaning], word: u32) -> Meaning
     ensures { result ≡ meaning_at meanings.now word }
 {
     match meanings.get(word as usize) {

@@ -1,4 +1,4 @@
 pub mod SortedKeys
 pub mod Reports
 pub mod TokenCounts
-pub mod NumberedUnits
+pub mod Parts

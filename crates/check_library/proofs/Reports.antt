@@ -1,16 +1,16 @@
 -- Diagnostics put at their places, one after another.
-use Rattle.std.proofs.Common.{◌≡◌, ℕ, true, List, [], ◌∷◌, ◌++◌, map, Option, None, Some, is_some, IfSome, refl, ap, subst, ◌∙◌, Contains, AllPairs, inl, inr}
+use Rattle.std.proofs.Common.{◌≡◌, List, [], ◌∷◌, ◌++◌, refl, ap, subst, ◌∙◌, Contains, AllPairs, inl, inr}
 use Rattle.std.proofs.lemmas.Map.Keys.{Less-from_sorted}
 use Rattle.std.specs.List.Sorted.{IsStrictlySortedBy}
-use Rattle.std.specs.Ordering.{ordering_then, is_eq, match_ordering, nat_cmp}
+use Rattle.std.specs.Ordering.{ordering_then, is_eq, nat_cmp}
 use Rattle.std.specs.declared.cmp.Ordering.{Ordering}
 use Rattle.std.specs.declared.cmp.Ordering.TheVariants.{Less, Equal, Greater}
 use Rattle.std.specs.BTreeSet.{insert_key}
 use Rattle.std.specs.FinMap.{IsAntisymmetric, nat_cmp-IsAntisymmetric}
-use Rattle.judgement.specs.declared.Fault.{Fault}
-use Rattle.judgement.specs.contracts.DiagnosticCode.{the_type}
-use Rattle.judgement.specs.contracts.DiagnosticCodeOrd.TheImpl.Laws as codes
-use Rattle.judgement.specs.contracts.FaultOrd.TheImpl.Laws as laws
+use Rattle.judgement.specs.declared.fault.Fault.{Fault}
+use Rattle.judgement.specs.contracts.code.DiagnosticCode.{the_type}
+use Rattle.judgement.specs.contracts.code.DiagnosticCodeOrd.TheImpl.Laws as codes
+use Rattle.judgement.specs.contracts.fault.FaultOrd.TheImpl.Laws as laws
 use denote.Enum.Bare.{same_true}
 use Rattle.check_library.specs.Order.{span_cmp, code_cmp, fault_cmp, IsBefore, sorted_faults}
 use Rattle.check_library.proofs.SortedKeys.{sorted-insert_key, contains-into_insert_key, contains-from_insert_key, contains_later, contains_first, contains_cases}

@@ -1,8 +1,9 @@
 -- The diagnostics of a text: those of its lexemes, its groups and its tree, from nothing but the text.
-use Rattle.std.specs.Prelude.{ℕ, Bool, true, false, ◌&&◌, List, [], ◌∷◌, ◌++◌, map, slice_get, if◌then◌else◌}
+use Rattle.std.specs.Prelude.{ℕ, Bool, ◌&&◌, List, [], ◌∷◌, ◌++◌, map, slice_get, if◌then◌else◌}
 use Rattle.std.specs.List.{list_any}
 use Rattle.std.specs.Option.{option_map_or}
-use Rattle.small_tree.specs.declared.places.Span.{Span}
+use Rattle.dart_tree.specs.declared.places.Span.{Span}
+use Rattle.dart_tree.specs.Tree.{Tree}
 use Rattle.dart_tokens.specs.declared.token.Token.{Token as TextToken}
 use Rattle.dart_tokens.specs.declared.scanned.LexFault.{LexFault}
 use Rattle.dart_tokens.specs.declared.scanned.LexFaultKind.{LexFaultKind}
@@ -12,23 +13,18 @@ use Rattle.dart_tokens.specs.declared.groups.GroupFaultKind.{GroupFaultKind}
 use Rattle.dart_tokens.specs.declared.groups.GroupFaultKind.TheVariants as group
 use Rattle.dart_tokens.specs.Groups.{faults_of as faults_of_groups}
 use Rattle.dart_scan.specs.Scanned.{tokens_of, words_of, faults_of as faults_of_pieces}
-use Rattle.judgement.specs.declared.Fault.{Fault}
-use Rattle.judgement.specs.declared.DiagnosticCode.{DiagnosticCode}
-use Rattle.judgement.specs.declared.DiagnosticCode.TheVariants as code
-use Rattle.judgement.specs.contracts.DiagnosticCode as codes
+use Rattle.judgement.specs.declared.fault.Fault.{Fault}
+use Rattle.judgement.specs.declared.code.DiagnosticCode.{DiagnosticCode}
+use Rattle.judgement.specs.declared.code.DiagnosticCode.TheVariants as code
+use Rattle.judgement.specs.contracts.code.DiagnosticCode as codes
 use denote.Enum.Bare.{sameb}
-use Rattle.small_flow.specs.Sub.{no_rows}
-use Rattle.small_tree.specs.Tree.{Tree, unit}
-use Rattle.small_tree.specs.Places.{span_of}
-use Rattle.judgement.specs.Judgement.{faults_of}
 use Rattle.grammar.specs.Tokens.{grammar_tokens}
 use Rattle.segment_faults.specs.declared.fault.SegmentFault.{SegmentFault}
 use Rattle.segment_faults.specs.declared.fault.SegmentFault.TheVariants as segment
 use Rattle.dart_parse.specs.declared.faults.TreeFault.{TreeFault}
 use Rattle.dart_parse.specs.Faults.{tree_faults}
-use Rattle.built_forms.specs.Places.{span as span_over}
 use Rattle.built_forms.specs.Units.{unbuilt, has_other_names}
-use Rattle.check_library.specs.Units.{unit_of_text, tree_of}
+use Rattle.check_library.specs.Units.{unit_of_text, main_of, judged_body}
 use Rattle.check_library.specs.Order.{sorted_faults}
 
 -- what is said of a lexeme, or of what stands between lexemes
@@ -87,7 +83,7 @@ code_of_segment segment.Syntax = code.SyntaxError
 
 -- it stands over the segment
 abbrev pub fault_of_segment : TreeFault → Fault
-fault_of_segment found = record { span = span_over found.span; code = code_of_segment found.fault }
+fault_of_segment found = record { span = found.span; code = code_of_segment found.fault }
 
 -- what is wrong with the segments of a text that derive nothing
 abbrev pub segment_faults : List ℕ → List Fault
@@ -101,23 +97,18 @@ not_built span = record { span = span; code = code.NotBuilt }
 abbrev pub is_undefined_code : DiagnosticCode → Bool
 is_undefined_code c = sameb codes.the_type c code.UndefinedName
 
--- where the function of a unit stands
-abbrev pub function_span : Tree → Span
-function_span (unit at main) = span_of main
-function_span _ = record { start = 0; end = 0 }
+-- what is wrong with a function that stands there, in which these are the faults: where directives may bring names, one that means nothing else may be one of these, so that the function isn't judged
+abbrev pub settled : (other_names : Bool) → Span → List Fault → List Fault
+settled other_names span faults = if other_names && list_any (λ fault. is_undefined_code fault.code) faults then not_built span ∷ [] else faults
 
--- what is wrong with the function of a unit, in which these are the faults: where directives may bring names, one that means nothing else may be one of these, so that the function isn't judged
-abbrev pub settled : (other_names : Bool) → Tree → List Fault → List Fault
-settled other_names tree faults = if other_names && list_any (λ fault. is_undefined_code fault.code) faults then not_built (function_span tree) ∷ [] else faults
-
--- what is wrong with the unit of the forms that are checked
-abbrev pub judged_faults : (other_names : Bool) → Tree → List Fault
-judged_faults other_names tree = settled other_names tree (faults_of no_rows tree)
+-- what is wrong with the function `main` of a text, of which this is where it stands and its body
+abbrev pub judged_faults : (text : List ℕ) → (main : Span × Tree) → List Fault
+judged_faults text main = settled (has_other_names (unit_of_text text)) main.0 (judged_body text main.1).faults
 
 -- what is wrong with the directives and declarations of a text: those that aren't built, and what the judgement says of the others
 abbrev pub declared_faults : List ℕ → List Fault
 declared_faults text =
-    map not_built (unbuilt (words_of text) (unit_of_text text)) ++ option_map_or (judged_faults (has_other_names (unit_of_text text))) (tree_of text) []
+    map not_built (unbuilt (words_of text) (unit_of_text text)) ++ option_map_or (judged_faults text) (main_of text) []
 
 -- what is wrong with a text, in any order
 abbrev pub faults_in : List ℕ → List Fault

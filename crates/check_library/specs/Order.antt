@@ -4,10 +4,10 @@ use Rattle.std.specs.Ordering.{nat_cmp, ordering_then}
 use Rattle.std.specs.declared.cmp.Ordering.{Ordering}
 use Rattle.std.specs.declared.cmp.Ordering.TheVariants.{Less}
 use Rattle.std.specs.BTreeSet.{insert_key}
-use Rattle.small_tree.specs.declared.places.Span.{Span}
-use Rattle.judgement.specs.declared.DiagnosticCode.{DiagnosticCode}
-use Rattle.judgement.specs.declared.Fault.{Fault}
-use Rattle.judgement.specs.contracts.DiagnosticCodeOrd.TheImpl as code
+use Rattle.dart_tree.specs.declared.places.Span.{Span}
+use Rattle.judgement.specs.declared.code.DiagnosticCode.{DiagnosticCode}
+use Rattle.judgement.specs.declared.fault.Fault.{Fault}
+use Rattle.judgement.specs.contracts.code.DiagnosticCodeOrd.TheImpl as code
 
 -- how long a span is
 abbrev pub span_length : Span → ℕ

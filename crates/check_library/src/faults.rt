@@ -5,9 +5,9 @@ ghost use Rattle.check_library.specs.Diagnostics.{code_of_piece, fault_of_piece,
 
 use dart_parse::TreeFault;
 use dart_tokens::{GroupFault, GroupFaultKind, LexFault, LexFaultKind, Token};
+use dart_tree::Span;
 use judgement::{DiagnosticCode, Fault};
 use segment_faults::SegmentFault;
-use small_tree::Span;
 use std::alloc::AllocError;
 
 fn code_of_piece(kind: LexFaultKind) -> DiagnosticCode
@@ -98,10 +98,7 @@ fn fault_of_segment(found: TreeFault) -> Fault
     ensures { result ≡ fault_of_segment found }
 {
     Fault {
-        span: Span {
-            start: found.span.start,
-            end: found.span.end,
-        },
+        span: found.span,
         code: code_of_segment(found.fault),
     }
 }

@@ -1,11 +1,12 @@
 //! The check of a library: from the text of a file to its diagnostics, and to what of it may be run.
 //!
-//! `check` gives exactly what `specs/Checked.antt` says. From the unit of the text comes what of it is
-//! of the forms that are built (`specs/Units.antt`), what the judgement says of each node of that, and
-//! `diagnostics text` of `specs/Diagnostics.antt`: what is wrong with the lexemes of the text, its
-//! groups, its segments and its functions, and which declarations aren't checked yet, in order
-//! (`specs/Order.antt`). The crate stands on the parser of the whole language, on the forms that are
-//! built, and on the judge.
+//! `check` gives exactly what `specs/Checked.antt` says. Its function `main`, if that is of the forms
+//! that are built, is judged by the rules where it stands in the unit of the text (`specs/Units.antt`):
+//! what they say of each of its nodes is kept, and the unit with it. `diagnostics text` of
+//! `specs/Diagnostics.antt` says what is wrong with the lexemes of the text, its groups, its segments
+//! and that function, and which declarations aren't checked yet, in order (`specs/Order.antt`).
+//! `Checked::main` gives the body of the function again. The crate stands on the parser of the whole
+//! language, on the forms that are built, and on the judge.
 #![tactic(auto)]
 
 mod faults;

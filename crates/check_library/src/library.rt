@@ -1,35 +1,32 @@
 //! The check of a library.
 
-ghost use Rattle.std.specs.Prelude.{◌≡◌, ◌*◌, ◌+◌, ◌<◌, ◌≤◌, ◌^◌, ◌++◌, [], false, length, map, option_map, IfOk, IfSome, OnOk};
+ghost use Rattle.std.specs.Prelude.{◌≡◌, ◌+◌, ◌*◌, ◌≤◌, ◌++◌, [], Some, false, length, map, option_map, IfOk, OnOk};
 ghost use Rattle.std.specs.List.{list_any};
-ghost use Rattle.std.specs.Option.{option_map_or};
+ghost use Rattle.std.specs.Option.{option_copied, option_map_or};
 ghost use Rattle.dart_tokens.specs.Groups.{faults_of as faults_of_groups};
 ghost use Rattle.dart_scan.specs.Scanned.{tokens_of, words_of, faults_of as faults_of_pieces};
 ghost use Rattle.dart_text.specs.Edits.{max_text};
 ghost use Rattle.grammar.specs.Tokens.{grammar_tokens};
 ghost use Rattle.grammar.specs.Whole.{unit_of};
-ghost use Rattle.dart_tree.specs.Numbers.{nodes_in as nodes_of};
-ghost use Rattle.small_tree.specs.Numbers.{nodes_in, numbered};
-ghost use Rattle.small_flow.specs.Sub.{no_rows};
-ghost use Rattle.judgement.specs.Judgement.{faults_of};
-ghost use Rattle.judgement.specs.Typed.{typed_unit};
-ghost use Rattle.built_forms.specs.Units.{unbuilt, has_other_names};
-ghost use Rattle.check_library.specs.Checked.{IsCheckOf};
-ghost use Rattle.check_library.specs.Diagnostics.{lexical_faults, segment_faults, is_undefined_code, not_built, settled, judged_faults, diagnostics};
-ghost use Rattle.check_library.specs.Units.{unit_of_text, tree_of};
+ghost use Rattle.dart_tree.specs.Numbers.{nodes_in};
+ghost use Rattle.built_forms.specs.Laws.{IsBuiltBlock};
+ghost use Rattle.built_forms.specs.Units.{built_main, has_main, has_other_names, meanings_in, unbuilt};
+ghost use Rattle.check_library.specs.Checked.{IsCheckOf, main_of_checked};
+ghost use Rattle.check_library.specs.Diagnostics.{lexical_faults, segment_faults, is_undefined_code, settled, diagnostics};
+ghost use Rattle.check_library.specs.Units.{unit_of_text, judged_by};
 
 use crate::faults::{add_groups, add_lexical, add_not_built, add_segments};
 use crate::order::sorted;
-use built_forms::forms_of;
+use built_forms::{Forms, built_bodies_are_blocks, built_main, forms_of};
 use dart_parse::{parse_unit, tree_faults};
 use dart_scan::tokens_rise;
 use dart_text::Text;
-use dart_tree::numbering_laws;
-use judgement::{DiagnosticCode, Fault, TypedNode};
+use dart_tree::{Body, BodyNode, Span, Unit, numbering_laws};
+use dart_types::Rows;
+use judgement::{DiagnosticCode, Fault, Meaning, TypedNode};
 use node_counts::nodes_of_texts_are_bounded;
 use plain_text::PlainText;
-use resolve::judge_unit;
-use small_tree::{Span, Unit, number_unit};
+use resolve::{Found, judge_body};
 use std::alloc::{AllocError, Global};
 use std::marker::Model;
 use work_counts::Work;
@@ -42,7 +39,7 @@ pub struct Diagnostics {
 
 impl Model for Diagnostics {
     ghost use Rattle.std.specs.Prelude.{List};
-    ghost use Rattle.judgement.specs.declared.Fault.{Fault};
+    ghost use Rattle.judgement.specs.declared.fault.Fault.{Fault};
 
     ghost Value = { List Fault };
 
@@ -63,12 +60,29 @@ impl Diagnostics {
 pub struct Checked {
     /// The path of its file.
     pub path: PlainText,
-    /// What of it is judged: its function `main`, if that is of forms that are built.
-    pub unit: Option<Unit>,
-    /// Its typed tree: what is said of each node of its function's body.
+    /// Its unit: the tree of its text, whose nodes are numbered in reading order, and its words.
+    pub unit: Unit,
+    /// What its words mean, and what of it is of forms that are built.
+    pub forms: Forms,
+    /// The classes that it was judged with.
+    pub rows: Rows,
+    /// Its typed tree: what is said of each node of the body of its function `main`.
     pub typed: Vec<TypedNode>,
     /// What is wrong with its text.
     pub diagnostics: Diagnostics,
+}
+
+impl Checked {
+    /// The body of its function `main`, if that is of forms that are built.
+    pub fn main(&self) -> Option<&Body>
+        ensures { option_copied result ≡ option_map (λ main. main.1) (main_of_checked self.now) }
+    {
+        let one = self.forms.has_main;
+        let outside = self.forms.outside.as_slice();
+        let words = self.unit.words.as_slice();
+        let (_, body) = built_main(outside, words, one, &self.unit.tree)?;
+        Some(body)
+    }
 }
 
 /// A text has no more tokens than bytes.
@@ -80,7 +94,7 @@ fn few_tokens(text: &Text)
 
 /// The tree of a text has at most sixteen nodes for each token, and one for the whole.
 fn few_nodes(text: &Text)
-    ensures { nodes_of (unit_of false (grammar_tokens (tokens_of text.now))) ≤ 16 * length (tokens_of text.now) + 1 }
+    ensures { nodes_in (unit_of false (grammar_tokens (tokens_of text.now))) ≤ 16 * length (tokens_of text.now) + 1 }
 {
     tokens_rise(text.as_str().as_bytes());
     nodes_of_texts_are_bounded();
@@ -88,7 +102,7 @@ fn few_nodes(text: &Text)
 
 /// So has the tree whose nodes are numbered.
 fn few_numbers(text: &Text)
-    ensures { nodes_of (unit_of_text text.now) ≤ 16 * length (tokens_of text.now) + 1 }
+    ensures { nodes_in (unit_of_text text.now) ≤ 16 * length (tokens_of text.now) + 1 }
 {
     few_nodes(text);
     numbering_laws();
@@ -96,7 +110,7 @@ fn few_numbers(text: &Text)
 
 /// The unit of a text, with few enough nodes for their numbers.
 #[tactic(auto, unfolding(crate::specs::Units::unit_of_text))]
-fn parsed(alloc: Global, text: &Text) -> Result<dart_tree::Unit, AllocError>
+fn parsed(alloc: Global, text: &Text) -> Result<Unit, AllocError>
     ensures tree { IfOk result (λ unit. unit.tree ≡ unit_of_text text.now) }
     ensures tokens { IfOk result (λ unit. unit.tokens ≡ tokens_of text.now) }
     ensures words { IfOk result (λ unit. unit.words ≡ words_of text.now) }
@@ -105,16 +119,6 @@ fn parsed(alloc: Global, text: &Text) -> Result<dart_tree::Unit, AllocError>
 {
     let mut work = Work::new();
     parse_unit(alloc, text, false, &mut work)
-}
-
-/// What of a text is judged, its nodes numbered in reading order.
-fn numbered(unit: Option<Unit>) -> Option<Unit>
-    requires { IfSome unit (λ u. nodes_in u < 2 ^ 32) }
-    ensures { result ≡ option_map (numbered 0) unit }
-{
-    let mut unit = unit?;
-    number_unit(&mut unit);
-    Some(unit)
 }
 
 /// Whether one of these says that a name means nothing.
@@ -136,59 +140,69 @@ fn is_undefined(code: DiagnosticCode) -> bool
     code == DiagnosticCode::UndefinedName
 }
 
-/// Adds what is wrong with the function of a unit, in which these are the faults.
+/// Adds what is wrong with a function that stands there, in which these are the faults.
 fn add_settled(
     other_names: bool,
-    unit: &Unit,
+    span: Span,
     found: &[Fault],
     faults: &mut Vec<Fault>,
 ) -> Result<(), AllocError>
-    ensures { OnOk result (faults.new.items ≡ faults.old.items ++ settled other_names unit.now found.now) }
+    ensures { OnOk result (faults.new.items ≡ faults.old.items ++ settled other_names span found.now) }
 {
     if other_names && has_undefined_name(found) {
-        return add_not_built(&[unit.main.at.span], faults);
+        return add_not_built(&[span], faults);
     }
     faults.extend_from_slice(found)?;
     Ok(())
 }
 
-/// Judges what of a text is built: adds what is wrong with it, and answers what is said of its nodes.
+/// Judges a body that is built: it is a block.
+fn judged_body(
+    alloc: Global,
+    rows: &Rows,
+    words: &[PlainText],
+    outside: &[Meaning],
+    body: &Body,
+) -> Result<Found, AllocError>
+    requires { IsBuiltBlock outside.now body.now }
+    ensures faults { IfOk result (λ found. found.faults.items ≡ (judged_by rows.now.table words.now outside.now body.now).faults) }
+    ensures nodes { IfOk result (λ found. found.nodes.items ≡ (judged_by rows.now.table words.now outside.now body.now).nodes) }
+{
+    let BodyNode::Block { at, statements } = &body.node else {
+        unreachable!()
+    };
+    judge_body(alloc, rows, words, outside, *at, statements)
+}
+
+/// Judges the function `main` of a unit, if that is built: adds what is wrong with it, and answers what
+/// is said of the nodes of its body.
 fn judged(
     alloc: Global,
-    other_names: bool,
-    unit: &Option<Unit>,
+    rows: &Rows,
+    unit: &Unit,
+    forms: &Forms,
     faults: &mut Vec<Fault>,
 ) -> Result<Vec<TypedNode>, AllocError>
-    ensures faults { OnOk result (faults.new.items ≡ faults.old.items ++ option_map_or (judged_faults other_names) unit.now []) }
-    ensures nodes { IfOk result (λ nodes. nodes.items ≡ option_map_or (typed_unit no_rows) unit.now []) }
+    requires outside { forms.now.outside.items ≡ meanings_in unit.now.words unit.now.tree }
+    requires one { forms.now.has_main ≡ has_main unit.now.words unit.now.tree }
+    ensures faults { OnOk result (faults.new.items ≡ faults.old.items ++ option_map_or (λ main. settled forms.now.has_other_names main.0 (judged_by rows.now.table unit.now.words forms.now.outside.items main.1).faults) (built_main unit.now.words unit.now.tree) []) }
+    ensures nodes { IfOk result (λ nodes. nodes.items ≡ option_map_or (λ main. (judged_by rows.now.table unit.now.words forms.now.outside.items main.1).nodes) (built_main unit.now.words unit.now.tree) []) }
 {
-    match unit {
-        Some(unit) => {
-            let judged = judge_unit(alloc, unit)?;
-            add_settled(other_names, unit, judged.faults.as_slice(), faults)?;
-            Ok(judged.nodes)
+    built_bodies_are_blocks();
+    let words = unit.words.as_slice();
+    let outside = forms.outside.as_slice();
+    match built_main(outside, words, forms.has_main, &unit.tree) {
+        Some((span, body)) => {
+            let found = judged_body(alloc, rows, words, outside, body)?;
+            add_settled(forms.has_other_names, span, found.faults.as_slice(), faults)?;
+            Ok(found.nodes)
         }
         None => Ok(Vec::new(alloc)),
     }
 }
 
-/// What of a text is judged, and what is wrong with the rest.
-#[derive(Drop)]
-struct TextParts {
-    /// What of it is judged.
-    unit: Option<Unit>,
-    /// Whether a directive may bring names that others declare.
-    other_names: bool,
-    /// What is wrong with its lexemes, its groups and its segments, and what of it isn't built.
-    faults: Vec<Fault>,
-}
-
 /// What is wrong with the lexemes, the groups and the segments of a text.
-fn tree_diagnostics(
-    alloc: Global,
-    text: &Text,
-    unit: &dart_tree::Unit,
-) -> Result<Vec<Fault>, AllocError>
+fn tree_diagnostics(alloc: Global, text: &Text, unit: &Unit) -> Result<Vec<Fault>, AllocError>
     requires tree { unit.now.tree ≡ unit_of_text text.now }
     requires tokens { unit.now.tokens ≡ tokens_of text.now }
     requires lexical { unit.now.lexical_faults ≡ faults_of_pieces text.now }
@@ -205,43 +219,27 @@ fn tree_diagnostics(
     Ok(faults)
 }
 
-/// What of a text is judged, and what is wrong with the rest: the unit itself is let go.
-fn parts(alloc: Global, text: &Text) -> Result<TextParts, AllocError>
-    ensures unit { IfOk result (λ parts. parts.unit ≡ tree_of text.now) }
-    ensures names { IfOk result (λ parts. parts.other_names ≡ has_other_names (unit_of_text text.now)) }
-    ensures faults { IfOk result (λ parts. parts.faults.items ≡ lexical_faults text.now ++ (segment_faults text.now ++ map not_built (unbuilt (words_of text.now) (unit_of_text text.now)))) }
-    ensures short { IfOk result (λ parts. length (tokens_of text.now) ≤ max_text) }
-    ensures few { IfOk result (λ parts. IfSome (tree_of text.now) (λ tree. nodes_in tree ≤ 16 * length (tokens_of text.now))) }
-{
-    few_tokens(text);
-    few_numbers(text);
-    let unit = parsed(alloc, text)?;
-    let forms = forms_of(alloc, &unit.words, &unit.tree)?;
-    let mut faults = tree_diagnostics(alloc, text, &unit)?;
-    add_not_built(forms.unbuilt.as_slice(), &mut faults)?;
-    Ok(TextParts {
-        unit: numbered(forms.unit),
-        other_names: forms.has_other_names,
-        faults,
-    })
-}
-
 /// Checks the library that the text of a file is.
-#[tactic(auto, unfolding(crate::specs::Diagnostics::diagnostics))]
 pub fn check(alloc: Global, path: &str, text: &Text) -> Result<Checked, AllocError>
     ensures path { IfOk result (λ checked. checked.path ≡ path.now) }
     ensures check { IfOk result (λ checked. IsCheckOf text.now checked) }
     ensures diagnostics { IfOk result (λ checked. checked.diagnostics ≡ diagnostics text.now) }
 {
-    let parts = parts(alloc, text)?;
-    let unit = parts.unit;
-    let mut faults = parts.faults;
-    let typed = judged(alloc, parts.other_names, &unit, &mut faults)?;
+    few_tokens(text);
+    few_numbers(text);
+    let unit = parsed(alloc, text)?;
+    let forms = forms_of(alloc, unit.words.as_slice(), &unit.tree)?;
+    let mut faults = tree_diagnostics(alloc, text, &unit)?;
+    add_not_built(forms.unbuilt.as_slice(), &mut faults)?;
+    let rows = Rows::none(alloc);
+    let typed = judged(alloc, &rows, &unit, &forms, &mut faults)?;
     let faults = sorted(alloc, faults)?;
     let path = PlainText::new(alloc, path)?;
     Ok(Checked {
         path,
         unit,
+        forms,
+        rows,
         typed,
         diagnostics: Diagnostics { faults },
     })

@@ -1,7 +1,7 @@
 //! The order of diagnostics.
 
 ghost use Rattle.std.specs.Prelude.{◌≡◌, ◌≤◌, IfOk, AllPairs, Contains, ◌↔◌};
-ghost use Rattle.judgement.specs.declared.Fault.{Fault};
+ghost use Rattle.judgement.specs.declared.fault.Fault.{Fault};
 ghost use Rattle.check_library.specs.Order.{IsBefore, code_cmp, sorted_faults, span_length};
 ghost use Rattle.std.specs.declared.cmp.Ordering.TheVariants.{Less};
 

@@ -1,9 +1,9 @@
 -- Where lists of faults are empty.
 use Rattle.std.proofs.Common.{◌≡◌, ℕ, zero, suc, ◌<◌, Bool, true, false, not, ◌||◌, List, [], ◌∷◌, ◌++◌, if◌then◌else◌, arith, refl, sym, subst, IsTrue, ◌↔◌, All, below_more}
 use Rattle.std.specs.Prelude.{flat_map}
-use Rattle.small_flow.specs.Ty.{Ty}
-use Rattle.small_flow.specs.Sub.{sub}
-use Rattle.small_flow.specs.declared.subtyping.Rows.{Rows}
+use Rattle.dart_types.specs.Ty.{Ty}
+use Rattle.dart_types.specs.SubTest.{sub}
+use Rattle.dart_types.specs.Tables.{Table}
 use Rattle.core_check.specs.Faults.{Fault, unless, unless_below, of_slots}
 
 -- a condition holds just where it gives no fault
@@ -14,8 +14,8 @@ if_none false fault = (λ h. absurd cc, λ h. absurd cc)
 pub unless_none : (b : Bool) → IsTrue b ↔ (unless b ≡ [])
 unless_none b = if_none b _
 
-pub below_none : (rows : Rows) (s t : Ty) → IsTrue (sub rows s t) ↔ (unless_below rows s t ≡ [])
-below_none rows s t = if_none (sub rows s t) _
+pub below_none : (table : Table) (s t : Ty) → IsTrue (sub table s t) ↔ (unless_below table s t ≡ [])
+below_none table s t = if_none (sub table s t) _
 
 -- one condition implies another just where this gives no fault
 pub implies_none : (a b : Bool) → (IsTrue a → IsTrue b) ↔ (unless (not a || b) ≡ [])

@@ -1,15 +1,18 @@
 -- What fails at a point, in the order of the clauses.
-use Rattle.std.specs.Prelude.{◌≡◌, ℕ, zero, suc, ◌<◌, Bool, not, ◌&&◌, ◌||◌, nat_eq, List, [], ◌∷◌, ◌++◌, Some, if◌then◌else◌, flat_map, slice_get, length}
-use Rattle.small_flow.specs.Ty.{Ty, invalid, same_type}
-use Rattle.small_flow.specs.Sub.{sub}
-use Rattle.small_flow.specs.declared.subtyping.Rows.{Rows}
+use Rattle.std.specs.Prelude.{◌≡◌, ℕ, zero, suc, ◌<◌, Bool, not, ◌||◌, nat_eq, List, [], ◌∷◌, ◌++◌, Some, if◌then◌else◌, flat_map, slice_get, length}
+use Rattle.dart_types.specs.Ty.{Ty, invalid}
+use Rattle.dart_types.specs.SubTest.{sub}
+use Rattle.dart_types.specs.Tables.{Table}
 use Rattle.core_ir.specs.PointFacts.{PointFacts}
-use Rattle.core_ir.specs.Program.{Program}
-use Rattle.core_ir.specs.Values.{declared_of, declared_at}
-use Rattle.core_ir.specs.declared.facts.SlotFact.{SlotFact}
-use Rattle.core_ir.specs.declared.points.Term.{Term}
-use Rattle.core_check.specs.Known.{point_at, facts_at, known_of, is_shared, held_type, operand_type, is_assigned}
-use Rattle.core_check.specs.Tables.{Way, reads, stores, asks, ways}
+use Rattle.core_ir.specs.Program.{Function, Program}
+use Rattle.core_ir.specs.Values.{declared_at}
+use Rattle.core_ir.specs.declared.facts.Known.{Known}
+use Rattle.core_ir.specs.declared.points.Operand.{Operand}
+use Rattle.core_check.specs.declared.parts.Stored.{Stored}
+use Rattle.core_check.specs.declared.parts.Asked.{Asked}
+use Rattle.core_check.specs.Known.{point_at, function_of, facts_at, known_of, is_shared, held_type, is_assigned}
+use Rattle.core_check.specs.Shapes.{WayShape, TermShape, shape}
+use Rattle.core_check.specs.Types.{type_from, known_on}
 
 -- a part of a clause that fails: the type that it asks for and the one that it finds
 pub record Fault : Type 0 where
@@ -17,8 +20,8 @@ pub record Fault : Type 0 where
   pub found : Ty
 
 -- what fails where a type has to be a subtype of another
-abbrev pub unless_below : Rows → (found expected : Ty) → List Fault
-unless_below rows found expected = if sub rows found expected then [] else record { expected = expected; found = found } ∷ []
+abbrev pub unless_below : Table → (found expected : Ty) → List Fault
+unless_below table found expected = if sub table found expected then [] else record { expected = expected; found = found } ∷ []
 
 -- what fails where anything else has to hold: no types say it
 abbrev pub unless : Bool → List Fault
@@ -39,53 +42,58 @@ pub data SlotPart : Type 0 where
   of_shared : SlotPart
 
 -- what fails of a part, for a slot by its declared type, what is known of it before and after
-abbrev pub slot_faults : SlotPart → Rows → Ty → (before after : SlotFact) → List Fault
-slot_faults of_assigned rows declared before after = unless (not after.assigned || before.assigned)
-slot_faults of_type rows declared before after = unless_below rows (held_type declared before.held) (held_type declared after.held)
-slot_faults of_shared rows declared before after = unless (not (is_shared before.held) || is_shared after.held)
+abbrev pub slot_faults : SlotPart → Table → Ty → (before after : Known) → List Fault
+slot_faults of_assigned table declared before after = unless (not after.assigned || before.assigned)
+slot_faults of_type table declared before after = unless_below table (held_type declared before.held) (held_type declared after.held)
+slot_faults of_shared table declared before after = unless (not (is_shared before.held) || is_shared after.held)
+
+-- what fails of a part on a way, for the slot with the number i
+abbrev pub slot_on : Program → Function → PointFacts → SlotPart → WayShape → ℕ → List Fault
+slot_on p g f part way i = slot_faults part p.rows.table (declared_at g i) (known_on p g f way.changes i) (known_of (facts_at p way.next.0) i)
 
 -- what fails of a part on a way, slot by slot
-abbrev pub way_faults : Program → SlotPart → Way → List Fault
-way_faults p part way =
-    of_slots (length p.slots) (λ i. slot_faults part p.rows (declared_at p i) (way.known i) (known_of (facts_at p way.next.0) i))
+abbrev pub way_faults : Program → Function → PointFacts → SlotPart → WayShape → List Fault
+way_faults p g f part way = of_slots (length g.slots) (slot_on p g f part way)
+
+-- what fails where a run may not come to the point that a way leads to
+abbrev pub reach_faults : Program → WayShape → List Fault
+reach_faults p way = unless (facts_at p way.next.0).reachable
 
 -- what fails where a run goes on: part by part, and in each part way by way
-abbrev pub next_faults : Program → List Way → List Fault
-next_faults p on =
-    flat_map (λ way. unless (facts_at p way.next.0).reachable) on
-    ++ flat_map (way_faults p of_assigned) on
-    ++ flat_map (way_faults p of_type) on
-    ++ flat_map (way_faults p of_shared) on
+abbrev pub next_faults : Program → Function → PointFacts → List WayShape → List Fault
+next_faults p g f ways =
+    flat_map (reach_faults p) ways
+    ++ flat_map (way_faults p g f of_assigned) ways
+    ++ flat_map (way_faults p g f of_type) ways
+    ++ flat_map (way_faults p g f of_shared) ways
 
--- what fails of what a term reads
-abbrev pub read_faults : PointFacts → Term → List Fault
-read_faults f term = flat_map (λ operand. unless (is_assigned f operand)) (reads term)
+-- what fails of an operand that is read, of a value that is stored, and of types that are asked about
+abbrev pub read_faults : PointFacts → Operand → List Fault
+read_faults f operand = unless (is_assigned f operand)
 
--- what fails of what it stores
-abbrev pub stored_faults : Program → PointFacts → Term → List Fault
-stored_faults p f term = flat_map (λ stored. unless_below p.rows stored.ty (declared_of p stored.slot)) (stores p f term)
+abbrev pub stored_faults : Program → Function → PointFacts → Stored → List Fault
+stored_faults p g f stored = unless_below p.rows.table (type_from p g f stored.ty) (declared_at g stored.slot.0)
 
--- what fails of what it asks of its operands
-abbrev pub asked_faults : Program → PointFacts → Term → List Fault
-asked_faults p f term = flat_map (λ asked. unless_below p.rows (operand_type p f asked.operand) asked.ty) (asks term)
+abbrev pub asked_faults : Program → Function → PointFacts → Asked → List Fault
+asked_faults p g f asked = unless_below p.rows.table (type_from p g f asked.found) (type_from p g f asked.expected)
 
--- what fails at a term with what is known before it: of what it reads, stores, asks and leaves, in this order
-abbrev pub term_faults : Program → PointFacts → Term → List Fault
-term_faults p f term = read_faults f term ++ stored_faults p f term ++ asked_faults p f term ++ next_faults p (ways p f term)
-
--- whether a slot is as at the entry: it has no value, its declared type, and isn't shared
-abbrev pub is_fresh : Ty → SlotFact → Bool
-is_fresh declared known = not known.assigned && same_type (held_type declared known.held) declared && not (is_shared known.held)
+-- what fails of a shape with what is known before its term: of what it reads, stores, asks and leaves, in this order
+abbrev pub shape_faults : Program → Function → PointFacts → TermShape → List Fault
+shape_faults p g f s =
+    flat_map (read_faults f) s.reads
+    ++ flat_map (stored_faults p g f) s.stores
+    ++ flat_map (asked_faults p g f) s.asks
+    ++ next_faults p g f s.ways
 
 -- what fails at an entry
-abbrev pub entry_faults : Program → PointFacts → List Fault
-entry_faults p f = unless f.reachable ++ of_slots (length p.slots) (λ i. unless (is_fresh (declared_at p i) (known_of f i)))
+abbrev pub entry_faults : PointFacts → List Fault
+entry_faults f = unless f.reachable ++ unless (nat_eq (length f.listed) 0)
 
--- what fails at the point with the number k: at its term, if a run may come to it, and then at the entry, if it is the first point
+-- what fails at the point with the number k: at its term, if a run may come to it, and then at the entry, if it is that of its function
 abbrev pub faults_at : Program → ℕ → List Fault
 faults_at p k =
-    (if (facts_at p k).reachable then term_faults p (facts_at p k) (point_at p k).term else [])
-    ++ (if nat_eq k 0 then entry_faults p (facts_at p k) else [])
+    (if (facts_at p k).reachable then shape_faults p (function_of p k) (facts_at p k) (shape (point_at p k).term) else [])
+    ++ (if nat_eq (function_of p k).entry.0 k then entry_faults (facts_at p k) else [])
 
 -- the fault is the first at the point with the number k, and no clause fails at a lesser one
 pub record IsFirstFault (p : Program) (k : ℕ) (fault : Fault) : Type 0 where

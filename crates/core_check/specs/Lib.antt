@@ -1,7 +1,9 @@
-pub mod WellFormed
 pub mod Known
-pub mod Tables
+pub mod Shapes
+pub mod Types
+pub mod WellFormed
 pub mod Accepted
 pub mod Faults
 pub mod Refusals
 pub mod Checks
+pub mod Merge

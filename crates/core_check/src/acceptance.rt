@@ -1,15 +1,17 @@
 //! The check of a whole program.
 
 ghost use Rattle.std.specs.Prelude.{◌≡◌, IfOk, IfErr};
+ghost use Rattle.dart_types.specs.Superinterfaces.{LeavesNothingOut};
+ghost use Rattle.dart_types.specs.Laws.{RowLaws};
 ghost use Rattle.core_check.specs.WellFormed.{IsWellFormed};
 ghost use Rattle.core_check.specs.Accepted.{IsAccepted};
 ghost use Rattle.core_check.specs.Refusals.{IsCause};
 
-use crate::context::{Context, PlainTypes};
+use crate::context::{CoreTypes, know_rows};
 use crate::points::check_points;
 use core_ir::{CoreProgram, PointId};
-use small_flow::DartType;
-use std::alloc::Global;
+use dart_types::DartType;
+use std::alloc::{AllocError, Global};
 use std::marker::Model;
 
 /// A program that was accepted. Contracts see it as the value of that program.
@@ -20,6 +22,7 @@ pub struct Accepted {
 
 impl Model for Accepted {
     ghost use Rattle.core_ir.specs.Program.{Program, program_code};
+    ghost use Rattle.dart_types.specs.Superinterfaces.{LeavesNothingOut};
     ghost use Rattle.core_check.specs.WellFormed.{IsWellFormed};
     ghost use Rattle.core_check.specs.Accepted.{IsAccepted};
 
@@ -29,7 +32,7 @@ impl Model for Accepted {
 
     ghost view = { λ a. a.program };
 
-    ghost invariant = { λ a. IsWellFormed a.program × IsAccepted a.program };
+    ghost invariant = { λ a. IsWellFormed a.program × IsAccepted a.program × LeavesNothingOut a.program.rows.table };
 }
 
 impl Accepted {
@@ -38,7 +41,10 @@ impl Accepted {
         ensures program { result.now ≡ self.now }
         ensures well_formed { IsWellFormed self.now }
         ensures accepted { IsAccepted self.now }
+        ensures nothing_out { LeavesNothingOut self.now.rows.table }
+        ensures laws { RowLaws self.now.rows.table }
     {
+        know_rows(&self.program);
         &self.program
     }
 }
@@ -55,21 +61,30 @@ pub enum AcceptRefusal {
         /// The type that was found, which isn't a subtype of it; invalid where no type was asked for.
         found: DartType,
     },
-    /// Want of memory for the types of a rejection.
+    /// Want of memory.
     Memory,
 }
 
-/// Accepts a program exactly where no clause fails at any of its points. It takes no memory then.
+impl From<AllocError> for AcceptRefusal {
+    ghost use Rattle.std.specs.Prelude.{◌≡◌};
+    ghost use Rattle.core_check.specs.declared.acceptance.AcceptRefusal.TheVariants.{Memory};
+
+    ghost from_gives = { λ _ e. e ≡ Memory };
+
+    fn from(_e: AllocError) -> AcceptRefusal {
+        AcceptRefusal::Memory
+    }
+}
+
+/// Accepts a program exactly where no clause fails at any of its points that a run may come to. The
+/// condition on the rows holds where no class forms a superinterface that is too large.
 pub fn accept(alloc: Global, program: CoreProgram) -> Result<Accepted, AcceptRefusal>
-    requires { IsWellFormed program }
+    requires well_formed { IsWellFormed program }
+    requires nothing_out { LeavesNothingOut program.rows.table }
     ensures accepted { IfOk result (λ a. (a ≡ program) × IsAccepted program) }
     ensures refused { IfErr result (λ refusal. IsCause program refusal) }
 {
-    let plain = PlainTypes::new();
-    check_points(Context {
-        alloc,
-        program: &program,
-        plain: &plain,
-    })?;
+    let core = CoreTypes::new(alloc)?;
+    check_points(alloc, &program, &core)?;
     Ok(Accepted { program })
 }

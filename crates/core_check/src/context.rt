@@ -1,43 +1,44 @@
 //! What all of a check is done with.
 
-ghost use Rattle.std.specs.Prelude.{◌≡◌};
-ghost use Rattle.small_flow.specs.Ty.{never, null, int, bool, non_null_of};
-ghost use Rattle.core_ir.specs.Values.{type_of};
+ghost use Rattle.std.specs.Prelude.{◌≡◌, IfOk};
+ghost use Rattle.dart_types.specs.Ty.{null};
+ghost use Rattle.dart_types.specs.Laws.{RowLaws};
+ghost use Rattle.core_ir.specs.Values.{int, bool, no_objects, type_of};
+ghost use Rattle.core_check.specs.Known.{unlisted};
 
-use core_ir::{CoreProgram, Value};
-use small_flow::{DartType, TypeNode};
-use std::alloc::Global;
+use core_ir::{CoreFunction, CoreProgram, FunctionId, Held, Known, Value};
+use dart_types::{BOOL, DartType, INT, TypeNode, row_laws};
+use std::alloc::{AllocError, Global};
 
-/// The types that name no others, to be lent.
+/// What a check lends: the types of values, and what is known of a slot that isn't listed.
 #[derive(Drop)]
-pub(crate) struct PlainTypes {
-    never_type: DartType,
+pub(crate) struct CoreTypes {
     null_type: DartType,
     int_type: DartType,
     bool_type: DartType,
-    ghost is_never: { never_type ≡ never },
+    nothing_known: Known,
     ghost is_null: { null_type ≡ null },
     ghost is_int: { int_type ≡ int },
     ghost is_bool: { bool_type ≡ bool },
+    ghost is_nothing: { nothing_known ≡ unlisted },
 }
 
-impl PlainTypes {
-    /// Each of them. It takes no memory.
-    pub(crate) fn new() -> PlainTypes {
-        PlainTypes {
-            never_type: DartType {
-                node: TypeNode::Never,
-            },
+impl CoreTypes {
+    /// Each of them.
+    pub(crate) fn new(alloc: Global) -> Result<CoreTypes, AllocError> {
+        let int_type = DartType::class(alloc, INT)?;
+        let bool_type = DartType::class(alloc, BOOL)?;
+        Ok(CoreTypes {
             null_type: DartType {
                 node: TypeNode::Null,
             },
-            int_type: DartType {
-                node: TypeNode::Int,
+            int_type,
+            bool_type,
+            nothing_known: Known {
+                assigned: false,
+                held: Held::Declared,
             },
-            bool_type: DartType {
-                node: TypeNode::Bool,
-            },
-        }
+        })
     }
 
     /// `int`
@@ -56,7 +57,7 @@ impl PlainTypes {
 
     /// The run-time type of a value.
     pub(crate) fn of_value(&self, value: Value) -> &DartType
-        ensures { result.now ≡ type_of value }
+        ensures { result.now ≡ type_of no_objects value }
     {
         match value {
             Value::Null => &self.null_type,
@@ -65,22 +66,28 @@ impl PlainTypes {
         }
     }
 
-    /// A type without null.
-    pub(crate) fn non_null<'a>(&'a self, t: &'a DartType) -> &'a DartType
-        ensures { result.now ≡ non_null_of t.now }
+    /// What is known of a slot that isn't listed.
+    pub(crate) fn unlisted(&self) -> &Known
+        ensures { result.now ≡ unlisted }
     {
-        match &t.node {
-            TypeNode::Null => &self.never_type,
-            TypeNode::Nullable(bare) => self.non_null(bare),
-            TypeNode::Invalid | TypeNode::Never | TypeNode::Int | TypeNode::Bool => t,
-        }
+        &self.nothing_known
     }
 }
 
-/// What all of a check is done with: the allocator, the program, and the types to be lent.
+/// What all of a check is done with: the allocator, the program, a function of it with its place in the
+/// program's list, and what is lent.
 #[derive(Clone, Copy)]
 pub(crate) struct Context<'a> {
     pub(crate) alloc: Global,
     pub(crate) program: &'a CoreProgram,
-    pub(crate) plain: &'a PlainTypes,
+    pub(crate) function: &'a CoreFunction,
+    pub(crate) number: FunctionId,
+    pub(crate) core: &'a CoreTypes,
+}
+
+/// The laws of the rows of a program, for proofs that go by them.
+pub(crate) fn know_rows(program: &CoreProgram)
+    ensures { RowLaws program.now.rows.table }
+{
+    row_laws(&program.rows);
 }

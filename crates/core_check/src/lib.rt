@@ -1,22 +1,27 @@
-//! Which core programs are accepted.
+//! The check of core programs: which ones are accepted.
 //!
-//! `accept` takes a program, whatever made it, exactly where no clause of `specs/Accepted.antt` fails
-//! at any of its points; else it answers the least point at which one fails, with the types of that
-//! point's first fault by `specs/Faults.antt`. `specs/Tables.antt` has what each term reads, stores,
-//! asks and leaves. An `Accepted` is a program that passed, and can be made in no other way. The
-//! crate stands on core programs and on subtyping.
+//! `specs/Shapes.antt` has one row for each term: what it reads, stores and asks, and the ways on from it
+//! with what changes on them. All clauses (`specs/Accepted.antt`) go over shapes, so a term costs one row
+//! there and one arm in `shape_of`. A program is accepted where no clause fails at any point; else `accept`
+//! tells the least point at which one fails and the first part that does (`specs/Faults.antt`). The crate
+//! stands on core programs, on subtyping and on types without null, and doesn't know how a program is made
+//! or run.
 #![tactic(auto)]
 
 mod acceptance;
 mod context;
 mod known;
 mod laws;
+mod merge;
 mod misses;
+mod parts;
 mod points;
+mod shapes;
 mod terms;
+mod types;
 mod ways;
 mod well_formed;
 
 pub use acceptance::{AcceptRefusal, Accepted, accept};
-pub use laws::faults_are_clauses_that_fail;
+pub use laws::{faults_are_clauses_that_fail, put_tells, rows_of_no_class_leave_nothing_out};
 pub use well_formed::is_well_formed;

@@ -4,7 +4,7 @@ ghost use Rattle.core_check.specs.Faults.{unless, unless_below};
 ghost use Rattle.core_check.specs.Checks.{Tells};
 
 use crate::context::Context;
-use small_flow::{DartType, TypeNode, is_subtype};
+use dart_types::{DartType, TypeNode, is_subtype};
 use std::alloc::AllocError;
 
 /// Why a check doesn't pass.
@@ -12,7 +12,7 @@ use std::alloc::AllocError;
 pub(crate) enum Miss {
     /// The first part that fails asks for the one type and finds the other.
     Fails { expected: DartType, found: DartType },
-    /// Want of memory for the types of a part that fails.
+    /// Want of memory.
     Memory,
 }
 
@@ -50,7 +50,7 @@ pub(crate) fn ask_subtype(
     found: &DartType,
     expected: &DartType,
 ) -> Result<(), Miss>
-    ensures { Tells result (unless_below context.entry.program.now.rows found.now expected.now) }
+    ensures { Tells result (unless_below context.entry.program.now.rows.table found.now expected.now) }
 {
     let program = context.program;
     if is_subtype(&program.rows, found, expected) {

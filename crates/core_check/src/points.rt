@@ -1,88 +1,125 @@
 //! The clauses on a point, and on all of them.
 
-ghost use Rattle.std.specs.Prelude.{◌≡◌, ◌<◌, ℕ, [], nat_eq, if◌then◌else◌, OnOk, IfErr, length};
-ghost use Rattle.core_check.specs.WellFormed.{IsTerm, IsWellFormed};
-ghost use Rattle.core_ir.specs.Values.{declared_at};
-ghost use Rattle.core_check.specs.Known.{known_of};
+ghost use Rattle.std.specs.Prelude.{◌≡◌, ◌<◌, [], ◌++◌, nat_eq, if◌then◌else◌, All, OnOk, IfErr, length};
+ghost use Rattle.core_check.specs.WellFormed.{IsSlot, IsPointOf, IsShape, IsWellFormed};
+ghost use Rattle.core_check.specs.Known.{function_at, point_at};
+ghost use Rattle.core_check.specs.Shapes.{shape};
 ghost use Rattle.core_check.specs.Accepted.{IsAccepted};
-ghost use Rattle.core_check.specs.Faults.{unless, is_fresh, entry_faults, term_faults, faults_at};
+ghost use Rattle.core_check.specs.Faults.{entry_faults, shape_faults, faults_at};
 ghost use Rattle.core_check.specs.Checks.{Tells};
 ghost use Rattle.core_check.specs.Refusals.{IsCause};
 
 use crate::acceptance::AcceptRefusal;
-use crate::context::Context;
-use crate::known::{declared, facts_of, known_by, term_of};
+use crate::context::{Context, CoreTypes};
 use crate::misses::{Miss, ask};
-use crate::terms::check_term;
-use core_ir::{CoreProgram, Facts, PointId, Term};
-
-// Whether a slot is as at the entry.
-fn check_fresh(program: &CoreProgram, facts: &Facts, slot: usize) -> Result<(), Miss>
-    requires declared { slot < length program.now.slots }
-    requires in_facts { slot < length facts.now.slots }
-    ensures { Tells result (unless (is_fresh (declared_at program.now slot) (known_of facts.now slot))) }
-{
-    let known = known_by(program, facts, slot);
-    ask(!known.assigned && known.ty.is_same(declared(program, slot)) && !known.shared)
-}
+use crate::shapes::shape_of;
+use crate::terms::check_shape;
+use core_ir::{CoreFunction, CoreProgram, Facts, FunctionId, Point, PointId, Term};
+use std::alloc::Global;
 
 // Whether the facts are those of an entry.
-fn check_entry(program: &CoreProgram, facts: &Facts) -> Result<(), Miss>
-    requires { length facts.now.slots ≡ length program.now.slots }
-    ensures { Tells result (entry_faults program.now facts.now) }
+fn check_entry(facts: &Facts) -> Result<(), Miss>
+    ensures { Tells result (entry_faults facts.now) }
 {
-    ask(facts.reachable)?;
-    for slot in 0..program.slots.len() {
-        check_fresh(program, facts, slot)?;
-    }
-    Ok(())
+    ask(facts.is_reachable())?;
+    ask(facts.listed().len() == 0)
 }
 
 // Whether no clause fails at a term, if a run may come to it.
 fn check_reached(context: Context<'_>, facts: &Facts, term: Term) -> Result<(), Miss>
     requires well_formed { IsWellFormed context.program.now }
-    requires term { IsTerm context.program.now term }
-    requires wide { length facts.now.slots ≡ length context.program.now.slots }
-    ensures { Tells result (if facts.now.reachable then term_faults context.entry.program.now facts.now term else []) }
+    requires function { context.function.now ≡ function_at context.program.now context.number.0 }
+    requires listed_in { All (λ fact. IsSlot context.function.now fact.slot) facts.now.listed }
+    requires shape_in { IsShape context.program.now context.function.now context.number.0 (shape term) }
+    ensures { Tells result (if facts.now.reachable then shape_faults context.entry.program.now context.entry.function.now facts.now (shape term) else []) }
 {
-    if facts.reachable {
-        return check_term(context, facts, term);
+    if facts.is_reachable() {
+        let shape = shape_of(context.alloc, term)?;
+        let told = check_shape(context, facts, &shape);
+        return told;
     }
     Ok(())
 }
 
-// Whether the facts are those of an entry, at the first point.
-fn check_first(program: &CoreProgram, facts: &Facts, number: usize) -> Result<(), Miss>
-    requires { length facts.now.slots ≡ length program.now.slots }
-    ensures { Tells result (if nat_eq number 0 then entry_faults program.now facts.now else []) }
+// Whether the facts are those of an entry, at the entry of the function.
+fn check_first(context: Context<'_>, facts: &Facts, number: usize) -> Result<(), Miss>
+    ensures { Tells result (if nat_eq context.entry.function.now.entry.0 number then entry_faults facts.now else []) }
 {
-    if number == 0 {
-        return check_entry(program, facts);
+    let function = context.function;
+    if function.entry.0 as usize == number {
+        return check_entry(facts);
     }
     Ok(())
+}
+
+// What is known and done at a point, and whether it is the entry of its function.
+fn check_parts(context: Context<'_>, point: &Point, number: usize) -> Result<(), Miss>
+    requires well_formed { IsWellFormed context.program.now }
+    requires function { context.function.now ≡ function_at context.program.now context.number.0 }
+    requires listed_in { All (λ fact. IsSlot context.function.now fact.slot) point.now.facts.listed }
+    requires shape_in { IsShape context.program.now context.function.now context.number.0 (shape point.now.term) }
+    ensures { let p = context.entry.program.now in let g = context.entry.function.now in
+        Tells result ((if point.now.facts.reachable then shape_faults p g point.now.facts (shape point.now.term) else [])
+        ++ (if nat_eq g.entry.0 number then entry_faults point.now.facts else [])) }
+{
+    check_reached(context, &point.facts, point.term)?;
+    check_first(context, &point.facts, number)
+}
+
+// A point of the program.
+fn point_of(program: &CoreProgram, number: usize) -> &Point
+    requires well_formed { IsWellFormed program.now }
+    requires in_program { number < length program.now.points }
+    ensures point { result.now ≡ point_at program.now number }
+    ensures well_formed { IsPointOf program.now number result.now }
+{
+    &program.points[number]
+}
+
+// A function of the program.
+fn function_of(program: &CoreProgram, number: FunctionId) -> &CoreFunction
+    requires { number.0 < length program.now.functions }
+    ensures { result.now ≡ function_at program.now number.0 }
+{
+    &program.functions[number.0 as usize]
 }
 
 // Whether no clause fails at a point.
-fn check_point(context: Context<'_>, number: usize) -> Result<(), Miss>
-    requires well_formed { IsWellFormed context.program.now }
-    requires in_program { number < length context.program.now.points }
-    ensures { Tells result (faults_at context.entry.program.now number) }
+fn check_point(
+    alloc: Global,
+    program: &CoreProgram,
+    core: &CoreTypes,
+    number: usize,
+) -> Result<(), Miss>
+    requires well_formed { IsWellFormed program.now }
+    requires in_program { number < length program.now.points }
+    ensures { Tells result (faults_at program.now number) }
 {
-    let program = context.program;
-    let facts = facts_of(program, number);
-    check_reached(context, facts, term_of(program, number))?;
-    check_first(program, facts, number)
+    let point = point_of(program, number);
+    let function = function_of(program, point.function);
+    let context = Context {
+        alloc,
+        program,
+        function,
+        number: point.function,
+        core,
+    };
+    let told = check_parts(context, point, number);
+    told
 }
 
 /// Whether no clause fails at any point; else what fails first at the least point.
-pub(crate) fn check_points(context: Context<'_>) -> Result<(), AcceptRefusal>
-    requires { IsWellFormed context.program.now }
-    ensures accepted { OnOk result (IsAccepted context.entry.program.now) }
-    ensures refused { IfErr result (λ refusal. IsCause context.entry.program.now refusal) }
+pub(crate) fn check_points(
+    alloc: Global,
+    program: &CoreProgram,
+    core: &CoreTypes,
+) -> Result<(), AcceptRefusal>
+    requires { IsWellFormed program.now }
+    ensures accepted { OnOk result (IsAccepted program.now) }
+    ensures refused { IfErr result (λ refusal. IsCause program.now refusal) }
 {
-    let program = context.program;
     for number in 0..program.points.len() {
-        match check_point(context, number) {
+        match check_point(alloc, program, core, number) {
             Ok(()) => (),
             Err(Miss::Fails { expected, found }) => {
                 return Err(AcceptRefusal::Rejected {

@@ -6,26 +6,26 @@ use Rattle.std.proofs.lemmas.Bool.{cases_eq, cases_lt}
 use Rattle.std.proofs.lemmas.List.{get_or-set_same, get_or-set_other, length-set}
 use Rattle.dart_types.specs.Ty.{Ty}
 use Rattle.dart_types.specs.SubTest.{sub}
-use Rattle.core_program.specs.PointFacts.{PointFacts}
-use Rattle.core_program.specs.Program.{Function, Program}
-use Rattle.core_program.specs.Values.{declared_at}
-use Rattle.core_program.specs.declared.facts.Known.{Known}
-use Rattle.core_program.specs.declared.points.FunctionId.{FunctionId}
-use Rattle.core_program.specs.declared.points.Point.{Point}
-use Rattle.core_program.specs.declared.points.PointId.{PointId}
-use Rattle.core_program.specs.declared.points.Span.{Span}
-use Rattle.core_program.specs.declared.points.Term.{Term}
-use Rattle.core_program.specs.declared.points.Term.TheVariants.{Loop, End}
-use Rattle.core_accept.specs.declared.parts.TypeSource.{TypeSource}
-use Rattle.core_accept.specs.declared.parts.TypeSource.TheVariants.{IntType, BoolType, OperandType, NonNullType}
-use Rattle.core_accept.specs.declared.parts.How.{How}
-use Rattle.core_accept.specs.declared.parts.How.TheVariants.{Fresh, Holds, Narrows}
-use Rattle.core_accept.specs.declared.parts.Change.{Change}
-use Rattle.core_accept.specs.Accepted.{SlotImplies, IsFine, Leads}
-use Rattle.core_accept.specs.Known.{no_point, facts_at, known_of, is_shared, slot_type}
-use Rattle.core_accept.specs.Shapes.{TermShape, WayShape, shape}
-use Rattle.core_accept.specs.Types.{without_null, type_from, held_as, changed, changes_to, known_on}
-use Rattle.core_emit.specs.Code.{Code, leaf, sequence, choice, loop, step_to, test_to}
+use Rattle.core_ir.specs.PointFacts.{PointFacts}
+use Rattle.core_ir.specs.Program.{Function, Program}
+use Rattle.core_ir.specs.Values.{declared_at}
+use Rattle.core_ir.specs.declared.facts.Known.{Known}
+use Rattle.core_ir.specs.declared.points.FunctionId.{FunctionId}
+use Rattle.core_ir.specs.declared.points.Point.{Point}
+use Rattle.core_ir.specs.declared.points.PointId.{PointId}
+use Rattle.core_ir.specs.declared.points.Span.{Span}
+use Rattle.core_ir.specs.declared.points.Term.{Term}
+use Rattle.core_ir.specs.declared.points.Term.TheVariants.{Goto, End}
+use Rattle.core_check.specs.declared.parts.TypeSource.{TypeSource}
+use Rattle.core_check.specs.declared.parts.TypeSource.TheVariants.{IntType, BoolType, OperandType, NonNullType}
+use Rattle.core_check.specs.declared.parts.How.{How}
+use Rattle.core_check.specs.declared.parts.How.TheVariants.{Fresh, Holds, Narrows}
+use Rattle.core_check.specs.declared.parts.Change.{Change}
+use Rattle.core_check.specs.Accepted.{SlotImplies, IsFine, Leads}
+use Rattle.core_check.specs.Known.{no_point, facts_at, known_of, is_shared, slot_type}
+use Rattle.core_check.specs.Shapes.{TermShape, WayShape, shape}
+use Rattle.core_check.specs.Types.{without_null, type_from, held_as, changed, changes_to, known_on}
+use Rattle.core_emit.specs.Code.{Code, nothing, leaf, sequence, choice, loop, step_to, test_to}
 use Rattle.core_emit.specs.Emitted.{Made, with_point, with_term, emit, known_first, with_points, Passes, AllFine}
 
 -- what a shape means depends on the rows of a program alone
@@ -50,6 +50,9 @@ changes_same p q g f (c ∷ cs) i known e =
 pub record Kept (old new : List Point) : Type 0 where
   pub longer : length old ≤ length new
   pub facts : (k : ℕ) → k < length old → (get_or new k no_point).facts ≡ (get_or old k no_point).facts
+
+kept_self : (points : List Point) → Kept points points
+kept_self points = record { longer = omega arith; facts = λ k lt. refl }
 
 kept_trans : (a b c : List Point) → Kept a b → Kept b c → Kept a c
 kept_trans a b c x y = record {
@@ -182,14 +185,15 @@ module _ (p : Program) (g : Function) (id : FunctionId) where
   }
 
   -- the points of code that passes are fine, and the first has what is known before
-  pub emits : (code : Code) (after : PointFacts) (next : PointId) (old : List Point) → Passes p.rows g code after → AllFine (with_points p old) g → next.0 < length old → (get_or old next.0 no_point).facts ≡ after → Gives old (known_first code) (emit id code next old)
+  pub emits : (code : Code) (after : PointFacts) (next : PointId) (old : List Point) → Passes p.rows g code after → AllFine (with_points p old) g → next.0 < length old → (get_or old next.0 no_point).facts ≡ after → Gives old (known_first code after) (emit id code next old)
+  emits nothing after next old pass all inside is = record { kept = kept_self old; fine = all; entry_in = inside; entry_facts = is }
   emits (leaf site facts step) after next old pass all inside is =
       add old all site facts (step_to step next)
       (λ reached. pass reached (with_points p (more old all site facts (step_to step next))) next refl ((more_kept old all site facts (step_to step next)).facts next.0 inside ∙ is))
   emits (sequence first second) after next old pass all inside is =
       let y = emits second after next old pass.1 all inside is in
       let behind = emit id second next old in
-      let x = emits first (known_first second) behind.entry behind.points pass.0 y.fine y.entry_in y.entry_facts in
+      let x = emits first (known_first second after) behind.entry behind.points pass.0 y.fine y.entry_in y.entry_facts in
       record { kept = kept_trans old behind.points _ y.kept x.kept; fine = x.fine; entry_in = x.entry_in; entry_facts = x.entry_facts }
   emits (choice site facts test first second) after next old pass all inside is =
       let y = emits second after next old pass.1.1 all inside is in
@@ -226,13 +230,13 @@ module _ (p : Program) (g : Function) (id : FunctionId) where
       let at_in : start.entry.0 < length asks.points = omega arith in
       let head_is : (get_or asks.points start.entry.0 no_point).facts ≡ head =
       c.kept.facts start.entry.0 (omega arith) ∙ t.kept.facts start.entry.0 (omega arith) ∙ b.kept.facts start.entry.0 s_in ∙ s.entry_facts in
-      let keeps_told = told_kept asks.points c.fine start.entry (Loop asks.entry) at_in in
-      let told_n = told_length asks.points c.fine start.entry (Loop asks.entry) at_in in
-      let head_fine = subst (λ (f : PointFacts). IsTrue f.reachable → IsFine (with_points p (told asks.points c.fine start.entry (Loop asks.entry) at_in)) g f (shape (Loop asks.entry))) (sym head_is)
-      (λ reached. pass.0 reached (with_points p (told asks.points c.fine start.entry (Loop asks.entry) at_in)) asks.entry refl (keeps_told.facts asks.entry.0 c.entry_in ∙ c.entry_facts)) in
+      let keeps_told = told_kept asks.points c.fine start.entry (Goto asks.entry) at_in in
+      let told_n = told_length asks.points c.fine start.entry (Goto asks.entry) at_in in
+      let head_fine = subst (λ (f : PointFacts). IsTrue f.reachable → IsFine (with_points p (told asks.points c.fine start.entry (Goto asks.entry) at_in)) g f (shape (Goto asks.entry))) (sym head_is)
+      (λ reached. pass.0 reached (with_points p (told asks.points c.fine start.entry (Goto asks.entry) at_in)) asks.entry refl (keeps_told.facts asks.entry.0 c.entry_in ∙ c.entry_facts)) in
       record {
         kept = kept_trans old asks.points _ (kept_trans old start.points asks.points s.kept (kept_trans start.points passes.points asks.points b.kept (kept_trans passes.points tests.points asks.points t.kept c.kept))) keeps_told;
-        fine = record { each = fine_told asks.points c.fine start.entry (Loop asks.entry) at_in head_fine };
+        fine = record { each = fine_told asks.points c.fine start.entry (Goto asks.entry) at_in head_fine };
         entry_in = omega arith;
         entry_facts = keeps_told.facts start.entry.0 at_in ∙ head_is;
       }

@@ -1,1 +1,3 @@
 pub mod Emits
+pub mod Formed
+pub mod Sizes

@@ -1,18 +1,20 @@
 -- The points that code is made into, from its end to its start.
-use Rattle.std.specs.Prelude.{◌≡◌, ℕ, ◌<◌, List, [], ◌∷◌, ◌++◌, Option, IsTrue, length, slice_index_or, slice_set}
+use Rattle.std.specs.Prelude.{◌≡◌, ℕ, ◌+◌, ◌<◌, List, [], ◌∷◌, ◌++◌, Option, Some, All, IsTrue, length, slice_get, slice_index_or, slice_set}
 use Rattle.dart_types.specs.FormedTable.{FormedTable}
-use Rattle.core_program.specs.PointFacts.{PointFacts}
-use Rattle.core_program.specs.Program.{Function, Program}
-use Rattle.core_program.specs.declared.points.FunctionId.{FunctionId}
-use Rattle.core_program.specs.declared.points.Point.{Point}
-use Rattle.core_program.specs.declared.points.PointId.{PointId}
-use Rattle.core_program.specs.declared.points.Span.{Span}
-use Rattle.core_program.specs.declared.points.Term.{Term}
-use Rattle.core_program.specs.declared.points.Term.TheVariants.{Loop, End}
-use Rattle.core_accept.specs.Accepted.{IsFine}
-use Rattle.core_accept.specs.Known.{no_point, facts_at}
-use Rattle.core_accept.specs.Shapes.{shape}
-use Rattle.core_emit.specs.Code.{Code, Step, Test, leaf, sequence, choice, loop, step_to, test_to}
+use Rattle.core_ir.specs.PointFacts.{PointFacts}
+use Rattle.core_ir.specs.Program.{Function, Program}
+use Rattle.core_ir.specs.declared.facts.SlotFact.{SlotFact}
+use Rattle.core_ir.specs.declared.points.FunctionId.{FunctionId}
+use Rattle.core_ir.specs.declared.points.Point.{Point}
+use Rattle.core_ir.specs.declared.points.PointId.{PointId}
+use Rattle.core_ir.specs.declared.points.Span.{Span}
+use Rattle.core_ir.specs.declared.points.Term.{Term}
+use Rattle.core_ir.specs.declared.points.Term.TheVariants.{Goto, End}
+use Rattle.core_check.specs.Accepted.{IsFine}
+use Rattle.core_check.specs.Known.{no_point, facts_at, function_at, point_at}
+use Rattle.core_check.specs.Shapes.{shape}
+use Rattle.core_check.specs.WellFormed.{IsSlot, IsOperand, IsPointOf}
+use Rattle.core_emit.specs.Code.{Code, Step, Test, stores, declares, initializes, adds, compares, differs, prints, goes_on, on_truth, on_not_null, nothing, leaf, sequence, choice, loop, step_to, test_to}
 
 -- points, and the one among them at which the code that was made last begins
 pub record Made : Type 0 where
@@ -33,6 +35,7 @@ with_term points at term = slice_set points at.0 (record (slice_index_or points 
 
 -- The points of code that goes on at a point: those that come last in a run are made first, so that each names points that there are, but for the head of a loop, which is made first and told its term at the end.
 abbrev pub emit : FunctionId → Code → PointId → List Point → Made
+emit id nothing next points = record { points = points; entry = next }
 emit id (leaf site facts step) next points = with_point id site facts (step_to step next) points
 emit id (sequence first second) next points = let after = emit id second next points in emit id first after.entry after.points
 emit id (choice site facts test first second) next points =
@@ -44,20 +47,21 @@ emit id (loop site head facts condition test body) next points =
     let passes = emit id body start.entry start.points in
     let tests = with_point id site facts (test_to test passes.entry next) passes.points in
     let asks = emit id condition tests.entry tests.points in
-    record { points = with_term asks.points start.entry (Loop asks.entry); entry = start.entry }
+    record { points = with_term asks.points start.entry (Goto asks.entry); entry = start.entry }
 
--- what is known where code begins
-abbrev pub known_first : Code → PointFacts
-known_first (leaf site facts step) = facts
-known_first (sequence first second) = known_first first
-known_first (choice site facts test first second) = facts
-known_first (loop site head facts condition test body) = head
+-- what is known where code begins behind which this is known
+abbrev pub known_first : Code → PointFacts → PointFacts
+known_first nothing after = after
+known_first (leaf site facts step) after = facts
+known_first (sequence first second) after = known_first first (known_first second after)
+known_first (choice site facts test first second) after = facts
+known_first (loop site head facts condition test body) after = head
 
 -- a program with these points
 abbrev pub with_points : Program → List Point → Program
 with_points p points = record p { points = points }
 
--- a step, a test and a head lead from what is known before to what is known at the points that they name, in whatever program of these rows
+-- a step and a test lead from what is known before to what is known at the points that they name, in whatever program of these rows
 abbrev pub StepLeads : FormedTable → Function → PointFacts → Step → PointFacts → Type 0
 StepLeads rows g facts step after =
     (p : Program) (next : PointId) → p.rows ≡ rows → facts_at p next.0 ≡ after → IsFine p g facts (shape (step_to step next))
@@ -66,19 +70,16 @@ abbrev pub TestLeads : FormedTable → Function → PointFacts → Test → (one
 TestLeads rows g facts test one other =
     (p : Program) (first second : PointId) → p.rows ≡ rows → facts_at p first.0 ≡ one → facts_at p second.0 ≡ other → IsFine p g facts (shape (test_to test first second))
 
-abbrev pub HeadLeads : FormedTable → Function → PointFacts → PointFacts → Type 0
-HeadLeads rows g facts after =
-    (p : Program) (next : PointId) → p.rows ≡ rows → facts_at p next.0 ≡ after → IsFine p g facts (shape (Loop next))
-
 -- each part of code, where a run may come to it, leads from what is known before it to what is known behind it
 abbrev pub Passes : FormedTable → Function → Code → PointFacts → Type 0
+Passes rows g nothing after = Unit {0}
 Passes rows g (leaf site facts step) after = IsTrue facts.reachable → StepLeads rows g facts step after
-Passes rows g (sequence first second) after = Passes rows g first (known_first second) × Passes rows g second after
+Passes rows g (sequence first second) after = Passes rows g first (known_first second after) × Passes rows g second after
 Passes rows g (choice site facts test first second) after =
-    (IsTrue facts.reachable → TestLeads rows g facts test (known_first first) (known_first second)) × (Passes rows g first after × Passes rows g second after)
+    (IsTrue facts.reachable → TestLeads rows g facts test (known_first first after) (known_first second after)) × (Passes rows g first after × Passes rows g second after)
 Passes rows g (loop site head facts condition test body) after =
-    (IsTrue head.reachable → HeadLeads rows g head (known_first condition))
-    × ((IsTrue facts.reachable → TestLeads rows g facts test (known_first body) after)
+    (IsTrue head.reachable → StepLeads rows g head goes_on (known_first condition facts))
+    × ((IsTrue facts.reachable → TestLeads rows g facts test (known_first body head) after)
     × (Passes rows g condition facts × Passes rows g body head))
 
 -- no clause fails at any of the points that a run may come to
@@ -95,4 +96,53 @@ pub record IsEmitted (p : Program) (g : Function) (old : List Point) (before : P
 abbrev pub EmitsFinePoints : Program → Function → FunctionId → Code → PointFacts → PointId → List Point → Type 0
 EmitsFinePoints p g id code after next old =
     Passes p.rows g code after → AllFine (with_points p old) g → next.0 < length old → facts_at (with_points p old) next.0 ≡ after
-    → IsEmitted p g old (known_first code) (emit id code next old)
+    → IsEmitted p g old (known_first code after) (emit id code next old)
+
+-- Slots and numbers.
+
+-- a step names what the function has
+abbrev pub IsStepOf : Function → Step → Type 0
+IsStepOf g (stores to from) = IsSlot g to × IsOperand g from
+IsStepOf g (declares slot) = IsSlot g slot
+IsStepOf g (initializes slot from) = IsSlot g slot × IsOperand g from
+IsStepOf g (adds to left right) = IsSlot g to × (IsOperand g left × IsOperand g right)
+IsStepOf g (compares to left right) = IsSlot g to × (IsOperand g left × IsOperand g right)
+IsStepOf g (differs to left right) = IsSlot g to × (IsOperand g left × IsOperand g right)
+IsStepOf g (prints from) = IsOperand g from
+IsStepOf g goes_on = Unit {0}
+
+-- so does a test
+abbrev pub IsTestOf : Function → Test → Type 0
+IsTestOf g (on_truth on) = IsOperand g on
+IsTestOf g (on_not_null slot) = IsSlot g slot
+
+-- facts are of slots that the function has
+abbrev pub AreFactsOf : Function → PointFacts → Type 0
+AreFactsOf g facts = All (λ (fact : SlotFact). IsSlot g fact.slot) facts.listed
+
+-- code names what the function has
+abbrev pub IsCodeOf : Function → Code → Type 0
+IsCodeOf g nothing = Unit {0}
+IsCodeOf g (leaf site facts step) = AreFactsOf g facts × IsStepOf g step
+IsCodeOf g (sequence first second) = IsCodeOf g first × IsCodeOf g second
+IsCodeOf g (choice site facts test first second) = (AreFactsOf g facts × IsTestOf g test) × (IsCodeOf g first × IsCodeOf g second)
+IsCodeOf g (loop site head facts condition test body) = (AreFactsOf g head × (AreFactsOf g facts × IsTestOf g test)) × (IsCodeOf g condition × IsCodeOf g body)
+
+-- all points are of the function with the number n, and well formed
+pub record AllFormed (p : Program) (n : ℕ) : Type 0 where
+  pub points_in : (k : ℕ) (point : Point) → slice_get p.points k ≡ Some point → IsPointOf p k point
+  pub own : (k : ℕ) → k < length p.points → (point_at p k).function.0 ≡ n
+
+-- code that names what its function has, from points that are well formed, is made into points that are
+abbrev pub EmitsFormedPoints : Program → Function → FunctionId → Code → PointId → List Point → Type 0
+EmitsFormedPoints p g id code next old =
+    id.0 < length p.functions → function_at p id.0 ≡ g → IsCodeOf g code → AllFormed (with_points p old) id.0 → next.0 < length old
+    → AllFormed (with_points p (emit id code next old).points) id.0
+
+-- how many points code has
+abbrev pub size_of : Code → ℕ
+size_of nothing = 0
+size_of (leaf site facts step) = 1
+size_of (sequence first second) = size_of first + size_of second
+size_of (choice site facts test first second) = 1 + size_of first + size_of second
+size_of (loop site head facts condition test body) = 2 + size_of condition + size_of body

@@ -3,11 +3,12 @@
 //!
 //! Code (`specs/Code.antt`) is terms one after another, choices and loops, with what is known before each
 //! term and without numbers of points. `emit` (`specs/Emitted.antt`) makes its points from the end to the
-//! start, so that each point names points that there are, but for the head of a loop. The law of
-//! `points_of_code_are_fine` is all that a form of the language needs of it: that its own code passes. The
-//! crate has definitions and the law alone; it stands on core programs and on their acceptance.
+//! start, so that each point names points that there are, but for the head of a loop. Three laws are all
+//! that a form of the language needs of it: code that passes is made into fine points, code that names
+//! what its function has into well-formed ones, and into as many as it has. The crate has definitions and
+//! these laws alone; it stands on core programs and on their acceptance.
 #![tactic(auto)]
 
 mod laws;
 
-pub use laws::points_of_code_are_fine;
+pub use laws::{code_has_its_points, points_of_code_are_fine, points_of_code_are_well_formed};

@@ -1,18 +1,21 @@
 //! Core programs: what a program is when it is run.
 //!
-//! A `CoreProgram` is a list of points, each with one term, which names the points that may come
-//! next, and with the facts that are known there. Contracts see a program as its value, the
-//! `Program` of `specs/Program.antt`, so that programs with equal parts are equal. What a program
-//! may hold is checked by a crate above, and what its terms do is said there too. The crate has
-//! types alone; it stands on the types of the language and on the numbers of trees.
+//! A `CoreProgram` is a list of functions and one of points. A point has one term, which names the
+//! points that may come next, and what is known there of the slots of its function. Only slots of which
+//! something is known are listed (`specs/PointFacts.antt`). Contracts see a program as its value, the
+//! `Program` of `specs/Program.antt`, so that programs with equal parts are equal. What a program may
+//! hold is checked by a crate above, and what its terms do is said there too. The crate stands on
+//! `dart_types`.
 #![tactic(auto)]
 
 mod facts;
+mod laws;
 mod points;
 mod program;
 mod values;
 
-pub use facts::{Facts, Held, SlotFact};
-pub use points::{Operand, Point, PointId, SlotId, Term};
-pub use program::CoreProgram;
+pub use facts::{Facts, Held, Known, SharedFact, SlotFact};
+pub use laws::{put_keeps, put_keeps_order};
+pub use points::{FunctionId, Operand, Point, PointId, SlotId, Span, Term};
+pub use program::{CoreFunction, CoreProgram};
 pub use values::Value;

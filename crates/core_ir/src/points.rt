@@ -1,15 +1,28 @@
 //! Points and their terms.
 
+use crate::facts::Facts;
 use crate::values::Value;
-use small_tree::NodeId;
 
-/// A slot, by its place in the program's list of slots, from 0. A slot is a local or a temporary.
+/// A function, by its place in the program's list of functions, from 0.
+#[derive(Clone, Copy, Debug, PartialEq, Eq)]
+pub struct FunctionId(pub u32);
+
+/// A slot, by its place in the list of slots of its function, from 0. A slot is a local or a temporary.
 #[derive(Clone, Copy, Debug, PartialEq, Eq)]
 pub struct SlotId(pub u32);
 
 /// A point, by its place in the program's list of points, from 0.
 #[derive(Clone, Copy, Debug, PartialEq, Eq)]
 pub struct PointId(pub u32);
+
+/// A part of a text, in UTF-16 code units: from `start` to just before `end`.
+#[derive(Clone, Copy, Debug, PartialEq, Eq)]
+pub struct Span {
+    /// Where it begins.
+    pub start: u32,
+    /// Where it ends.
+    pub end: u32,
+}
 
 /// Where a term takes a value from.
 #[derive(Clone, Copy, Debug, PartialEq, Eq)]
@@ -101,8 +114,8 @@ pub enum Term {
         /// The point after any other value.
         other: PointId,
     },
-    /// Goes on: the head of a loop, before its condition. Each pass comes back to it.
-    Loop {
+    /// Goes on: the entry of a function, and the head of a loop, to which each pass comes back.
+    Goto {
         /// The point after it.
         next: PointId,
     },
@@ -118,13 +131,14 @@ pub enum Term {
 }
 
 /// A point of a program.
-#[derive(Clone, Copy, Debug, PartialEq, Eq)]
+#[derive(Drop)]
 pub struct Point {
-    /// The statement that the point is made from; None where it is made from none.
-    pub source: Option<NodeId>,
-    /// What is known here, by its place in the program's table of facts, from 0. Points at which the
-    /// same is known share it.
-    pub facts: u32,
+    /// The function that it is of.
+    pub function: FunctionId,
+    /// The part of the source that the point is made from; None where it is made from none.
+    pub site: Option<Span>,
+    /// What is known here of the slots of its function.
+    pub facts: Facts,
     /// What is done here.
     pub term: Term,
 }

@@ -1,22 +1,39 @@
 //! Programs.
 
-use crate::facts::Facts;
-use crate::points::Point;
-use small_flow::{DartType, Rows};
+use crate::points::{FunctionId, Point, PointId};
+use dart_types::{DartType, Rows};
 use std::marker::Model;
 
-/// A core program of one function. Contracts see it as its value `Program`, so that programs with
-/// equal parts are equal.
+/// A function of a program. Contracts see it as its value `Function`.
+#[derive(Drop)]
+pub struct CoreFunction {
+    /// The declared type of each slot.
+    pub slots: Vec<DartType>,
+    /// The point at which a call begins.
+    pub entry: PointId,
+}
+
+impl Model for CoreFunction {
+    ghost use Rattle.core_ir.specs.Program.{Function, function_code};
+
+    ghost Value = { Function };
+
+    ghost coded = { function_code };
+
+    ghost view = { λ f. record { slots = f.slots.items; entry = f.entry } };
+}
+
+/// A core program. Contracts see it as its value `Program`, so that programs with equal parts are equal.
 #[derive(Drop)]
 pub struct CoreProgram {
     /// The rows of the classes that its types may name.
     pub rows: Rows,
-    /// The declared type of each slot.
-    pub slots: Vec<DartType>,
-    /// The table of facts, from which points take theirs by place.
-    pub facts: Vec<Facts>,
-    /// The points. A run begins at the first.
+    /// The functions.
+    pub functions: Vec<CoreFunction>,
+    /// The points of all functions.
     pub points: Vec<Point>,
+    /// The function with which a run begins.
+    pub main: FunctionId,
 }
 
 impl Model for CoreProgram {
@@ -26,5 +43,5 @@ impl Model for CoreProgram {
 
     ghost coded = { program_code };
 
-    ghost view = { λ p. record { rows = p.rows; slots = p.slots.items; facts = p.facts.items; points = p.points.items } };
+    ghost view = { λ p. record { rows = p.rows; functions = p.functions.items; points = p.points.items; main = p.main } };
 }

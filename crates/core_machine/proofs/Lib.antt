@@ -4,3 +4,4 @@ pub mod RowLemmas
 pub mod Soundness
 pub mod RunLemmas
 pub mod WrongLemmas
+pub mod BadPrograms

@@ -1,52 +1,109 @@
--- A value of a type has each supertype.
-use Rattle.std.proofs.Common.{refl}
+-- A value of a type has each supertype, and one that isn't null has the type without null.
+use Rattle.std.proofs.Common.{◌≡◌, Bool, true, false, cond, ℕ, zero, suc, refl, nat_le}
 use Rattle.std.specs.Prelude.{IsTrue}
-use Rattle.std.proofs.lemmas.Bool.{and_parts}
-use Rattle.small_flow.specs.Ty.{Ty, null, int, bool, nullable, bare_of, same_type, admits_null, non_null_of}
-use Rattle.small_flow.specs.Sub.{sub}
-use Rattle.small_flow.specs.declared.subtyping.Rows.{Rows}
-use Rattle.core_ir.specs.Values.{type_of, has}
+use Rattle.std.proofs.lemmas.Bool.{both_ways}
+use Rattle.dart_types.specs.Ty.{Ty, Types, invalid, never, void, null, interface, function, variable, promoted, nullable, no_more, more}
+use Rattle.dart_types.specs.Heads.{is_object, is_top}
+use Rattle.dart_types.specs.Laws.{RowLaws}
+use Rattle.dart_types.specs.Sizes.{size_of}
+use Rattle.dart_types.specs.Sub.{Sub, reflexivity, right_top, right_object, right_nullable, right_promoted, interface_arguments, super_interface}
+use Rattle.dart_types.specs.SubTest.{sub}
+use Rattle.dart_types.specs.Superinterfaces.{LeavesNothingOut}
+use Rattle.dart_types.specs.Tables.{Table}
+use Rattle.dart_types.specs.declared.ids.ClassId.{ClassId}
+use Rattle.dart_types.specs.declared.refusal.TheConstants.{NODE_LIMIT}
+use Rattle.type_bounds.specs.NonNull.{non_null_of, non_null_within}
+use Rattle.core_ir.specs.Program.{Program}
+use Rattle.core_ir.specs.Values.{int, bool, no_objects, type_of}
 use Rattle.core_ir.specs.declared.values.Value.{Value}
 use Rattle.core_ir.specs.declared.values.Value.TheVariants.{Null, Integer, Boolean}
-
--- what a type that admits null is below admits null
-admits_null_above : (rows : Rows) (s t : Ty) → IsTrue (admits_null s) → IsTrue (sub rows s t) → IsTrue (admits_null t)
-admits_null_above rows null t h below = below
-admits_null_above rows (nullable u) t h below = (and_parts (sub rows u t) (admits_null t) below).1
-admits_null_above rows _ t h below = cc
-
--- what a type of integers is below is a type of integers
-int_above : (rows : Rows) (s t : Ty) → IsTrue (same_type int (bare_of s)) → IsTrue (sub rows s t) → IsTrue (same_type int (bare_of t))
-int_above rows int t h below = below
-int_above rows (nullable u) t h below = int_above rows u t h (and_parts (sub rows u t) (admits_null t) below).0
-int_above rows _ t h below = cc
-
--- what a type of bools is below is a type of bools
-bool_above : (rows : Rows) (s t : Ty) → IsTrue (same_type bool (bare_of s)) → IsTrue (sub rows s t) → IsTrue (same_type bool (bare_of t))
-bool_above rows bool t h below = below
-bool_above rows (nullable u) t h below = bool_above rows u t h (and_parts (sub rows u t) (admits_null t) below).0
-bool_above rows _ t h below = cc
-
--- a value of a type has each supertype
-pub has_supertype : (rows : Rows) (v : Value) (s t : Ty) → IsTrue (has rows v s) → IsTrue (sub rows s t) → IsTrue (has rows v t)
-has_supertype rows Null s t h below = admits_null_above rows s t h below
-has_supertype rows (Integer n) s t h below = int_above rows s t h below
-has_supertype rows (Boolean b) s t h below = bool_above rows s t h below
+use Rattle.core_check.specs.Types.{without_null}
+use Rattle.core_check.specs.WellFormed.{IsWellFormed}
+use Rattle.core_machine.specs.Steps.{has_type}
+use Rattle.core_machine.specs.Values.{IsInteger, IsBoolean}
 
 -- a value has its own type
-pub has_own_type : (rows : Rows) (v : Value) → IsTrue (has rows v (type_of v))
-has_own_type rows Null = refl
-has_own_type rows (Integer n) = refl
-has_own_type rows (Boolean b) = refl
+pub has_own_type : (p : Program) → RowLaws p.rows.table → (v : Value) → IsTrue (has_type p v (type_of no_objects v))
+has_own_type p laws v = laws.sub_complete (type_of no_objects v) (type_of no_objects v) reflexivity
 
--- an integer of a type has the type without null
-pub integer_non_null : (t : Ty) → IsTrue (same_type int (bare_of t)) → IsTrue (same_type int (bare_of (non_null_of t)))
-integer_non_null int h = h
-integer_non_null (nullable u) h = integer_non_null u h
-integer_non_null _ h = cc
+-- a value of a type has each supertype
+pub has_supertype : (p : Program) → RowLaws p.rows.table → LeavesNothingOut p.rows.table → (v : Value) (s t : Ty) → IsTrue (has_type p v s) → IsTrue (sub p.rows.table s t) → IsTrue (has_type p v t)
+has_supertype p laws out v s t h below =
+    laws.sub_complete (type_of no_objects v) t (laws.sub_transitive out (type_of no_objects v) s t (laws.sub_sound (type_of no_objects v) s h) (laws.sub_sound s t below))
 
--- a bool of a type has the type without null
-pub boolean_non_null : (t : Ty) → IsTrue (same_type bool (bare_of t)) → IsTrue (same_type bool (bare_of (non_null_of t)))
-boolean_non_null bool h = h
-boolean_non_null (nullable u) h = boolean_non_null u h
-boolean_non_null _ h = cc
+-- null is no value of a class without arguments
+null_not_class : (table : Table) (c : ClassId) → sub table null (interface c no_more) ≡ false
+unfolding sub
+null_not_class table c = refl
+
+-- what has the type int is an integer, and what has the type bool a truth
+pub integer_from : (p : Program) → IsWellFormed p → (v : Value) → IsTrue (has_type p v int) → IsInteger v
+integer_from p well Null h = both_ways _ (null_not_class p.rows.table _) h
+integer_from p well (Integer n) h = tt
+integer_from p well (Boolean b) h = both_ways _ well.bool_apart h
+
+pub boolean_from : (p : Program) → IsWellFormed p → (v : Value) → IsTrue (has_type p v bool) → IsBoolean v
+boolean_from p well Null h = both_ways _ (null_not_class p.rows.table _) h
+boolean_from p well (Integer n) h = both_ways _ well.int_apart h
+boolean_from p well (Boolean b) h = tt
+
+module _ (table : Table) (c : ClassId) (ss : Types) where
+  -- a class is below Object, which stays without null
+  below_object : (n : ℕ) (t : Ty) → is_object t ≡ true → Sub table (interface c ss) (non_null_within table n t)
+  below_object zero (interface d no_more) h = right_object h refl
+  below_object (suc n) (interface d no_more) h = right_object h refl
+  below_object n (interface d (more t ts)) h = absurd cc
+  below_object n invalid h = absurd cc
+  below_object n never h = absurd cc
+  below_object n void h = absurd cc
+  below_object n null h = absurd cc
+  below_object n (function r o m e) h = absurd cc
+  below_object n (variable x) h = absurd cc
+  below_object n (promoted x t) h = absurd cc
+  below_object n (nullable t) h = absurd cc
+
+  below_top : (n : ℕ) (t : Ty) → is_top t ≡ true → Sub table (interface c ss) (non_null_within table (suc n) t)
+  below_top n void h = right_top refl
+  below_top n (nullable u) h = below_object n u h
+  below_top n invalid h = absurd cc
+  below_top n never h = absurd cc
+  below_top n null h = absurd cc
+  below_top n (interface d ts) h = absurd cc
+  below_top n (function r o m e) h = absurd cc
+  below_top n (variable x) h = absurd cc
+  below_top n (promoted x t) h = absurd cc
+
+  -- a class that is below a type is below the type without null
+  below_without : (n : ℕ) {t : Ty} → Sub table (interface c ss) t → Sub table (interface c ss) (non_null_within table n t)
+  below_without zero d = d
+  below_without (suc n) reflexivity = reflexivity
+  below_without (suc n) {t} (right_top h) = below_top n t h
+  below_without (suc n) {t} (right_object h plain) = below_object (suc n) t h
+  below_without (suc n) (right_nullable d) = below_without n d
+  below_without (suc n) (right_promoted a b) = right_promoted a (below_without n b)
+  below_without (suc n) (interface_arguments args) = interface_arguments args
+  below_without (suc n) (super_interface row is counted keeps args) = super_interface row is counted keeps args
+
+  below_non_null : (t : Ty) → Sub table (interface c ss) t → Sub table (interface c ss) (non_null_of table t)
+  unfolding non_null_of
+  below_non_null t d = below_without _ d
+
+-- a value that isn't null
+abbrev pub IsNotNull : Value → Type 0
+IsNotNull Null = ⊥
+IsNotNull (Integer n) = Unit {0}
+IsNotNull (Boolean b) = Unit {0}
+
+-- has the type without null
+pub has_without_null : (p : Program) → RowLaws p.rows.table → (v : Value) (t : Ty) → IsNotNull v → IsTrue (has_type p v t) → IsTrue (has_type p v (without_null p.rows.table t))
+has_without_null p laws Null t some h = absurd some
+has_without_null p laws (Integer n) t some h = by (nat_le (size_of (non_null_of p.rows.table t)) NODE_LIMIT)
+  where
+    by : (b : Bool) → sub p.rows.table int (cond b (non_null_of p.rows.table t) t) ≡ true
+    by true = laws.sub_complete int (non_null_of p.rows.table t) (below_non_null p.rows.table _ _ t (laws.sub_sound int t h))
+    by false = h
+has_without_null p laws (Boolean b) t some h = by (nat_le (size_of (non_null_of p.rows.table t)) NODE_LIMIT)
+  where
+    by : (b : Bool) → sub p.rows.table bool (cond b (non_null_of p.rows.table t) t) ≡ true
+    by true = laws.sub_complete bool (non_null_of p.rows.table t) (below_non_null p.rows.table _ _ t (laws.sub_sound bool t h))
+    by false = h

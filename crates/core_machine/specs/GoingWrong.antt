@@ -1,22 +1,21 @@
 -- Steps that go wrong, and for each way to go wrong a program that takes it.
-use Rattle.std.specs.Prelude.{◌≡◌, ℕ, ◌⊎◌, Bool, true, not, is_some, IsTrue, IsFalse, List, [], ◌∷◌, map, length, None, Some, pos}
+use Rattle.std.specs.Prelude.{◌≡◌, ℕ, ◌⊎◌, Bool, true, not, is_some, IsTrue, IsFalse, List, [], ◌∷◌, map, length, Some, None, pos}
 use Rattle.std.specs.List.{list_any}
-use Rattle.small_flow.specs.Ty.{int, bool}
-use Rattle.small_flow.specs.Sub.{no_rows}
+use Rattle.dart_types.specs.FormedTable.{FormedTable}
 use Rattle.core_ir.specs.Program.{Program}
-use Rattle.core_ir.specs.Values.{has, declared_of}
+use Rattle.core_ir.specs.Values.{int, bool, declared_at}
+use Rattle.core_ir.specs.declared.points.Point.{Point}
 use Rattle.core_ir.specs.declared.points.SlotId.{SlotId}
 use Rattle.core_ir.specs.declared.points.PointId.{PointId}
-use Rattle.core_ir.specs.declared.points.Point.{Point}
 use Rattle.core_ir.specs.declared.points.Operand.{Operand}
 use Rattle.core_ir.specs.declared.points.Operand.TheVariants.{Slot, Constant}
 use Rattle.core_ir.specs.declared.points.Term.{Term}
-use Rattle.core_ir.specs.declared.points.Term.TheVariants.{Store, Declare, Initialize, Add, Less, Branch, Output}
+use Rattle.core_ir.specs.declared.points.Term.TheVariants.{Store, Initialize, Add, Less, Branch, Output}
 use Rattle.core_ir.specs.declared.values.Value.{Value}
 use Rattle.core_ir.specs.declared.values.Value.TheVariants.{Null, Integer, Boolean}
-use Rattle.core_check.specs.Known.{point_at}
-use Rattle.core_check.specs.Tables.{reads}
-use Rattle.core_machine.specs.Steps.{Kind, ReadUnassignedLocal, NullMember, NoMember, NullStore, BadStore, BadArgument, NotBool, Slots, value_of}
+use Rattle.core_check.specs.Known.{function_at, point_at}
+use Rattle.core_check.specs.Shapes.{shape}
+use Rattle.core_machine.specs.Steps.{Kind, ReadUnassignedLocal, NullMember, NoMember, NullStore, BadStore, BadArgument, NotBool, Slots, has_type, value_of}
 use Rattle.core_machine.specs.State.{State}
 
 -- the term that a run stands at
@@ -29,18 +28,18 @@ lacks_value slots from = not (is_some (value_of slots from))
 
 -- a run that isn't over stands at a term that reads something without a value
 pub record ReadsNothing (p : Program) (s : State) : Type 0 where
-  pub going : IsFalse s.over
-  pub missing : IsTrue (list_any (lacks_value s.running.slots) (reads (term_of p s)))
+  pub going : s.end ≡ None
+  pub missing : IsTrue (list_any (lacks_value s.running.slots) (shape (term_of p s)).reads)
 
 -- a run that isn't over stands at a term that stores a value into a slot whose declared type it hasn't
 pub record StoresMisfit (p : Program) (s : State) (v : Value) : Type 0 where
-  pub going : IsFalse s.over
+  pub going : s.end ≡ None
   pub to : SlotId
   pub from : Operand
   pub next : PointId
   pub store : (term_of p s ≡ Store to from next) ⊎ (term_of p s ≡ Initialize to from next)
   pub held : value_of s.running.slots from ≡ Some v
-  pub misfit : IsFalse (has p.rows v (declared_of p to))
+  pub misfit : IsFalse (has_type p v (declared_at (function_at p s.running.function.0) to.0))
 
 -- a slot of the type int
 abbrev number_slot : SlotId
@@ -58,7 +57,7 @@ at k = record { 0 = k }
 
 -- terms, from the entry on, of which the last goes wrong in this way
 abbrev pub bad_terms : Kind → List Term
-bad_terms ReadUnassignedLocal = Declare number_slot (at 1) ∷ Output (Slot number_slot) (at 2) ∷ []
+bad_terms ReadUnassignedLocal = Output (Slot number_slot) (at 1) ∷ []
 bad_terms NullMember = Add number_slot (Constant Null) one (at 1) ∷ []
 bad_terms NoMember = Less truth_slot (Constant (Boolean true)) one (at 1) ∷ []
 bad_terms NullStore = Initialize number_slot (Constant Null) (at 1) ∷ []
@@ -68,11 +67,16 @@ bad_terms NotBool = Initialize number_slot one (at 1) ∷ Branch (Slot number_sl
 
 -- a point with this term
 abbrev point_of : Term → Point
-point_of term = record { source = None; facts = 0; term = term }
+point_of term = record { function = record { 0 = 0 }; site = None; facts = record { reachable = true; listed = [] }; term = term }
 
 -- the program of these terms
-abbrev pub bad_program : Kind → Program
-bad_program kind = record { rows = no_rows; slots = int ∷ bool ∷ []; facts = []; points = map point_of (bad_terms kind) }
+abbrev pub bad_program : FormedTable → Kind → Program
+bad_program rows kind = record {
+  rows = rows;
+  functions = record { slots = int ∷ bool ∷ []; entry = at 0 } ∷ [];
+  points = map point_of (bad_terms kind);
+  main = record { 0 = 0 };
+}
 
 -- how many steps it takes until it goes wrong
 abbrev pub bad_steps : Kind → ℕ

@@ -1,5 +1,6 @@
 -- The step table: what the row of each term does, or how it goes wrong.
-use Rattle.std.specs.Prelude.{ℤ, true, false, not, if◌then◌else◌, List, Option, Some, None, slice_index_or}
+use Rattle.std.specs.Prelude.{ℤ, Bool, true, false, not, if◌then◌else◌, List, Option, Some, None, slice_index_or}
+use Rattle.dart_types.specs.Ty.{Ty}
 use Rattle.core_ir.specs.declared.points.SlotId.{SlotId}
 use Rattle.core_ir.specs.declared.points.PointId.{PointId}
 use Rattle.core_ir.specs.declared.values.Value.{Value}
@@ -7,11 +8,12 @@ use Rattle.core_ir.specs.declared.values.Value.TheVariants.{Null, Integer, Boole
 use Rattle.core_ir.specs.declared.points.Operand.{Operand}
 use Rattle.core_ir.specs.declared.points.Operand.TheVariants.{Slot, Constant}
 use Rattle.core_ir.specs.declared.points.Term.{Term}
-use Rattle.core_ir.specs.declared.points.Term.TheVariants.{Store, Declare, Initialize, Add, Less, NotEqual, Branch, TestNull, Loop, Output, End}
-use Rattle.core_ir.specs.Program.{Program}
+use Rattle.core_ir.specs.declared.points.Term.TheVariants.{Store, Declare, Initialize, Add, Less, NotEqual, Branch, TestNull, Goto, Output, End}
+use Rattle.core_ir.specs.Program.{Function, Program}
 use Rattle.core_machine.specs.declared.effect.Effect.{Effect}
 use Rattle.core_machine.specs.declared.effect.Effect.TheVariants.{Write, Go, Print, Stop}
-use Rattle.core_ir.specs.Values.{has, declared_of}
+use Rattle.core_ir.specs.Values.{no_objects, no_arguments, has, declared_at}
+use Rattle.core_machine.specs.declared.effect.RunEnd.TheVariants.{Done}
 use Rattle.core_machine.specs.Values.{sum_of, less_of, same_value}
 
 -- how a row goes wrong
@@ -60,9 +62,13 @@ store_fault Null = NullStore
 store_fault (Integer n) = BadStore
 store_fault (Boolean b) = BadStore
 
+-- whether a value has a type, in a run without objects and a frame without type arguments
+abbrev pub has_type : Program → Value → Ty → Bool
+has_type p v t = has p.rows.table no_objects no_arguments v t
+
 -- writes a value into a slot, whose declared type it must have
-abbrev pub put : Program → SlotId → PointId → Value → Row
-put p to next v = if has p.rows v (declared_of p to) then Does (Write to (Some v) next) else Fails (store_fault v)
+abbrev pub put : Program → Function → SlotId → PointId → Value → Row
+put p g to next v = if has_type p v (declared_at g to.0) then Does (Write to (Some v) next) else Fails (store_fault v)
 
 -- an operator of int on a receiver and an argument, which both must be integers
 abbrev pub on_integers : (ℤ → ℤ → Value) → (Value → Row) → Value → Value → Row
@@ -85,22 +91,22 @@ if_null null other Null = null
 if_null null other (Integer n) = other
 if_null null other (Boolean b) = other
 
--- the row of a term, by what the slots hold
-abbrev pub row : Program → Slots → Term → Row
-row p slots (Store to from next) = with_value (value_of slots from) (put p to next)
-row p slots (Declare slot next) = Does (Write slot None next)
-row p slots (Initialize slot from next) = with_value (value_of slots from) (put p slot next)
-row p slots (Add to left right next) =
-    with_value (value_of slots left) (λ a. with_value (value_of slots right) (on_integers sum_of (put p to next) a))
-row p slots (Less to left right next) =
-    with_value (value_of slots left) (λ a. with_value (value_of slots right) (on_integers less_of (put p to next) a))
-row p slots (NotEqual to left right next) =
-    with_value (value_of slots left) (λ a. with_value (value_of slots right) (λ b. put p to next (Boolean (not (same_value a b)))))
-row p slots (Branch on when_true when_false) = with_value (value_of slots on) (choose when_true when_false)
-row p slots (TestNull slot null other) = with_value (value_at slots slot) (λ v. Does (Go (if_null null other v)))
-row p slots (Loop next) = Does (Go next)
-row p slots (Output from next) = with_value (value_of slots from) (λ v. Does (Print v next))
-row p slots End = Does Stop
+-- the row of a term of a function, by what the slots hold
+abbrev pub row : Program → Function → Slots → Term → Row
+row p g slots (Store to from next) = with_value (value_of slots from) (put p g to next)
+row p g slots (Declare slot next) = Does (Write slot None next)
+row p g slots (Initialize slot from next) = with_value (value_of slots from) (put p g slot next)
+row p g slots (Add to left right next) =
+    with_value (value_of slots left) (λ a. with_value (value_of slots right) (on_integers sum_of (put p g to next) a))
+row p g slots (Less to left right next) =
+    with_value (value_of slots left) (λ a. with_value (value_of slots right) (on_integers less_of (put p g to next) a))
+row p g slots (NotEqual to left right next) =
+    with_value (value_of slots left) (λ a. with_value (value_of slots right) (λ b. put p g to next (Boolean (not (same_value a b)))))
+row p g slots (Branch on when_true when_false) = with_value (value_of slots on) (choose when_true when_false)
+row p g slots (TestNull slot null other) = with_value (value_at slots slot) (λ v. Does (Go (if_null null other v)))
+row p g slots (Goto next) = Does (Go next)
+row p g slots (Output from next) = with_value (value_of slots from) (λ v. Does (Print v next))
+row p g slots End = Does (Stop Done)
 
 -- a row does something
 abbrev pub IsDoing : Row → Type 0

@@ -6,12 +6,12 @@ ghost use Rattle.core_machine.specs.Values.{sum_of, less_of, same_value, IsInteg
 ghost use Rattle.core_machine.specs.Steps.{value_of, Does, IsDoing};
 ghost use Rattle.core_machine.specs.State.{row_at};
 
-use crate::effect::Effect;
+use crate::effect::{Effect, RunEnd};
 use crate::frame::Frame;
 use core_ir::{CoreProgram, Operand, PointId, SlotId, Term, Value};
 
 /// What the row of the term that a frame stands at does.
-pub fn decide(program: &CoreProgram, frame: &Frame) -> Effect
+pub(crate) fn decide(program: &CoreProgram, frame: &Frame) -> Effect
     requires inside { frame.now.point.0 < length program.now.points }
     requires doing { IsDoing (row_at program.now frame.now) }
     ensures { row_at program.now frame.now ≡ Does result }
@@ -72,12 +72,12 @@ pub fn decide(program: &CoreProgram, frame: &Frame) -> Effect
             };
             Effect::Go { next }
         }
-        Term::Loop { next } => Effect::Go { next },
+        Term::Goto { next } => Effect::Go { next },
         Term::Output { from, next } => Effect::Print {
             value: read(slots, from),
             next,
         },
-        Term::End => Effect::Stop,
+        Term::End => Effect::Stop { end: RunEnd::Done },
     }
 }
 

@@ -2,9 +2,16 @@
 
 use core_ir::{PointId, SlotId, Value};
 
+/// How a run ended.
+#[derive(Clone, Copy, Debug, PartialEq, Eq)]
+pub enum RunEnd {
+    /// The program was done.
+    Done,
+}
+
 /// What a step does to a run.
 #[derive(Clone, Copy)]
-pub enum Effect {
+pub(crate) enum Effect {
     /// A slot is given a value, or left without one, and the frame goes on.
     Write {
         /// The slot.
@@ -26,6 +33,9 @@ pub enum Effect {
         /// Where the frame goes on.
         next: PointId,
     },
-    /// The run is done.
-    Stop,
+    /// The run is over.
+    Stop {
+        /// How it ended.
+        end: RunEnd,
+    },
 }

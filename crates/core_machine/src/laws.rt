@@ -1,18 +1,20 @@
 //! Laws of runs. Each is the contract of a function that does no work.
 
-ghost use Rattle.std.specs.Prelude.{◌≡◌, ◌≢◌, ℕ, ◌+◌, IsTrue, List, Some};
-ghost use Rattle.core_ir.specs.Values.{has, declared_of};
+ghost use Rattle.std.specs.Prelude.{◌≡◌, ◌≢◌, ℕ, ◌+◌, IsTrue, IsSome, List, [], Some};
+ghost use Rattle.core_ir.specs.Program.{Function};
+ghost use Rattle.core_ir.specs.Values.{declared_at};
 ghost use Rattle.core_ir.specs.declared.points.PointId.{PointId};
 ghost use Rattle.core_ir.specs.declared.points.SlotId.{SlotId};
 ghost use Rattle.core_ir.specs.declared.points.Term.{Term};
 ghost use Rattle.core_ir.specs.declared.values.Value.{Value};
-ghost use Rattle.core_machine.specs.Steps.{Kind, ReadUnassignedLocal, Slots, Does, row, store_fault};
+ghost use Rattle.core_machine.specs.Steps.{Kind, ReadUnassignedLocal, Slots, Does, has_type, row, store_fault};
 ghost use Rattle.core_machine.specs.GoingWrong.{ReadsNothing, StoresMisfit, bad_program, bad_steps};
 ghost use Rattle.core_machine.specs.declared.effect.Effect.TheVariants.{Write};
-ghost use Rattle.core_machine.specs.State.{State, Done, Wrong, step_of, run_of, preceded_by, leads_preceded_by};
+ghost use Rattle.core_machine.specs.State.{State, Reaches, Wrong, step_of, run_of, preceded_by, leads_preceded_by};
 
 use core_check::Accepted;
 use core_ir::CoreProgram;
+use dart_types::Rows;
 
 /// No number of steps of an accepted program goes wrong.
 pub fn never_wrong(program: &Accepted)
@@ -22,9 +24,10 @@ pub fn never_wrong(program: &Accepted)
     let _ = program.program();
 }
 
-/// For each way to go wrong there is a program whose run takes it.
-pub fn each_way_to_go_wrong_is_taken()
-    ensures { (k : Kind) → run_of (bad_program k) (bad_steps k) ≡ Wrong k }
+/// For each way to go wrong there is a program whose run takes it, over any rows of no class.
+pub fn each_way_to_go_wrong_is_taken(_rows: &Rows)
+    requires { _rows.now.table.classes ≡ [] }
+    ensures { (k : Kind) → run_of (bad_program _rows.now k) (bad_steps k) ≡ Wrong k }
 {}
 
 /// Whatever the program: a step that reads a slot without a value goes wrong, and so does one that
@@ -32,14 +35,14 @@ pub fn each_way_to_go_wrong_is_taken()
 pub fn misuse_goes_wrong(_program: &CoreProgram)
     ensures read { (s : State) → ReadsNothing _program.now s → step_of _program.now s ≡ Wrong ReadUnassignedLocal }
     ensures stored { (s : State) (v : Value) → StoresMisfit _program.now s v → step_of _program.now s ≡ Wrong (store_fault v) }
-    ensures written { (slots : Slots) (term : Term) (to : SlotId) (v : Value) (next : PointId)
-        → row _program.now slots term ≡ Does (Write to (Some v) next) → IsTrue (has _program.now.rows v (declared_of _program.now to)) }
+    ensures written { (g : Function) (slots : Slots) (term : Term) (to : SlotId) (v : Value) (next : PointId)
+        → row _program.now g slots term ≡ Does (Write to (Some v) next) → IsTrue (has_type _program.now v (declared_at g to.0)) }
 {}
 
 /// A run of any program that is over stays as it is, whatever number of steps follows.
 pub fn a_run_that_is_over_stays(_program: &CoreProgram)
-    ensures step { (s t : State) → step_of _program.now s ≡ Done t → step_of _program.now t ≡ Done t }
-    ensures run { (n more : ℕ) (s : State) → run_of _program.now n ≡ Done s → run_of _program.now (n + more) ≡ Done s }
+    ensures step { (s t : State) → step_of _program.now s ≡ Reaches t → IsSome t.end → step_of _program.now t ≡ Reaches t }
+    ensures run { (n more : ℕ) (s : State) → run_of _program.now n ≡ Reaches s → IsSome s.end → run_of _program.now (n + more) ≡ Reaches s }
 {}
 
 /// What was printed before changes no step, and no step changes it. So what is taken out of a

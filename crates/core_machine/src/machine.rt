@@ -1,13 +1,14 @@
 //! The machine.
 
-ghost use Rattle.std.specs.Prelude.{◌≡◌, IfOk, OnErr, [], List, ℕ};
-ghost use Rattle.core_machine.specs.State.{start, step_of, told};
+ghost use Rattle.std.specs.Prelude.{◌≡◌, IfOk, OnErr, [], Option, ◌<◌, length};
+ghost use Rattle.core_machine.specs.State.{Reaches, start, step_of, turn_of, main_of};
 
 use crate::decide::decide;
-use crate::effect::Effect;
+use crate::effect::{Effect, RunEnd};
 use crate::frame::Frame;
 use crate::print::print;
 use core_check::Accepted;
+use core_ir::{CoreFunction, CoreProgram};
 use std::alloc::{AllocError, Global};
 use std::marker::Model;
 use std::mem;
@@ -17,7 +18,7 @@ use std::mem;
 pub enum Turn {
     /// The run went on.
     Went,
-    /// The run is over.
+    /// The run is over: the program was done.
     Done,
 }
 
@@ -32,7 +33,7 @@ pub struct Machine {
     running: Frame,
     waiting: Vec<Frame>,
     output: Vec<u8>,
-    over: bool,
+    end: Option<RunEnd>,
 }
 
 impl Model for Machine {
@@ -44,26 +45,35 @@ impl Model for Machine {
 
     ghost coded = { coded× program_code state_code };
 
-    ghost view = { λ m. (m.program, record { running = m.running; waiting = m.waiting.items; output = m.output.items; over = m.over }) };
+    ghost view = { λ m. (m.program, record { running = m.running; waiting = m.waiting.items; output = m.output.items; end = m.end }) };
 
     ghost use Rattle.core_machine.specs.Sound.{FramesFit};
 
     ghost invariant = { λ m. FramesFit m.program m.running m.waiting.items };
 }
 
+// The function with which a run begins.
+fn main_function(program: &CoreProgram) -> &CoreFunction
+    requires { program.now.main.0 < length program.now.functions }
+    ensures { result.now ≡ main_of program.now }
+{
+    &program.functions[program.main.0 as usize]
+}
+
 impl Machine {
-    /// A run that stands at the entry of a program.
+    /// A run that stands at the entry of `main`.
     pub fn new(alloc: Global, program: Accepted) -> Result<Machine, AllocError>
         ensures { IfOk result (λ m. m ≡ (program, start program)) }
     {
-        let running = Frame::enter(alloc, program.program().slots.len())?;
+        let core = program.program();
+        let running = Frame::enter(alloc, core.main, main_function(core))?;
         Ok(Machine {
             alloc,
             program,
             running,
             waiting: Vec::new(alloc),
             output: Vec::new(alloc),
-            over: false,
+            end: None,
         })
     }
 
@@ -71,10 +81,10 @@ impl Machine {
     /// further call answers the same and changes nothing. After an `Err` the run is as before.
     pub fn step(&mut self) -> Result<Turn, AllocError>
         ensures program { self.new.0 ≡ self.old.0 }
-        ensures ok { IfOk result (λ turn. step_of self.old.0 self.old.1 ≡ told turn self.new.1) }
+        ensures ok { IfOk result (λ turn. (step_of self.old.0 self.old.1 ≡ Reaches self.new.1) × (turn ≡ turn_of self.new.1.end)) }
         ensures err { OnErr result (self.new ≡ self.old) }
     {
-        if self.over {
+        if let Some(RunEnd::Done) = self.end {
             return Ok(Turn::Done);
         }
         match decide(self.program.program(), &self.running) {
@@ -91,8 +101,8 @@ impl Machine {
                 self.running.go(next);
                 Ok(Turn::Went)
             }
-            Effect::Stop => {
-                self.over = true;
+            Effect::Stop { end } => {
+                self.end = Some(end);
                 Ok(Turn::Done)
             }
         }

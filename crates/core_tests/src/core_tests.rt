@@ -7,15 +7,15 @@
 
 ghost use Rattle.std.specs.Prelude.{◌≡◌, [], IfOk};
 
-use core_accept::{
+use core_check::{
     AcceptRefusal, Accepted, accept, faults_are_clauses_that_fail, is_well_formed,
     rows_of_no_class_leave_nothing_out,
 };
-use core_program::{
+use core_ir::{
     CoreFunction, CoreProgram, Facts, FunctionId, Held, Known, Operand, Point, PointId, SharedFact,
     SlotFact, SlotId, Term, Value,
 };
-use core_runs::{
+use core_machine::{
     Machine, Turn, a_run_that_is_over_stays, each_way_to_go_wrong_is_taken, misuse_goes_wrong,
     never_wrong, steps_add_to_what_was_printed,
 };
@@ -44,7 +44,7 @@ const POINTS: &str = "\
 0 initialize x null 1
 1 initialize y 0 2
 2 initialize z 1 3
-3 loop 4
+3 goto 4
 3 less t y 3 5
 4 branch t 6 10
 4 test_null x 8 7
@@ -60,12 +60,12 @@ const POINTS: &str = "\
 // which `/` is a line feed.
 const CHANGED: &str = "\
 -- a loop with a test for null
-3:3 loop 4 = 12 points, 19 steps: 3/
+3:3 goto 4 = 12 points, 19 steps: 3/
 -- a constant that never lets the loop end
 5:4 branch true 6 10;10:6 output x 11 = 12 points, 100 steps: 
 -- a term goes to its own point, or names a point or a slot that there is none of
-3:3 loop 3 = ill formed
-3:3 loop 12 = ill formed
+3:3 goto 3 = ill formed
+3:3 goto 12 = ill formed
 3:3 store s4 null 4 = ill formed
 -- it prints a slot that has no value
 10:3 output t 11 = rejected at 10: invalid, invalid
@@ -238,9 +238,9 @@ fn term_in(text: &str) -> Result<Term, Fail> {
             let next = words.point()?;
             Ok(Term::Declare { slot, next })
         }
-        "loop" => {
+        "goto" => {
             let next = words.point()?;
-            Ok(Term::Loop { next })
+            Ok(Term::Goto { next })
         }
         "output" => {
             let from = words.operand()?;

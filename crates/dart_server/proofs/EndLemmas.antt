@@ -5,14 +5,16 @@ use Rattle.fault_io.specs.Stored.{Stored, bytes_at}
 use Rattle.fault_io.specs.declared.traits.WriteRefusal.{WriteRefusal}
 use Rattle.fault_io.specs.declared.traits.WriteRefusal.TheVariants as Cut
 use Rattle.proto_json.specs.declared.reply.ErrorRow.{ErrorRow}
-use Rattle.small_tree.specs.Tree.{Tree}
-use Rattle.check_library.specs.Units.{tree_of}
-use Rattle.core_machine.specs.State.{Outcome, Went, Done as Ended, Wrong, run_of}
+use Rattle.dart_tree.specs.Tree.{Tree}
+use Rattle.check_library.specs.Units.{body_of}
+use Rattle.core_machine.specs.State.{Outcome, Reaches, Wrong, run_of}
+use Rattle.core_machine.specs.declared.effect.RunEnd.{RunEnd}
+use Rattle.core_machine.specs.declared.effect.RunEnd.TheVariants.{Done as Ended}
 use Rattle.dart_server.specs.declared.status.Status.{Status}
 use Rattle.dart_server.specs.declared.status.Status.TheVariants.{Done, Errors, Refused, Threw, Memory, StepsSpent, ReadFault, WriteFault, FilesFault, InputSpent}
 use Rattle.load_files.specs.Paths.{is_library}
 use Rattle.load_files.specs.declared.loading.TheConstants.{MAX_BYTES}
-use Rattle.dart_server.specs.Run.{library_of, rows_of_file, Prints, UnitGives, RowsGive, BytesGive, RunGives, Writes, status_after, RunOutput}
+use Rattle.dart_server.specs.Run.{library_of, rows_of_file, PrintsBy, Prints, UnitGives, RowsGive, BytesGive, RunGives, Writes, status_after, RunOutput}
 
 -- the statuses of whole outputs
 abbrev IsWholeStatus : Status → Type 0
@@ -22,17 +24,20 @@ IsWholeStatus Refused = Unit {0}
 IsWholeStatus StepsSpent = Unit {0}
 IsWholeStatus _ = ⊥
 
+status_of_end : (end : Option RunEnd) (printed output : List ℕ) (status : Status) → PrintsBy end printed output status → IsWholeStatus status
+status_of_end (Some Ended) printed output status prints = subst IsWholeStatus (sym prints.1) tt
+status_of_end None printed output status prints = subst IsWholeStatus (sym prints.1) tt
+
 status_of_prints : (o : Outcome) (output : List ℕ) (status : Status) → Prints o output status → IsWholeStatus status
-status_of_prints (Ended s) output status prints = subst IsWholeStatus (sym prints.1) tt
-status_of_prints (Went s) output status prints = subst IsWholeStatus (sym prints.1) tt
+status_of_prints (Reaches s) output status prints = status_of_end s.end s.output output status prints
 status_of_prints (Wrong kind) output status prints = absurd prints
 
-status_of_unit : (steps : ℕ) (tree : Option Tree) (output : List ℕ) (status : Status) → UnitGives steps tree output status → IsWholeStatus status
-status_of_unit steps None output status gives = subst IsWholeStatus (sym gives.1) tt
-status_of_unit steps (Some tree) output status gives = status_of_prints (run_of gives.program steps) output status gives.prints
+status_of_unit : (text : List ℕ) (steps : ℕ) (body : Option Tree) (output : List ℕ) (status : Status) → UnitGives text steps body output status → IsWholeStatus status
+status_of_unit text steps None output status gives = subst IsWholeStatus (sym gives.1) tt
+status_of_unit text steps (Some body) output status gives = status_of_prints (run_of gives.program steps) output status gives.prints
 
 status_of_rows : (bytes : List ℕ) (steps : ℕ) (rows : List ErrorRow) (output : List ℕ) (status : Status) → RowsGive bytes steps rows output status → IsWholeStatus status
-status_of_rows bytes steps [] output status gives = status_of_unit steps (tree_of bytes) output status gives
+status_of_rows bytes steps [] output status gives = status_of_unit bytes steps (body_of bytes) output status gives
 status_of_rows bytes steps (row ∷ rows) output status gives = subst IsWholeStatus (sym gives.1) tt
 
 status_of_bytes : (file : List ℕ) (steps : ℕ) (bytes : List ℕ) (passes : Bool) (output : List ℕ) (status : Status) → BytesGive file steps bytes passes output status → IsWholeStatus status

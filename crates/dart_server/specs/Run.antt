@@ -9,15 +9,18 @@ use Rattle.fault_io.specs.Stored.{Stored, bytes_at}
 use Rattle.fault_io.specs.declared.traits.WriteRefusal.{WriteRefusal}
 use Rattle.fault_io.specs.declared.traits.WriteRefusal.TheVariants as Cut
 use Rattle.proto_json.specs.declared.reply.ErrorRow.{ErrorRow}
-use Rattle.judgement.specs.declared.DiagnosticCode.TheVariants.{FileNotUtf8, ProfileFileLength}
-use Rattle.small_tree.specs.Tree.{Tree}
-use Rattle.check_library.specs.Units.{tree_of}
+use Rattle.judgement.specs.declared.code.DiagnosticCode.TheVariants.{FileNotUtf8, ProfileFileLength}
+use Rattle.dart_scan.specs.Scanned.{words_of}
+use Rattle.dart_tree.specs.Tree.{Tree}
+use Rattle.check_library.specs.Units.{outside_of, body_of, core_table}
 use Rattle.check_library.specs.Diagnostics.{diagnostics}
 use Rattle.diagnostics.specs.Rendering.{rows_of, lines_of_rows}
 use Rattle.core_ir.specs.Program.{Program}
 use Rattle.core_machine.specs.Steps.{Kind}
-use Rattle.core_machine.specs.State.{Outcome, Went, Done as Ended, Wrong, run_of}
-use Rattle.elaborate.specs.Elaborated.{IsElaborationOf}
+use Rattle.core_machine.specs.State.{Outcome, Reaches, Wrong, run_of}
+use Rattle.core_machine.specs.declared.effect.RunEnd.{RunEnd}
+use Rattle.core_machine.specs.declared.effect.RunEnd.TheVariants.{Done as Ended}
+use Rattle.elaborate.specs.Elaborated.{elaborated}
 use Rattle.load_files.specs.Paths.{is_library}
 use Rattle.load_files.specs.declared.loading.TheConstants.{MAX_BYTES}
 use Rattle.protocol_rules.specs.Files.{no_text}
@@ -55,27 +58,32 @@ rows_of_file file bytes =
 abbrev pub Says : (text : List ℕ) → (given : Status) → (output : List ℕ) → Status → Type 0
 Says text given output status = (output ≡ text) × (status ≡ given)
 
--- the whole output of a run whose steps lead there, and its status: what it printed, and where it hasn't ended, that its steps are spent; no run goes wrong
+-- the whole output of a run that printed this, by how it ended, and its status: what it printed, and where it hasn't ended, that its steps are spent
+abbrev pub PrintsBy : Option RunEnd → (printed : List ℕ) → (output : List ℕ) → Status → Type 0
+PrintsBy (Some Ended) printed output status = Says printed Done output status
+PrintsBy None printed output status = Says (printed ++ steps_spent_line) StepsSpent output status
+
+-- the same of a run whose steps lead there; no run goes wrong
 abbrev pub Prints : Outcome → (output : List ℕ) → Status → Type 0
-Prints (Ended s) output status = Says s.output Done output status
-Prints (Went s) output status = Says (s.output ++ steps_spent_line) StepsSpent output status
+Prints (Reaches s) output status = PrintsBy s.end s.output output status
 Prints (Wrong kind) output status = ⊥
 
--- the output and the status of what is run of a text in which nothing is wrong: those of its core program after so many steps; no number of steps of that program goes wrong
-pub record ProgramGives (tree : Tree) (steps : ℕ) (output : List ℕ) (status : Status) : Type 0 where
+-- the output and the status of what is run of a text in which nothing is wrong, the body of its function `main`: those of its core program after so many steps, which is made with the classes that the body was judged with; no number of steps of that program goes wrong
+pub record ProgramGives (text : List ℕ) (body : Tree) (steps : ℕ) (output : List ℕ) (status : Status) : Type 0 where
   pub program : Program
-  pub program_is : IsElaborationOf tree program
+  pub rows_are : program.rows.table ≡ core_table
+  pub program_is : program ≡ elaborated program.rows (words_of text) (outside_of text) body
   pub prints : Prints (run_of program steps) output status
   pub sound : (n : ℕ) (kind : Kind) → run_of program n ≢ Wrong kind
 
 -- the output and the status of a text in which nothing is wrong, by what of it is run: it may have no function `main`
-abbrev pub UnitGives : (steps : ℕ) → Option Tree → (output : List ℕ) → Status → Type 0
-UnitGives steps None output status = Says no_main_line Refused output status
-UnitGives steps (Some tree) output status = ProgramGives tree steps output status
+abbrev pub UnitGives : (text : List ℕ) (steps : ℕ) → Option Tree → (output : List ℕ) → Status → Type 0
+UnitGives text steps None output status = Says no_main_line Refused output status
+UnitGives text steps (Some body) output status = ProgramGives text body steps output status
 
 -- the output and the status of a file that has these rows: their lines, or where there are none, those of its program
 abbrev pub RowsGive : (bytes : List ℕ) (steps : ℕ) → List ErrorRow → (output : List ℕ) → Status → Type 0
-RowsGive bytes steps [] output status = UnitGives steps (tree_of bytes) output status
+RowsGive bytes steps [] output status = UnitGives bytes steps (body_of bytes) output status
 RowsGive bytes steps (row ∷ rows) output status = Says (lines_of_rows (row ∷ rows)) Errors output status
 
 -- the output and the status of a library's bytes, by whether they pass the limit

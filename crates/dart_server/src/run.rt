@@ -1,34 +1,37 @@
 //! The run of a file.
 
-ghost use Rattle.std.specs.Prelude.{◌≡◌, ◌≢◌, ℕ, ◌<◌, true, false, nat_lt, List, [], ◌∷◌, ◌++◌, Some, Err, IfOk, OnOk, OnErr, length, take};
+ghost use Rattle.std.specs.Prelude.{◌≡◌, ◌≢◌, ℕ, ◌<◌, true, false, nat_lt, List, [], ◌∷◌, ◌++◌, Some, Err, IfOk, OnOk, OnErr, length, take, option_map};
 ghost use Rattle.fault_io.specs.Bytes.{and_then};
 ghost use Rattle.fault_io.specs.Faults.{Rose, one_more};
 ghost use Rattle.load_files.specs.Paths.{is_library};
 ghost use Rattle.protocol_rules.specs.Files.{no_text};
-ghost use Rattle.check_library.specs.Checked.{IsFaultless};
+ghost use Rattle.check_library.specs.Checked.{IsFaultless, main_of_checked};
 ghost use Rattle.check_library.specs.Diagnostics.{diagnostics};
 ghost use Rattle.diagnostics.specs.Rendering.{rows_of, lines_of_rows};
-ghost use Rattle.elaborate.specs.Elaborated.{IsElaborationOf};
+ghost use Rattle.elaborate.specs.Elaborated.{elaborated};
 ghost use Rattle.core_machine.specs.Steps.{Kind};
-ghost use Rattle.core_machine.specs.State.{Wrong, run_of, step_of, told};
+ghost use Rattle.core_machine.specs.State.{Reaches, Wrong, run_of, step_of, turn_of};
 ghost use Rattle.dart_server.specs.Words.{Run};
 ghost use Rattle.dart_server.specs.Output.{MayEnd};
 ghost use Rattle.dart_server.specs.Run.{no_library_line, rows_of_file, Prints, Says, RowsGive, BytesGive, Writes, Counts, status_after, RunOutput};
 
 use crate::status::Status;
 use check_library::{Checked, check};
-use core_check::{Accepted, accept, faults_are_clauses_that_fail};
+use core_check::{
+    AcceptRefusal, Accepted, accept, faults_are_clauses_that_fail,
+    rows_of_no_class_leave_nothing_out,
+};
 use core_machine::{
     Machine, Turn, a_run_that_is_over_stays, never_wrong, steps_add_to_what_was_printed,
 };
 use dart_text::{Text, TextRefusal};
+use dart_tree::{Body, Span};
 use diagnostics::{lines_of, render};
 use elaborate::elaborate;
 use fault_io::{Files, FilesRefusal, Sink, WriteRefusal, write_all_of};
 use judgement::{DiagnosticCode, Fault};
 use load_files::MAX_BYTES;
 use protocol_rules::{empty_text, is_library};
-use small_tree::{Span, Unit};
 use std::alloc::{AllocError, Global};
 
 /// What a run prints is written where it has come to so many bytes, and at its end.
@@ -91,21 +94,25 @@ fn report_file<K: Sink>(
     report(alloc, sink, file, &empty, &[Fault { span, code }])
 }
 
-/// The core program of what is run of a library in whose text nothing is wrong. It is accepted, and
-/// no number of its steps goes wrong.
-fn program_of(alloc: Global, checked: &Checked, unit: &Unit) -> Result<Accepted, AllocError>
+/// The core program of what is run of a library in whose text nothing is wrong, the body of its
+/// function `main`. It is accepted, and no number of its steps goes wrong.
+fn program_of(alloc: Global, checked: &Checked, body: &Body) -> Result<Accepted, AllocError>
     requires faultless { IsFaultless checked.now }
-    requires unit { checked.now.unit ≡ Some unit.now }
-    ensures program { IfOk result (IsElaborationOf unit.now) }
+    requires body { option_map (λ main. main.1) (main_of_checked checked.now) ≡ Some body.now }
+    ensures program { IfOk result (λ program. program ≡ elaborated checked.now.rows checked.now.unit.words checked.now.forms.outside.items body.now) }
     ensures sound { IfOk result (λ program. (n : ℕ) (kind : Kind) → run_of program n ≢ Wrong kind) }
 {
-    let program = elaborate(alloc, checked, unit)?;
+    let program = elaborate(alloc, checked, body)?;
     faults_are_clauses_that_fail(&program);
-    let Ok(accepted) = accept(alloc, program) else {
-        unreachable!()
-    };
-    never_wrong(&accepted);
-    Ok(accepted)
+    rows_of_no_class_leave_nothing_out(&checked.rows);
+    match accept(alloc, program) {
+        Ok(accepted) => {
+            never_wrong(&accepted);
+            Ok(accepted)
+        }
+        Err(AcceptRefusal::Rejected { .. }) => unreachable!(),
+        Err(AcceptRefusal::Memory) => Err(AllocError),
+    }
 }
 
 /// Takes a step, and puts what it prints behind what was printed before.
@@ -113,7 +120,8 @@ fn step_into(machine: &mut Machine, printed: &mut Vec<u8>) -> Result<Turn, Alloc
     ensures program { machine.new.0 ≡ machine.old.0 }
     ensures taken { OnOk result (machine.new.1.output ≡ []) }
     ensures step { IfOk result (λ turn. (more : List ℕ) × (printed.new.items ≡ printed.old.items ++ more)
-        × (step_of machine.old.0 machine.old.1 ≡ told turn (record machine.new.1 { output = more }))) }
+        × (step_of machine.old.0 machine.old.1 ≡ Reaches (record machine.new.1 { output = more }))
+        × (turn ≡ turn_of machine.new.1.end)) }
 {
     let turn = machine.step()?;
     let more = machine.take_output();
@@ -184,9 +192,9 @@ fn run_text<K: Sink>(
     if !faults.is_empty() {
         return report(alloc, sink, file, text, faults);
     }
-    match &checked.unit {
-        Some(unit) => {
-            let program = program_of(alloc, &checked, unit)?;
+    match checked.main() {
+        Some(body) => {
+            let program = program_of(alloc, &checked, body)?;
             run_program(alloc, sink, program, steps)
         }
         None => say(alloc, sink, NO_MAIN, Status::Refused),

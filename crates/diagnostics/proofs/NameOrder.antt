@@ -3,9 +3,9 @@ use Rattle.std.proofs.Common.{◌≡◌, ℕ, suc, zero, Bool, true, false, ◌&
 use Rattle.std.proofs.lemmas.Bool.{and_parts}
 use Rattle.std.specs.declared.cmp.Ordering.{Ordering}
 use Rattle.std.specs.declared.cmp.Ordering.TheVariants.{Less, Equal, Greater}
-use Rattle.judgement.specs.declared.DiagnosticCode.{DiagnosticCode}
-use Rattle.judgement.specs.declared.DiagnosticCode.TheVariants.{ArgumentType, BadEscape, ConditionNotBool, DuplicateDefinition, FileNotUtf8, IllegalCharacter, IntegerLiteralOutOfRange, InvalidAssignment, NotBuilt, ProfileAnnotation, ProfileAssert, ProfileAsync, ProfileCollectionElement, ProfileConditionalUri, ProfileConst, ProfileContinueCase, ProfileCovariant, ProfileDeferred, ProfileDouble, ProfileEnum, ProfileExtension, ProfileExternal, ProfileFileLength, ProfileIdentifier, ProfileLate, ProfileMixinApplication, ProfileNesting, ProfileRedirectingFactory, ProfileSymbol, ProfileTripleShift, ProfileTypedef, ReferencedBeforeDeclaration, SyntaxError, UnassignedRead, UncheckedNullableUse, UnclosedGroup, UndefinedName, UndefinedOperator, UnopenedGroup, UnterminatedComment, UnterminatedString}
-use Rattle.judgement.specs.contracts.DiagnosticCodeOrd.TheImpl as code
+use Rattle.judgement.specs.declared.code.DiagnosticCode.{DiagnosticCode}
+use Rattle.judgement.specs.declared.code.DiagnosticCode.TheVariants.{ArgumentType, BadEscape, ConditionNotBool, DuplicateDefinition, FileNotUtf8, IllegalCharacter, IntegerLiteralOutOfRange, InvalidAssignment, NotBuilt, ProfileAnnotation, ProfileAssert, ProfileAsync, ProfileCollectionElement, ProfileConditionalUri, ProfileConst, ProfileContinueCase, ProfileCovariant, ProfileDeferred, ProfileDouble, ProfileEnum, ProfileExtension, ProfileExternal, ProfileFileLength, ProfileIdentifier, ProfileLate, ProfileMixinApplication, ProfileNesting, ProfileRedirectingFactory, ProfileSymbol, ProfileTripleShift, ProfileTypedef, ReferencedBeforeDeclaration, SyntaxError, UnassignedRead, UncheckedNullableUse, UnclosedGroup, UndefinedName, UndefinedOperator, UnopenedGroup, UnterminatedComment, UnterminatedString}
+use Rattle.judgement.specs.contracts.code.DiagnosticCodeOrd.TheImpl as code
 use Rattle.diagnostics.specs.Codes.{name_cmp}
 
 -- whether two answers are the same

@@ -5,8 +5,8 @@ use Rattle.std.specs.Cmp.Lexicographic.{slice_cmp}
 use Rattle.std.specs.declared.cmp.Ordering.{Ordering}
 use Rattle.std.specs.Str.{byte}
 use Rattle.std.specs.Char.{to_ascii_uppercase}
-use Rattle.judgement.specs.declared.DiagnosticCode.{DiagnosticCode}
-use Rattle.judgement.specs.declared.DiagnosticCode.TheVariants.{ArgumentType, BadEscape, ConditionNotBool, DuplicateDefinition, FileNotUtf8, IllegalCharacter, IntegerLiteralOutOfRange, InvalidAssignment, NotBuilt, ProfileAnnotation, ProfileAssert, ProfileAsync, ProfileCollectionElement, ProfileConditionalUri, ProfileConst, ProfileContinueCase, ProfileCovariant, ProfileDeferred, ProfileDouble, ProfileEnum, ProfileExtension, ProfileExternal, ProfileFileLength, ProfileIdentifier, ProfileLate, ProfileMixinApplication, ProfileNesting, ProfileRedirectingFactory, ProfileSymbol, ProfileTripleShift, ProfileTypedef, ReferencedBeforeDeclaration, SyntaxError, UnassignedRead, UncheckedNullableUse, UnclosedGroup, UndefinedName, UndefinedOperator, UnopenedGroup, UnterminatedComment, UnterminatedString}
+use Rattle.judgement.specs.declared.code.DiagnosticCode.{DiagnosticCode}
+use Rattle.judgement.specs.declared.code.DiagnosticCode.TheVariants.{ArgumentType, BadEscape, ConditionNotBool, DuplicateDefinition, FileNotUtf8, IllegalCharacter, IntegerLiteralOutOfRange, InvalidAssignment, NotBuilt, ProfileAnnotation, ProfileAssert, ProfileAsync, ProfileCollectionElement, ProfileConditionalUri, ProfileConst, ProfileContinueCase, ProfileCovariant, ProfileDeferred, ProfileDouble, ProfileEnum, ProfileExtension, ProfileExternal, ProfileFileLength, ProfileIdentifier, ProfileLate, ProfileMixinApplication, ProfileNesting, ProfileRedirectingFactory, ProfileSymbol, ProfileTripleShift, ProfileTypedef, ReferencedBeforeDeclaration, SyntaxError, UnassignedRead, UncheckedNullableUse, UnclosedGroup, UndefinedName, UndefinedOperator, UnopenedGroup, UnterminatedComment, UnterminatedString}
 use Rattle.proto_json.specs.declared.reply.ErrorKind.{ErrorKind}
 use Rattle.proto_json.specs.declared.reply.ErrorKind.TheVariants.{SyntacticError, CompileTimeError}
 

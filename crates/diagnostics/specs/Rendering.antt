@@ -1,7 +1,7 @@
 -- The rows of faults.
 use Rattle.std.specs.Prelude.{ℕ, ◌-◌, List, ◌++◌, map, codes, decimal}
 use Rattle.std.specs.List.{flat_map}
-use Rattle.judgement.specs.declared.Fault.{Fault}
+use Rattle.judgement.specs.declared.fault.Fault.{Fault}
 use Rattle.proto_json.specs.declared.reply.ErrorRow.{ErrorRow}
 use Rattle.proto_json.specs.declared.reply.Severity.TheVariants.{Error}
 use Rattle.dart_text.specs.declared.position.Position.{Position}

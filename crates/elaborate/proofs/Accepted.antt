@@ -1,180 +1,207 @@
--- The core program of a tree in which nothing is wrong is accepted.
-use Rattle.std.proofs.Common.{◌≡◌, ℕ, zero, suc, ◌+◌, ◌<◌, ◌≤◌, ◌^◌, List, [], ◌∷◌, ◌++◌, length, map, option_map, Some, None, refl, sym, ap, ◌∙◌, subst, arith, inr}
-use Rattle.std.specs.Prelude.{◌≢◌, IsTrue, AllPairs, slice_get, slice_index_or}
+-- The program of a body in which nothing is wrong is well formed and accepted.
+use Rattle.std.proofs.Common.{◌≡◌, ℕ, zero, suc, ◌+◌, ◌-◌, ◌*◌, ◌^◌, ◌<◌, ◌≤◌, Bool, true, false, List, [], ◌∷◌, ◌++◌, length, get_or, Option, Some, None, refl, sym, ap, ◌∙◌, subst, arith, IsTrue}
 use Rattle.std.specs.FinMap.{empty}
-use Rattle.std.proofs.lemmas.List.{length-map}
+use Rattle.std.specs.Prelude.{All, IsFalse, slice_get}
 use Rattle.std.proofs.lemmas.List.Elements.{All-nil}
-use Rattle.std.proofs.lemmas.Option.{slice_get-get_or, slice_get-map}
-use Rattle.small_tree.specs.Tree.{Tree, Trees, block, function, unit}
-use Rattle.small_tree.specs.Numbers.{nodes_in}
-use Rattle.small_tree.specs.declared.places.Place.{Place}
-use Rattle.small_flow.specs.Ty.{Ty, invalid}
-use Rattle.small_flow.specs.Sub.{no_rows}
-use Rattle.small_flow.specs.Flow.{FlowModel}
-use Rattle.small_flow.proofs.SameType.{same_type-refl}
-use Rattle.judgement.specs.Judgement.{run, faults_of}
+use Rattle.std.proofs.lemmas.Option.{slice_get_within}
+use Rattle.dart_tree.specs.Tree.{Tree, Trees, block}
+use Rattle.dart_tree.specs.Places.{place_of}
+use Rattle.dart_tree.specs.declared.places.Place.{Place}
+use Rattle.dart_types.specs.FormedTable.{FormedTable}
+use Rattle.dart_types.specs.SubTest.{sub}
+use Rattle.flow_model.specs.Flow.{FlowModel, end_of, start_of}
+use Rattle.flow_model.specs.declared.locals.LocalId.{LocalId}
+use Rattle.flow_model.specs.Join.{scope_of}
+use Rattle.judgement.specs.NodeFacts.{NodeFacts}
+use Rattle.judgement.specs.DeclaredNames.{locals_of, names_in, within}
+use Rattle.judgement.specs.Given.{Outcome, said_of_statement}
+use Rattle.judgement.specs.declared.meaning.Meaning.{Meaning}
+use Rattle.judgement.specs.Judgement.{run, run_all}
+use Rattle.built_forms.specs.Forms.{is_statement}
+use Rattle.rule_laws.specs.Plain.{HidesNothing, IsPlainLocal}
 use Rattle.core_ir.specs.PointFacts.{PointFacts}
-use Rattle.core_ir.specs.Program.{Program}
-use Rattle.core_ir.specs.declared.points.PointId.{PointId}
+use Rattle.core_ir.specs.Program.{Function, Program}
+use Rattle.core_ir.specs.Values.{int, bool}
+use Rattle.core_ir.specs.declared.facts.SlotFact.{SlotFact}
+use Rattle.core_ir.specs.declared.points.FunctionId.{FunctionId}
+use Rattle.core_ir.specs.declared.points.Operand.{Operand}
 use Rattle.core_ir.specs.declared.points.Point.{Point}
+use Rattle.core_ir.specs.declared.points.PointId.{PointId}
+use Rattle.core_ir.specs.declared.points.SlotId.{SlotId}
 use Rattle.core_ir.specs.declared.points.Term.TheVariants.{End}
-use Rattle.core_check.specs.WellFormed.{IsPointOf, IsWellFormed}
-use Rattle.core_check.specs.Known.{no_fact, no_facts, no_point, point_at, facts_at, known_of}
-use Rattle.core_check.specs.Accepted.{IsReadable, FitsDeclared, FitsAsked, Leads, IsFresh, IsEntry, IsAccepted}
-use Rattle.elaborate.specs.Frame.{Purpose, of_local, of_temporary, Frame, frame_of, locals_in, purposes, type_for, slot_types}
-use Rattle.elaborate.specs.Known.{fact_for, facts_for}
-use Rattle.elaborate.specs.Layout.{LaidPoint, count, statement_points, program_points}
-use Rattle.elaborate.specs.Elaborated.{laid_points, IsElaborationOf}
-use Rattle.elaborate.specs.Laid.{IsBuiltFor}
-use Rattle.elaborate.specs.Forms.{are_statements, is_program}
-use Rattle.elaborate.proofs.Built.{built_facts, built_numbered, built_wide}
-use Rattle.elaborate.proofs.Claims.{IsOver, Has, IsSafe, AreSafe}
-use Rattle.elaborate.proofs.Contexts.{context_start}
-use Rattle.elaborate.proofs.Counts.{length-statement_points}
-use Rattle.elaborate.proofs.Points.{has_first, safe_one, goes_to_point}
-use Rattle.elaborate.proofs.Reaches.{has_behind, safe_behind}
-use Rattle.elaborate.proofs.Begins.{Begins, nothing, begins_both, begins_statement, unchanged}
-use Rattle.elaborate.proofs.StatementPoints.{statement_sound}
+use Rattle.core_check.specs.Accepted.{FitsAsked, FitsDeclared, IsAccepted, IsEntry, IsFine, IsFineAt, IsReadable, Leads}
+use Rattle.core_check.specs.Known.{facts_at, function_at, function_of, no_point, point_at}
+use Rattle.core_check.specs.Shapes.{WayShape, shape}
+use Rattle.core_check.specs.WellFormed.{IsAsked, IsFunctionOf, IsOperand, IsPointOf, IsShape, IsStored, IsWay, IsWellFormed}
+use Rattle.core_check.specs.declared.parts.Asked.{Asked}
+use Rattle.core_check.specs.declared.parts.Stored.{Stored}
+use Rattle.core_emit.specs.Code.{Code, goes_on, leaf, sequence}
+use Rattle.core_emit.specs.Emitted.{AllFine, AllFormed, AreFactsOf, EmitsFinePoints, EmitsFormedPoints, IsEmitted, emit, size_of, with_points}
+use Rattle.elaborate.specs.Sources.{Sources, known_behind}
+use Rattle.elaborate.specs.Known.{facts}
+use Rattle.elaborate.specs.Rows.{statement_code}
+use Rattle.elaborate.specs.Elaborated.{elaborated, end_of_function, entry_facts, function_code, main_function, points_of, program_of, slot_types, sources_of}
+use Rattle.elaborate.proofs.Given.{Setting, Laws, around}
+use Rattle.elaborate.proofs.Standing.{AreValues, IsSlotOf, IsValueSlot, Standing}
+use Rattle.elaborate.proofs.Tells.{tells_itself}
+use Rattle.elaborate.proofs.Claims.{Does, does_both, does_step}
+use Rattle.elaborate.proofs.Inside.{facts_inside}
+use Rattle.elaborate.proofs.Leaves.{go_leads}
+use Rattle.elaborate.proofs.Points.{unshared}
+use Rattle.elaborate.proofs.Expressions.{AreSaid, said_last}
+use Rattle.elaborate.proofs.ValueForms.{behind_node}
+use Rattle.elaborate.proofs.ConditionForms.{no_values}
+use Rattle.elaborate.proofs.StatementForms.{RunsWell, statement_runs}
 
--- a point with what is known at it
-abbrev laid_of : Program → Point → LaidPoint
-laid_of p point = record { source = point.source; facts = slice_index_or p.facts point.facts no_facts; term = point.term }
+-- a list of one has it alone
+only_one : {A : Type 0} (x y : A) (n : ℕ) → slice_get (x ∷ []) n ≡ Some y → (n ≡ 0) × (x ≡ y)
+only_one x y zero is = (refl, cc)
+only_one x y (suc n) is = absurd (let within = slice_get_within (x ∷ []) (suc n) y is in omega arith)
 
--- the point at which a program ends
-abbrev end_point : Frame → FlowModel → LaidPoint
-end_point frame m = record { source = None; facts = facts_for frame m []; term = End }
+-- the core program of a body, by its sources
+pub elaborated_is : (rows : FormedTable) (words : List (List ℕ)) (outside : List Meaning) (t : Tree) → elaborated rows words outside t ≡ program_of rows (sources_of rows words outside t) t
+unfolding elaborated
+elaborated_is rows words outside t = refl
 
--- it is safe
-end_safe : (p : Program) (frame : Frame) (m : FlowModel) (n : ℕ) → IsSafe p n (end_point frame m)
-end_safe p frame m n = record {
-  term_in = tt;
-  moves_on = All-nil (λ (next : PointId). next.0 ≢ n);
-  fine = λ reached. record {
-    read = All-nil (IsReadable (facts_for frame m []));
-    stored = All-nil (FitsDeclared p);
-    asked = All-nil (FitsAsked p (facts_for frame m []));
-    leads = All-nil (Leads p);
-  };
+-- the setting of a body
+abbrev pub setting_of : FormedTable → Sources → List Meaning → Tree → Setting
+setting_of rows x outside body = record {
+  rows = rows;
+  g = record { slots = slot_types x; entry = (points_of x body).entry };
+  x = x;
+  outside = outside;
 }
 
--- a program has the points that are laid
-has_laid : (p : Program) (points : List LaidPoint) → laid_points p ≡ points → Has p 0 points
-has_laid p points same = record { each = λ i q here. let at : 0 + i ≡ i = omega arith in ap (slice_get (laid_points p)) at ∙ (ap (λ (ps : List LaidPoint). slice_get ps i) same ∙ here) }
+module _ (rows : FormedTable) (x : Sources) (outside : List Meaning) (at : Place) (statements : Trees) where
+  abbrev body : Tree
+  body = block at statements
 
--- so many points are laid as there are
-length-laid_points : (p : Program) → length (laid_points p) ≡ length p.points
-length-laid_points p = length-map p.points (laid_of p)
+  abbrev c : Setting
+  c = setting_of rows x outside body
 
--- a program is the core program of a block of statements, with pairwise different locals, in which nothing is wrong
-record IsFrom (p : Program) (at : Place) (statements : Trees) : Type 0 where
-  pub form : IsTrue (are_statements statements)
-  pub distinct : AllPairs (λ a b. a.var.0 ≢ b.var.0) (locals_in (block at statements))
-  pub clean : (run no_rows empty (block at statements) nothing).faults ≡ []
-  pub rows : p.rows ≡ no_rows
-  pub slots : p.slots ≡ slot_types (frame_of (block at statements))
-  pub points : laid_points p ≡ program_points no_rows (block at statements)
+  abbrev start : FlowModel
+  start = start_of []
 
--- the laid points are safe
-body_safe : (p : Program) (at : Place) (statements : Trees) → IsFrom p at statements → AreSafe p 0 (laid_points p)
-body_safe p at statements is =
-    let body = block at statements in
-    let frame = frame_of (block at statements) in
-    let after = (run no_rows empty (block at statements) nothing).after in
-    let statement = statement_points no_rows frame empty body nothing 0 (count body) in
-    let long : 0 + length statement ≡ count body = let e = length-statement_points no_rows frame empty body nothing 0 (count body) in omega arith in
-    let has = has_laid p (statement ++ end_point frame after ∷ []) is.points in
-    let has_end = has_behind p 0 (count body) statement (end_point frame after ∷ []) long has in
-    let over : IsOver frame p = record { rows = is.rows; slots = is.slots; distinct = is.distinct; laid = length-laid_points p } in
-    let sound = statement_sound p frame empty body nothing 0 (count body) over (context_start at statements is.form is.distinct) is.form is.clean (omega arith)
-    (has_first p 0 statement (end_point frame after ∷ []) has) (inr (omega arith)) (goes_to_point p frame after [] (count body) (end_point frame after) over has_end refl) in
-    subst (λ (points : List LaidPoint). AreSafe p 0 points) (sym is.points)
-    (safe_behind p 0 (count body) statement (end_point frame after ∷ []) long sound.safe (safe_one p (count body) (end_point frame after) (end_safe p frame after (count body))))
+  abbrev o : Outcome
+  o = run (around c empty) body start
 
--- each laid point is safe
-each_safe : (p : Program) (at : Place) (statements : Trees) → IsFrom p at statements → (n : ℕ) (q : LaidPoint) → slice_get (laid_points p) n ≡ Some q → IsSafe p n q
-each_safe p at statements is n q here = let at_n : 0 + n ≡ n = omega arith in subst (λ (k : ℕ). IsSafe p k q) at_n ((body_safe p at statements is).each n q here)
+  abbrev p : Program
+  p = program_of rows x body
 
--- each point is laid
-laid_here : (p : Program) (k : ℕ) → k < length p.points → slice_get (laid_points p) k ≡ Some (laid_of p (point_at p k))
-laid_here p k within = slice_get-map (laid_of p) p.points k ∙ ap (option_map (laid_of p)) (slice_get-get_or p.points k no_point within)
+  abbrev final : PointFacts
+  final = facts x (known_behind x at) no_values
 
--- a slot for which nothing is known has its declared type and no value
-fresh_purpose : (purpose : Purpose) → IsFresh (type_for purpose) (fact_for nothing [] purpose)
-fresh_purpose (of_local local) = record { unassigned = refl; declared_type = same_type-refl local.ty; own = refl }
-fresh_purpose (of_temporary temporary) = record { unassigned = refl; declared_type = same_type-refl temporary.ty; own = refl }
+  abbrev old : List Point
+  old = (end_of_function x body).points
 
--- so it is with each slot
-fresh_at : (ps : List Purpose) (i : ℕ) → i < length (map type_for ps) → IsFresh (slice_index_or (map type_for ps) i invalid) (slice_index_or (map (fact_for nothing []) ps) i no_fact)
-fresh_at [] i within = absurd (omega arith)
-fresh_at (purpose ∷ ps) zero within = fresh_purpose purpose
-fresh_at (purpose ∷ ps) (suc i) within = fresh_at ps i (omega arith)
+  abbrev first : PointId
+  first = (end_of_function x body).entry
 
--- what is known where no local is in scope is known at an entry
-nothing_at_entry : (p : Program) (frame : Frame) → p.slots ≡ slot_types frame → IsEntry p (facts_for frame nothing [])
-nothing_at_entry p frame slots = record {
-  reachable = refl;
-  slots = subst (λ (tys : List Ty). (i : ℕ) → i < length tys → IsFresh (slice_index_or tys i invalid) (known_of (facts_for frame nothing []) i)) (sym slots) (fresh_at (purposes frame));
-}
+  -- nothing is in scope where a body begins
+  start_stands : Standing c start
+  start_stands = record {
+    plain = record { in_order = λ i j d lt within. absurd (omega arith); plain = All-nil IsPlainLocal; descending = λ k d lt. absurd (omega arith) };
+    slots = λ k d lt. absurd (omega arith);
+  }
 
--- the facts of the first point
-first_facts : (f : PointFacts) (points : List LaidPoint) (q : LaidPoint) → slice_get points 0 ≡ Some q → Begins f points → q.facts ≡ f
-first_facts f [] q here begins = cc
-first_facts f (r ∷ points) q here begins = let same : r ≡ q = cc in subst (λ (l : LaidPoint). l.facts ≡ f) same begins
+  module _ (laws : Laws c) (hides : HidesNothing (around c empty)) (built : is_statement outside body ≡ true) (none : o.faults ≡ []) (said : AreSaid c o.nodes)
+      (fine : (code : Code) (after : PointFacts) (next : PointId) (points : List Point) → EmitsFinePoints p c.g main_function code after next points)
+      (formed : (code : Code) (next : PointId) (points : List Point) → EmitsFormedPoints p c.g main_function code next points)
+      (few : length p.points ≤ 2 ^ 32) (int_apart : IsFalse (sub rows.table int bool)) (bool_apart : IsFalse (sub rows.table bool int))
+    where
+      abbrev listed : Outcome
+      listed = run_all (within (around c empty) (names_in statements)) statements start
 
--- nothing is known at the first point
-entry_facts : (p : Program) (at : Place) (statements : Trees) → IsFrom p at statements → 0 < length p.points → facts_at p 0 ≡ facts_for (frame_of (block at statements)) nothing []
-entry_facts p at statements is some =
-    let body = block at statements in
-    let frame = frame_of (block at statements) in
-    let after = (run no_rows empty (block at statements) nothing).after in
-    let statement = statement_points no_rows frame empty body nothing 0 (count body) in
-    let long = length-statement_points no_rows frame empty body nothing 0 (count body) in
-    let begins = begins_both (facts_for frame nothing []) statement (end_point frame after ∷ []) (begins_statement no_rows frame empty body 0 (count body))
-    (λ none. ap (λ (m : FlowModel). facts_for frame m []) (unchanged no_rows empty body (sym long ∙ none))) in
-    first_facts (facts_for frame nothing []) (laid_points p) (laid_of p (point_at p 0)) (laid_here p 0 some) (subst (λ (points : List LaidPoint). Begins (facts_for frame nothing []) points) (sym is.points) begins)
+      behind : known_behind x at ≡ o.after
+      behind = behind_node c laws at (said_of_statement at.node None start o.after) (said_last c (listed.nodes ++ []) (said_of_statement at.node None start o.after) said) refl
 
--- the program is accepted
-accepted : (p : Program) (at : Place) (statements : Trees) → IsFrom p at statements → IsAccepted p
-accepted p at statements is = record {
-  each = λ k within. record {
-    fine = (each_safe p at statements is k (laid_of p (point_at p k)) (laid_here p k within)).fine;
-    entry = λ first. subst (λ (n : ℕ). IsEntry p (facts_at p n)) (sym first)
-        (subst (IsEntry p) (sym (entry_facts p at statements is (omega arith))) (nothing_at_entry p (frame_of (block at statements)) is.slots));
-  };
-}
+      nothing_held : AreValues c no_values
+      nothing_held = All-nil (λ (k : SlotId). IsValueSlot c k.0)
 
--- a program for a tree has the points of a block of statements
-record IsFromSome (p : Program) : Type 0 where
-  pub at : Place
-  pub statements : Trees
-  pub is : IsFrom p at statements
+      -- the body's code leads from the entry to the end
+      runs : RunsWell c (statement_code x body) start o
+      runs = statement_runs c laws body empty start hides built none start_stands said
 
--- the core program of a tree in which nothing is wrong is that of its block
-from_program : (tree : Tree) (p : Program) → IsTrue (is_program tree) → AllPairs (λ a b. a.var.0 ≢ b.var.0) (locals_in tree) → faults_of no_rows tree ≡ [] → IsElaborationOf tree p → IsFromSome p
-from_program (unit at main) p form distinct clean is = from_program main p form distinct clean (record { rows = is.rows; slots = is.slots; points = is.points })
-from_program (function at body) p form distinct clean is = from_program body p form distinct clean (record { rows = is.rows; slots = is.slots; points = is.points })
-from_program (block at statements) p form distinct clean is =
-    record { at = at; statements = statements; is = record { form = form; distinct = distinct; clean = clean; rows = is.rows; slots = is.slots; points = is.points } }
-from_program _ p form distinct clean is = cc
+      enters : Does c (leaf None entry_facts goes_on) entry_facts (facts x start no_values)
+      enters =
+          does_step c laws None entry_facts (facts x start no_values) goes_on (facts_inside c start no_values start_stands nothing_held) tt
+          (λ reached f' tells. go_leads c laws entry_facts (facts x start no_values) (unshared c laws start start_stands no_values nothing_held) refl f' tells (tells_itself c laws entry_facts) refl)
 
--- it is accepted
-pub program_accepted : (tree : Tree) (p : Program) → IsTrue (is_program tree) → AllPairs (λ a b. a.var.0 ≢ b.var.0) (locals_in tree) → faults_of no_rows tree ≡ [] → IsElaborationOf tree p → IsAccepted p
-program_accepted tree p form distinct clean is = let from = from_program tree p form distinct clean is in accepted p from.at from.statements from.is
+      whole : Does c (function_code x body) entry_facts final
+      whole = subst (λ (m : FlowModel). Does c (function_code x body) entry_facts (facts x m no_values)) (sym behind)
+          (does_both c laws (leaf None entry_facts goes_on) (statement_code x body) entry_facts (facts x start no_values) (facts x o.after no_values) enters runs.does)
 
--- what a point names is in the program, where the program is built
-point_of : (tree : Tree) (p : Program) (at : Place) (statements : Trees) → IsFrom p at statements → IsBuiltFor tree p → (k : ℕ) (q : Point) → slice_get p.points k ≡ Some q → IsPointOf p k q
-point_of tree p at statements is built k q here =
-    let safe = each_safe p at statements is k (laid_of p q) (slice_get-map (laid_of p) p.points k ∙ ap (option_map (laid_of p)) here) in
-    record { facts_in = built_facts tree p built k q here; term_in = safe.term_in; moves_on = safe.moves_on }
+      final_inside : AreFactsOf c.g final
+      final_inside = subst (λ (m : FlowModel). AreFactsOf c.g (facts x m no_values)) (sym behind) (facts_inside c o.after no_values runs.stands nothing_held)
 
--- and the program may be asked about
-pub program_well_formed : (tree : Tree) (p : Program) → IsTrue (is_program tree) → AllPairs (λ a b. a.var.0 ≢ b.var.0) (locals_in tree) → faults_of no_rows tree ≡ [] → IsElaborationOf tree p
-    → IsBuiltFor tree p → nodes_in tree ≤ 2 ^ 32 → IsWellFormed p
-program_well_formed tree p form distinct clean is built small =
-    let from = from_program tree p form distinct clean is in
-    record {
-      has_entry = built.has_entry;
-      numbered = built_numbered tree p small built;
-      facts_wide = built_wide tree p is built;
-      points_in = point_of tree p from.at from.statements from.is built;
-    }
+      -- the point at the end
+      end_fine : IsFine (with_points p old) c.g final (shape End)
+      end_fine = record {
+        read = All-nil (IsReadable final);
+        stored = All-nil (FitsDeclared (with_points p old) c.g final);
+        asked = All-nil (FitsAsked (with_points p old) c.g final);
+        leads = All-nil (Leads (with_points p old) c.g final);
+      }
+
+      old_fine : AllFine (with_points p old) c.g
+      old_fine = record { each = at_end }
+        where
+          at_end : (k : ℕ) → k < length old → IsTrue (facts_at (with_points p old) k).reachable → IsFine (with_points p old) c.g (facts_at (with_points p old) k) (shape (get_or old k no_point).term)
+          at_end zero lt reached = end_fine
+          at_end (suc k) lt reached = absurd (omega arith)
+
+      end_formed : (point : Point) (k : ℕ) → slice_get old k ≡ Some point → IsPointOf (with_points p old) k point
+      end_formed point k is =
+          let same = (only_one (get_or old 0 no_point) point k is).1 in
+          subst (IsPointOf (with_points p old) k) same (record {
+            function_in = omega arith;
+            listed_in = final_inside;
+            shape_in = record { reads_in = All-nil (IsOperand c.g); stores_in = All-nil (IsStored c.g); asks_in = All-nil (IsAsked c.g); ways_in = All-nil (IsWay (with_points p old) c.g 0) };
+            moves_on = λ j d lt. absurd (omega arith);
+          })
+
+      old_formed : AllFormed (with_points p old) 0
+      old_formed = record { points_in = λ k point is. end_formed point k is; own = own }
+        where
+          own : (k : ℕ) → k < length old → (point_at (with_points p old) k).function.0 ≡ 0
+          own zero lt = refl
+          own (suc k) lt = absurd (omega arith)
+
+      emitted : IsEmitted p c.g old entry_facts (points_of x body)
+      emitted = fine (function_code x body) final first old (whole.begins final (tells_itself c laws final)).passes old_fine (omega arith) refl
+
+      all_formed : AllFormed p 0
+      all_formed = formed (function_code x body) first old (omega arith) refl whole.inside old_formed (omega arith)
+
+      -- all points are of the one function
+      function_is : (k : ℕ) → k < length p.points → function_of p k ≡ c.g
+      function_is k lt = ap (function_at p) (all_formed.own k lt)
+
+      entry_is : (k : ℕ) → k < length p.points → (function_of p k).entry.0 ≡ k → IsEntry (facts_at p k)
+      entry_is k lt is =
+          let at_entry : (points_of x body).entry.0 ≡ k = sym (ap (λ (g : Function). g.entry.0) (function_is k lt)) ∙ is in
+          let known : facts_at p k ≡ entry_facts = sym (ap (facts_at p) at_entry) ∙ emitted.entry_facts in
+          subst IsEntry (sym known) (record { reachable = refl; nothing_known = refl })
+
+      pub accepted : IsAccepted p
+      accepted = record {
+        each = λ k lt. record {
+          fine = λ reached. subst (λ (g : Function). IsFine p g (facts_at p k) (shape (point_at p k).term)) (sym (function_is k lt)) (emitted.fine.each k lt reached);
+          entry = entry_is k lt;
+        };
+      }
+
+      only_function : (n : ℕ) (g : Function) → slice_get p.functions n ≡ Some g → IsFunctionOf p n g
+      only_function n g is =
+          let one = only_one c.g g n is in
+          subst (λ (f : Function). IsFunctionOf p n f) one.1 (record { entry_in = emitted.entry_in; entry_own = all_formed.own (points_of x body).entry.0 emitted.entry_in ∙ sym one.0 })
+
+      pub well_formed : IsWellFormed p
+      well_formed = record {
+        main_in = omega arith;
+        numbered = few;
+        functions_in = only_function;
+        points_in = all_formed.points_in;
+        int_apart = int_apart;
+        bool_apart = bool_apart;
+      }

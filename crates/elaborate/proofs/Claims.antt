@@ -1,74 +1,101 @@
--- What is claimed of the points of a tree in which nothing is wrong.
-use Rattle.std.specs.Prelude.{◌≡◌, ◌≢◌, ◌⊎◌, ℕ, ◌+◌, ◌<◌, ◌≤◌, Bool, true, false, IsTrue, All, AllPairs, Contains, List, [], ◌∷◌, Some, length, slice_get, find}
-use Rattle.small_flow.specs.Ty.{Ty, int, bool, nullable}
-use Rattle.small_flow.specs.Sub.{no_rows}
-use Rattle.small_flow.specs.Flow.{FlowModel, facts_of}
-use Rattle.small_flow.specs.declared.locals.Facts.{Facts}
-use Rattle.small_flow.specs.declared.locals.LocalId.{LocalId}
+-- What code does: it passes, from what is known before it to what is known behind it, or less.
+use Rattle.std.proofs.Common.{◌≡◌, ◌≢◌, ℕ, ◌<◌, List, [], ◌∷◌, ◌++◌, length, Option, refl, sym, ap, ◌∙◌, subst, arith, IsTrue}
+use Rattle.std.specs.Prelude.{All}
+use Rattle.std.proofs.lemmas.List.Elements.{All-cons, All-nil}
+use Rattle.core_ir.specs.PointFacts.{PointFacts}
 use Rattle.core_ir.specs.Program.{Program}
-use Rattle.core_check.specs.WellFormed.{IsTerm, nexts}
-use Rattle.core_check.specs.Known.{known_of}
-use Rattle.core_check.specs.Accepted.{SlotImplies, Leads, IsFine}
-use Rattle.elaborate.specs.Frame.{Local, Temporary, of_local, Frame, slot_types, is_local}
-use Rattle.elaborate.specs.Known.{fact_for, facts_for}
-use Rattle.elaborate.specs.Layout.{LaidPoint, to}
-use Rattle.elaborate.specs.Elaborated.{laid_points}
+use Rattle.core_ir.specs.Values.{declared_at}
+use Rattle.core_ir.specs.declared.points.PointId.{PointId}
+use Rattle.core_ir.specs.declared.points.Span.{Span}
+use Rattle.core_check.specs.Accepted.{IsFine, Leads, SlotImplies}
+use Rattle.core_check.specs.Known.{facts_at, known_of}
+use Rattle.core_check.specs.Shapes.{TermShape, WayShape, shape}
+use Rattle.core_check.specs.Types.{known_on}
+use Rattle.core_emit.specs.Code.{Code, Step, Test, nothing, leaf, sequence, choice, loop, goes_on, step_to, test_to}
+use Rattle.core_emit.specs.Emitted.{AreFactsOf, IsCodeOf, IsStepOf, IsTestOf, Passes, StepLeads, TestLeads, known_first}
+use Rattle.elaborate.proofs.Given.{Setting, Laws}
+use Rattle.elaborate.proofs.Tells.{Tells, tells_itself, tells_through, implies_through}
 
--- what a local may be promoted to, by its declared type: the small language has no more
-abbrev pub is_shape : Ty → List Ty → Bool
-is_shape int [] = true
-is_shape bool [] = true
-is_shape (nullable int) [] = true
-is_shape (nullable int) (int ∷ []) = true
-is_shape _ _ = false
+-- code that passes, and what is known before it tells what is known where it begins
+pub record Begins (c : Setting) (code : Code) (before after : PointFacts) : Type 0 where
+  pub passes : Passes c.rows c.g code after
+  pub tells : Tells c before (known_first code after)
 
--- what is known of a local fits a frame: the frame has it with its declared type, and it has one of the shapes
-pub record Fits (frame : Frame) (l : Facts) : Type 0 where
-  pub listed : find (is_local l.var) frame.locals ≡ Some (record { var = l.var; ty = l.ty })
-  pub shape : IsTrue (is_shape l.ty l.chain)
-  pub untested : l.tested ≡ []
-  pub own : l.captured ≡ false
+-- so it does where less is asked for behind it; and it names what the function has
+pub record Does (c : Setting) (code : Code) (before after : PointFacts) : Type 0 where
+  pub begins : (f : PointFacts) → Tells c after f → Begins c code before f
+  pub inside : IsCodeOf c.g code
 
--- what is known of each local in scope fits a frame
-pub record IsGood (frame : Frame) (m : FlowModel) : Type 0 where
-  pub fits : (var : LocalId) (l : Facts) → facts_of m var ≡ Some l → Fits frame l
+-- a way on leads to what tells all that is asked for
+pub record Ways (c : Setting) (p : Program) (f : PointFacts) (way : WayShape) (after : PointFacts) : Type 0 where
+  pub reached : IsTrue after.reachable
+  pub slots : (i : ℕ) → i < length c.g.slots → SlotImplies c.rows.table (declared_at c.g i) (known_on p c.g f way.changes i) (known_of after i)
 
--- what is known in a model implies what is known in another, of each local of a frame
-pub record Implies (frame : Frame) (m m' : FlowModel) : Type 0 where
-  pub reachable : IsTrue m.reachable → IsTrue m'.reachable
-  pub locals : (local : Local) → Contains frame.locals local → SlotImplies no_rows local.ty (fact_for m [] (of_local local)) (fact_for m' [] (of_local local))
+module _ (c : Setting) (laws : Laws c) where
+  pub does_nothing : (f : PointFacts) → Does c nothing f f
+  does_nothing f = record { begins = λ f' tells. record { passes = tt; tells = tells }; inside = tt }
 
--- a program has the slots of a frame, in which each local stands once, and no classes
-pub record IsOver (frame : Frame) (p : Program) : Type 0 where
-  pub rows : p.rows ≡ no_rows
-  pub slots : p.slots ≡ slot_types frame
-  pub distinct : AllPairs (λ a b. a.var.0 ≢ b.var.0) frame.locals
-  pub laid : length (laid_points p) ≡ length p.points
+  pub does_both : (first second : Code) (f g h : PointFacts) → Does c first f g → Does c second g h → Does c (sequence first second) f h
+  does_both first second f g h one other = record {
+    begins = λ f' tells.
+        let behind = other.begins f' tells in
+        let here = one.begins (known_first second f') behind.tells in
+        record { passes = (here.passes, behind.passes); tells = here.tells };
+    inside = (one.inside, other.inside);
+  }
 
--- a program has these points from the number k on
-pub record Has (p : Program) (k : ℕ) (points : List LaidPoint) : Type 0 where
-  pub each : (i : ℕ) (q : LaidPoint) → slice_get points i ≡ Some q → slice_get (laid_points p) (k + i) ≡ Some q
+  -- less may be asked for behind it, and more be known before it
+  pub does_less : (code : Code) (f g h : PointFacts) → Does c code f g → Tells c g h → Does c code f h
+  does_less code f g h does tells = record { begins = λ f' more. does.begins f' (tells_through c laws g h f' tells more); inside = does.inside }
 
--- what a point with the number n names is in the program, it isn't its own next point, and no clause of the check fails at it
-pub record IsSafe (p : Program) (n : ℕ) (q : LaidPoint) : Type 0 where
-  pub term_in : IsTerm p q.term
-  pub moves_on : All (λ next. next.0 ≢ n) (nexts q.term)
-  pub fine : IsTrue q.facts.reachable → IsFine p q.facts q.term
+  pub does_from : (code : Code) (e f g : PointFacts) → Tells c e f → Does c code f g → Does c code e g
+  does_from code e f g tells does = record {
+    begins = λ f' more. let here = does.begins f' more in record { passes = here.passes; tells = tells_through c laws e f (known_first code f') tells here.tells };
+    inside = does.inside;
+  }
 
--- so it is with each of these points, which stand from the number k on
-pub record AreSafe (p : Program) (k : ℕ) (points : List LaidPoint) : Type 0 where
-  pub each : (i : ℕ) (q : LaidPoint) → slice_get points i ≡ Some q → IsSafe p (k + i) q
+  -- a way leads to what is told by what it leads to
+  pub leads_to : (p : Program) (f : PointFacts) (way : WayShape) (after f' : PointFacts) → p.rows ≡ c.rows → facts_at p way.next.0 ≡ f' → Ways c p f way after → Tells c after f' → Leads p c.g f way
+  leads_to p f way after f' rows is ways tells = record {
+    reachable = subst (λ (k : PointFacts). IsTrue k.reachable) (sym is) (tells.reached ways.reached);
+    slots = λ i lt.
+        subst (λ (r : PointFacts). SlotImplies p.rows.table (declared_at c.g i) (known_on p c.g f way.changes i) (known_of r i)) (sym is)
+        (subst (λ r. SlotImplies r.table (declared_at c.g i) (known_on p c.g f way.changes i) (known_of f' i)) (sym rows)
+        (implies_through c laws (declared_at c.g i) (known_on p c.g f way.changes i) (known_of after i) (known_of f' i) (ways.slots i lt) (tells.slots ways.reached i lt)));
+  }
 
--- where this is known, and these temporaries are held, a run may go on to the point with the number n
-pub record GoesOn (p : Program) (frame : Frame) (m : FlowModel) (held : List Temporary) (n : ℕ) : Type 0 where
-  pub within : n < length p.points
-  pub leads : IsTrue m.reachable → Leads p (record { next = to n; known = known_of (facts_for frame m held) })
+  -- a step between two points
+  pub does_step : (site : Option Span) (f after : PointFacts) (step : Step) → AreFactsOf c.g f → IsStepOf c.g step
+      → (IsTrue f.reachable → (f' : PointFacts) → Tells c after f' → StepLeads c.rows c.g f step f') → Does c (leaf site f step) f after
+  does_step site f after step facts_in step_in leads = record {
+    begins = λ f' tells. record { passes = λ reached. leads reached f' tells; tells = tells_itself c laws f };
+    inside = (facts_in, step_in);
+  }
 
--- a number isn't one of n numbers from k on
-abbrev pub IsBeyond : (k n next : ℕ) → Type 0
-IsBeyond k n next = (next < k) ⊎ (k + n ≤ next)
+  -- a test between two ways
+  pub does_choice : (site : Option Span) (f one other after : PointFacts) (test : Test) (first second : Code) → AreFactsOf c.g f → IsTestOf c.g test
+      → (IsTrue f.reachable → (f' f'' : PointFacts) → Tells c one f' → Tells c other f'' → TestLeads c.rows c.g f test f' f'')
+      → Does c first one after → Does c second other after → Does c (choice site f test first second) f after
+  does_choice site f one other after test first second facts_in test_in leads then_does else_does = record {
+    begins = λ f' tells.
+        let a = then_does.begins f' tells in
+        let b = else_does.begins f' tells in
+        record { passes = (λ reached. leads reached (known_first first f') (known_first second f') a.tells b.tells, (a.passes, b.passes)); tells = tells_itself c laws f };
+    inside = ((facts_in, test_in), (then_does.inside, else_does.inside));
+  }
 
--- points are safe, and a run that stands before them with what is known may go on to the first of them
-pub record IsSound (p : Program) (frame : Frame) (m : FlowModel) (held : List Temporary) (k : ℕ) (points : List LaidPoint) (first : ℕ) : Type 0 where
-  pub safe : AreSafe p k points
-  pub enters : GoesOn p frame m held first
+  -- a loop
+  pub does_loop : (site : Option Span) (head f one other : PointFacts) (condition : Code) (test : Test) (body : Code) → AreFactsOf c.g head → AreFactsOf c.g f → IsTestOf c.g test
+      → ((f' : PointFacts) → Tells c head f' → IsTrue head.reachable → StepLeads c.rows c.g head goes_on f')
+      → (IsTrue f.reachable → (f' f'' : PointFacts) → Tells c one f' → Tells c other f'' → TestLeads c.rows c.g f test f' f'')
+      → Does c condition head f → Does c body one head → Does c (loop site head f condition test body) head other
+  does_loop site head f one other condition test body head_in facts_in test_in goes leads condition_does body_does = record {
+    begins = λ f' tells.
+        let a = condition_does.begins f (tells_itself c laws f) in
+        let b = body_does.begins head (tells_itself c laws head) in
+        record {
+          passes = (goes (known_first condition f) a.tells, (λ reached. leads reached (known_first body head) f' b.tells tells, (a.passes, b.passes)));
+          tells = tells_itself c laws head;
+        };
+    inside = ((head_in, (facts_in, test_in)), (condition_does.inside, body_does.inside));
+  }

@@ -1,323 +1,207 @@
--- The points of expressions, conditions and simple statements in which nothing is wrong.
-use Rattle.std.proofs.Common.{refl, sym, ap, subst, ◌∙◌, ⊎_elim, arith}
-use Rattle.std.specs.Prelude.{◌≡◌, ◌≢◌, ℕ, ◌+◌, ◌≤◌, Bool, true, false, ◌&&◌, IsTrue, List, [], ◌∷◌, ◌++◌, if◌then◌else◌, is_some, Option, Some, None, find}
-use Rattle.std.specs.Option.{option_map_or, option_map}
-use Rattle.std.specs.FinMap.{get}
+-- The code of a value does what the rules say of it.
+use Rattle.std.proofs.Common.{◌≡◌, ◌≢◌, ℕ, ◌+◌, ◌-◌, ◌<◌, Bool, true, false, cond, not, ◌&&◌, ◌||◌, nat_eq, List, [], ◌∷◌, ◌++◌, length, Option, Some, None, is_some, refl, sym, ap, ◌∙◌, subst, IsTrue, inl, inr}
+use Rattle.std.specs.Prelude.{All, find}
+use Rattle.std.specs.Option.{option_map_or}
 use Rattle.std.proofs.lemmas.Bool.{and_parts}
-use Rattle.std.proofs.lemmas.List.Elements.{All-nil}
-use Rattle.small_tree.specs.Tree.{Tree, Part, absent, present, declare, assign, eval, print}
-use Rattle.small_tree.specs.Places.{place_of}
-use Rattle.small_tree.specs.declared.places.Place.{Place}
-use Rattle.small_tree.specs.declared.places.NodeId.{NodeId}
-use Rattle.small_tree.specs.declared.nodes.Name.{Name}
-use Rattle.small_flow.specs.Ty.{Ty, null, admits_null}
-use Rattle.small_flow.specs.Sub.{no_rows, sub}
-use Rattle.small_flow.specs.Flow.{FlowModel, facts_of, at_local, current_of, fresh_facts, declare_of}
-use Rattle.small_flow.specs.Assign.{assign_facts}
-use Rattle.small_flow.specs.declared.locals.LocalId.{LocalId}
-use Rattle.small_flow.specs.declared.locals.Facts.{Facts}
-use Rattle.small_flow.specs.declared.subtyping.Rows.{Rows}
-use Rattle.small_flow.proofs.Scopes.{facts_of-declare_other, facts_of-declare_same, facts_of-at_local_same, facts_of-at_local_other}
-use Rattle.judgement.specs.Names.{Names, local_of}
-use Rattle.judgement.specs.Rows.{Value, Outcome, assign_row, declared_local, fit_faults, initialize_row, condition_faults}
-use Rattle.judgement.specs.Judgement.{type_of, evaluate, run}
-use Rattle.core_ir.specs.Program.{Program}
-use Rattle.core_ir.specs.declared.facts.Held.TheVariants.{Own}
-use Rattle.core_ir.specs.declared.facts.SlotFact.{SlotFact}
-use Rattle.core_ir.specs.declared.points.PointId.{PointId}
+use Rattle.std.proofs.lemmas.List.Elements.{All-head, All-tail, All-cons, All-nil}
+use Rattle.dart_tree.specs.Tree.{Tree, Trees, Part, identifier, integer_literal, boolean_literal, null_literal, parenthesis, binary_expression}
+use Rattle.dart_tree.specs.Places.{place_of}
+use Rattle.dart_tree.specs.declared.operators.BinaryOperator.{BinaryOperator}
+use Rattle.dart_tree.specs.declared.operators.BinaryOperatorKind.{BinaryOperatorKind}
+use Rattle.dart_tree.specs.declared.operators.BinaryOperatorKind.TheVariants.{Add, Less, NotEqual}
+use Rattle.dart_tree.specs.declared.places.NodeId.{NodeId}
+use Rattle.dart_tree.specs.declared.places.Place.{Place}
+use Rattle.dart_types.specs.Ty.{Ty}
+use Rattle.dart_types.specs.Same.{same_type}
+use Rattle.dart_types.specs.SubTest.{sub}
+use Rattle.dart_types.specs.Ty as ty
+use Rattle.flow_model.specs.Flow.{FlowModel, current_of, facts_of}
+use Rattle.flow_model.specs.Steps.{exit_of}
+use Rattle.flow_model.specs.declared.locals.Facts.{Facts}
+use Rattle.flow_model.specs.declared.locals.LocalId.{LocalId}
+use Rattle.judgement.specs.NodeFacts.{NodeFacts}
+use Rattle.judgement.specs.declared.meaning.Meaning.{Meaning}
+use Rattle.judgement.specs.declared.meaning.Meaning.TheVariants.{Local}
+use Rattle.judgement.specs.Given.{Evaluation, exits_if_never, expression_row, of_type, said_of_expression, with_node}
+use Rattle.judgement.specs.ExpressionRows.{int, bool}
+use Rattle.judgement.specs.Surroundings.{Names, meaning_of}
+use Rattle.judgement.specs.Judgement.{evaluate}
+use Rattle.judgement.specs.ExpressionRows as rows
+use Rattle.built_forms.specs.Forms.{is_free}
+use Rattle.built_forms.specs.Meanings.{meaning_at}
+use Rattle.rule_laws.specs.Plain.{IsPlainLocal, IsPlainType, is_plain, is_value_type}
+use Rattle.core_ir.specs.PointFacts.{PointFacts}
+use Rattle.core_ir.specs.Values.{declared_at, no_objects, type_of}
+use Rattle.core_ir.specs.declared.points.Operand.{Operand}
+use Rattle.core_ir.specs.declared.points.Operand.TheVariants.{Slot, Constant}
 use Rattle.core_ir.specs.declared.points.SlotId.{SlotId}
-use Rattle.core_ir.specs.declared.points.Operand.TheVariants.{Constant}
-use Rattle.core_ir.specs.declared.points.Term.TheVariants.{Store, Declare, Initialize, Branch, TestNull, Output}
-use Rattle.core_ir.specs.declared.values.Value.TheVariants.{Null}
-use Rattle.core_check.specs.Accepted.{IsReadable, FitsDeclared, FitsAsked, Leads}
-use Rattle.elaborate.specs.Frame.{Temporary, of_local, Frame, is_local, slot_of, value_height, height_of}
-use Rattle.elaborate.specs.Known.{fact_for, facts_for}
-use Rattle.elaborate.specs.Layout.{LaidPoint, to, slot_named, operand_of, held_for, value_count, value_points, with_value, point, tested_word, condition_count, condition_points, count, entry, declaration_term, statement_points}
-use Rattle.elaborate.specs.Forms.{is_expression, is_written_type, is_statement}
-use Rattle.elaborate.proofs.Claims.{Fits, IsGood, Implies, IsOver, Has, IsSafe, GoesOn, IsBeyond, IsSound}
-use Rattle.elaborate.proofs.TypeLaws.{is_simple, shape_declared, written_type_fits}
-use Rattle.elaborate.proofs.Purposes.{IsAt, slot_of_local}
-use Rattle.elaborate.proofs.Steps.{implies_with_none, implies_held, leads_known}
-use Rattle.elaborate.proofs.Points.{safe_one, goes_to_point}
-use Rattle.elaborate.proofs.Judged.{after_same, both_empty, value_simple, fits_below}
-use Rattle.elaborate.proofs.Operands.{known_local, scope_slot, operand_ready}
-use Rattle.elaborate.proofs.Operators.{all_one}
-use Rattle.elaborate.proofs.ValuePoints.{points_sound, then_sound}
-use Rattle.elaborate.proofs.LocalPoints.{IsSameElsewhere}
-use Rattle.elaborate.proofs.Writes.{Writes, assign_writes, declare_is, initialize_is, initializer_fits, written_simple, store_safe, initialize_safe, declare_safe}
-use Rattle.elaborate.proofs.Conditions.{condition_tests, branch_safe, test_safe}
+use Rattle.core_ir.specs.declared.values.Value.TheVariants.{Boolean}
+use Rattle.core_emit.specs.Code.{Code, Step, leaf, sequence, stores}
+use Rattle.core_emit.specs.Emitted.{IsStepOf, StepLeads}
+use Rattle.core_check.specs.WellFormed.{IsOperand}
+use Rattle.elaborate.specs.Sources.{is_of_node, nowhere, known_before, known_behind, local_meant, named_at, said_at, slot_at, slot_of, slot_of_local}
+use Rattle.elaborate.specs.Known.{facts, holding}
+use Rattle.elaborate.specs.Rows.{code_of, name_row, operand_of, site_of, step_at, test_of_null}
+use Rattle.elaborate.proofs.Given.{Setting, Laws, around}
+use Rattle.elaborate.proofs.SlotFacts.{holds}
+use Rattle.elaborate.proofs.Chains.{last_among}
+use Rattle.elaborate.proofs.Standing.{AreValues, IsSlotOf, IsValueSlot, Standing, found_of}
+use Rattle.elaborate.proofs.Tells.{Tells}
+use Rattle.elaborate.proofs.Claims.{Does, does_both, does_step}
+use Rattle.elaborate.proofs.Inside.{facts_inside}
+use Rattle.elaborate.proofs.Leaves.{Has, IsUnshared, store_leads}
+use Rattle.elaborate.proofs.Points.{all_in, gives_value, has_local, has_value, held_before, held_last, unshared, values_more}
+use Rattle.elaborate.proofs.ValueTypes.{Reads, name_reads, plain_value, value_not_never, value_stays}
 
--- where more is known, a run may go on to what it may go on to where less is known
-pub goes_on_implied : (p : Program) (frame : Frame) (m m' : FlowModel) (held : List Temporary) (n : ℕ) → IsOver frame p → Implies frame m m' → GoesOn p frame m' held n → GoesOn p frame m held n
-goes_on_implied p frame m m' held n over implies goes = record {
-  within = goes.within;
-  leads = λ reached. leads_known p frame m m' held held n over goes (implies.reachable reached) (λ i q at. implies_held frame m m' held i q implies at);
-}
+-- What is said of a node is found by its number. The slot of an expression has its type and is no local's; a local that is declared has a slot of its type.
+pub record IsSaid (c : Setting) (said : NodeFacts) : Type 0 where
+  pub found : find (is_of_node said.node.0) c.x.typed ≡ Some said
+  pub value : (t : Ty) → said.ty ≡ Some t → IsValueSlot c (slot_of c.x said.node.0).0 × (declared_at c.g (slot_of c.x said.node.0).0 ≡ t)
+  pub local : (var : LocalId) (l : Facts) → said.ty ≡ None → said.element ≡ Some (Local var) → facts_of said.after var ≡ Some l → IsSlotOf c var.0 l.ty
 
--- where values are held, a run may go on to where none is
-goes_on_holding : (p : Program) (frame : Frame) (m : FlowModel) (held : List Temporary) (n : ℕ) → IsOver frame p → GoesOn p frame m [] n → GoesOn p frame m held n
-goes_on_holding p frame m held n over goes = record {
-  within = goes.within;
-  leads = λ reached. leads_known p frame m m held [] n over goes reached (λ i q at. implies_with_none m held q);
-}
+-- so it is of all of these
+abbrev pub AreSaid : Setting → List NodeFacts → Type 0
+AreSaid c nodes = All (IsSaid c) nodes
 
--- what comes next isn't the last of n + 1 points from k on
-not_last : (k n next : ℕ) → IsBeyond k (n + 1) next → next ≢ k + n
-not_last k n next beyond same = ⊎_elim (λ below. omega arith) (λ above. omega arith) beyond
+-- of the first of two lists, and of the second
+pub said_left : (c : Setting) (xs ys : List NodeFacts) → AreSaid c (xs ++ ys) → AreSaid c xs
+said_left c [] ys said = All-nil (IsSaid c)
+said_left c (x ∷ xs) ys said = All-cons (IsSaid c) x xs (All-head (IsSaid c) x (xs ++ ys) said) (said_left c xs ys (All-tail (IsSaid c) x (xs ++ ys) said))
 
--- and what comes next isn't the one point at k
-not_only : (k next : ℕ) → IsBeyond k 1 next → next ≢ k
-not_only k next beyond same = ⊎_elim (λ below. omega arith) (λ above. omega arith) beyond
+pub said_right : (c : Setting) (xs ys : List NodeFacts) → AreSaid c (xs ++ ys) → AreSaid c ys
+said_right c [] ys said = said
+said_right c (x ∷ xs) ys said = said_right c xs ys (All-tail (IsSaid c) x (xs ++ ys) said)
 
--- the points of an expression
-pub value_sound : (p : Program) (frame : Frame) (names : Names) (source : Option NodeId) (tree : Tree) (m : FlowModel) (height : ℕ) (held : List Temporary) (k next : ℕ)
-    → IsOver frame p → IsGood frame m → IsTrue (is_expression tree) → (evaluate no_rows names tree m).faults ≡ [] → height + value_height tree ≤ frame.height
-    → Has p k (value_points no_rows frame names source tree m height held k next)
-    → IsBeyond k (value_count tree) next
-    → GoesOn p frame m (held ++ held_for height tree) next
-    → IsSound p frame m held k (value_points no_rows frame names source tree m height held k next) (entry (value_count tree) k next)
-value_sound p frame names source tree m height held k next over good form clean room has beyond goes = points_sound p frame names source tree m height held k next over good form clean room has beyond goes
+pub said_last : (c : Setting) (xs : List NodeFacts) (x : NodeFacts) → AreSaid c (xs ++ x ∷ []) → IsSaid c x
+said_last c xs x said = All-head (IsSaid c) x [] (said_right c xs (x ∷ []) said)
 
--- one point where no value is held
-one_sound : (p : Program) (frame : Frame) (m : FlowModel) (k : ℕ) (q : LaidPoint) → IsOver frame p → q.facts ≡ facts_for frame m [] → Has p k (q ∷ []) → IsSafe p k q → IsSound p frame m [] k (q ∷ []) k
-one_sound p frame m k q over is has safe = record { safe = safe_one p k q safe; enters = goes_to_point p frame m [] k q over has is }
+-- an operand of a type: a constant of it, or the slot of an expression of it
+unfoldable pub IsOperandOf : Setting → Operand → Ty → Type 0
+IsOperandOf c (Slot slot) t = IsValueSlot c slot.0 × (declared_at c.g slot.0 ≡ t)
+IsOperandOf c (Constant value) t = type_of no_objects value ≡ t
 
--- the points of a condition, by the word that it tests
-abbrev points_by : Frame → Names → NodeId → Tree → (after : FlowModel) → (k when_true when_false : ℕ) → (m : FlowModel) → Option ℕ → List LaidPoint
-points_by frame names source tree after k when_true when_false m found =
-    option_map_or
-    (λ word. point frame (Some source) after (TestNull (slot_named frame names word) (to when_false) (to when_true)))
-    found
-    (value_points no_rows frame names (Some source) tree m 0 [] k (k + value_count tree) ++ with_value frame source tree after (Branch (operand_of frame names 0 tree) (to when_true) (to when_false)))
+pub operand_slot : (c : Setting) (slot : SlotId) (t : Ty) → IsValueSlot c slot.0 × (declared_at c.g slot.0 ≡ t) → IsOperandOf c (Slot slot) t
+unfolding IsOperandOf
+operand_slot c slot t is = is
 
--- the points of a condition
-pub condition_sound : (p : Program) (frame : Frame) (names : Names) (source : NodeId) (tree : Tree) (m : FlowModel) (k when_true when_false : ℕ)
-    → IsOver frame p → IsGood frame m → IsTrue (is_expression tree) → (evaluate no_rows names tree m).faults ≡ [] → condition_faults no_rows (place_of tree) (evaluate no_rows names tree m).ty ≡ []
-    → value_height tree ≤ frame.height
-    → Has p k (condition_points no_rows frame names source tree m k when_true when_false)
-    → IsBeyond k (condition_count tree) when_true → IsBeyond k (condition_count tree) when_false
-    → GoesOn p frame (evaluate no_rows names tree m).when_true [] when_true
-    → GoesOn p frame (evaluate no_rows names tree m).when_false [] when_false
-    → IsSound p frame m [] k (condition_points no_rows frame names source tree m k when_true when_false) k
-condition_sound p frame names source tree m k when_true when_false over good form clean is_bool room has beyond_true beyond_false goes_true goes_false = by (tested_word tree) refl has beyond_true beyond_false
-  where
-    v : Value
-    v = evaluate no_rows names tree m
+-- What the code of a value does, by what the rules give for it: once it is done its value is held, and it is where the condition holds or fails as behind it, unless it tests for null or is a constant.
+pub record Valued (c : Setting) (values : List SlotId) (m : FlowModel) (tree : Tree) (e : Evaluation) : Type 0 where
+  pub does : Does c (code_of c.x values tree) (facts c.x m values) (facts c.x e.after (holding values (operand_of c.x tree)))
+  pub operand : IsOperandOf c (operand_of c.x tree) e.ty
+  pub value : is_value_type e.ty ≡ true
+  pub before : known_before c.x (place_of tree) ≡ m
+  pub behind : known_behind c.x (place_of tree) ≡ e.after
+  pub when_true : test_of_null c.x tree ≡ None → (operand_of c.x tree ≡ Constant (Boolean false) → ⊥) → e.when_true ≡ e.after
+  pub when_false : test_of_null c.x tree ≡ None → (operand_of c.x tree ≡ Constant (Boolean true) → ⊥) → e.when_false ≡ e.after
 
-    by : (found : Option ℕ) → tested_word tree ≡ found → Has p k (points_by frame names source tree v.after k when_true when_false m found) → IsBeyond k (if is_some found then 1 else value_count tree + 1) when_true → IsBeyond k (if is_some found then 1 else value_count tree + 1) when_false
-        → IsSound p frame m [] k (points_by frame names source tree v.after k when_true when_false m found) k
-    by None is points above_true above_false =
-        then_sound p frame names source tree m k (Branch (operand_of frame names 0 tree) (to when_true) (to when_false)) over good form clean room points
-        (branch_safe p frame names (Some source) tree m (k + value_count tree) when_true when_false over good form clean is_bool room is (not_last k (value_count tree) when_true above_true) (not_last k (value_count tree) when_false above_false) goes_true goes_false)
-    by (Some word) is points above_true above_false =
-        one_sound p frame m k (record { source = Some source; facts = facts_for frame v.after []; term = TestNull (slot_named frame names word) (to when_false) (to when_true) }) over
-        (ap (λ (x : FlowModel). facts_for frame x []) (after_same frame names tree m good form clean)) points
-        (subst (λ (x : FlowModel). IsSafe p k (record { source = Some source; facts = facts_for frame x []; term = TestNull (slot_named frame names word) (to when_false) (to when_true) })) (sym (after_same frame names tree m good form clean))
-        (test_safe p frame names (Some source) word m v.when_true v.when_false k when_true when_false over good (condition_tests frame names tree m word good form is clean) (not_only k when_true above_true) (not_only k when_false above_false) goes_true goes_false))
+-- an operand is among the values that are held, if it is no constant
+unfoldable pub IsHeld : List SlotId → Operand → Type 0
+IsHeld values (Slot slot) = holds values slot.0 ≡ true
+IsHeld values (Constant value) = Unit {0}
 
--- a declaration without an initializer
-declare_alone : (p : Program) (frame : Frame) (names : Names) (at : Place) (declared : Tree) (variable : Name) (m : FlowModel) (k next : ℕ)
-    → IsOver frame p → IsTrue (is_statement (declare at declared variable absent))
-    → get names variable.word ≡ Some (local_of variable)
-    → find (is_local (local_of variable)) frame.locals ≡ Some (record { var = local_of variable; ty = type_of declared })
-    → facts_of m (local_of variable) ≡ None
-    → Has p k (statement_points no_rows frame names (declare at declared variable absent) m k next)
-    → IsBeyond k 1 next
-    → GoesOn p frame (run no_rows names (declare at declared variable absent) m).after [] next
-    → IsSound p frame m [] k (statement_points no_rows frame names (declare at declared variable absent) m k next) k
-declare_alone p frame names at declared variable m k next over form means listed fresh has beyond goes =
-    one_sound p frame m k (record { source = Some at.node; facts = facts_for frame m []; term = declaration_term ty (slot_named frame names variable.word) (to next) }) over refl has
-    (subst (λ (s : SlotId). IsSafe p k (record { source = Some at.node; facts = facts_for frame m []; term = declaration_term ty s (to next) })) (sym named) (safe (admits_null ty) refl))
-  where
-    ty : Ty
-    ty = type_of declared
+module _ (c : Setting) (laws : Laws c) where
+  -- one more operand is held
+  pub values_with : (values : List SlotId) (operand : Operand) (t : Ty) → AreValues c values → IsOperandOf c operand t → AreValues c (holding values operand)
+  unfolding IsOperandOf
+  values_with values (Slot slot) t are is = values_more c values slot are is.0
+  values_with values (Constant value) t are is = are
 
-    var : LocalId
-    var = local_of variable
+  pub held_with : (values : List SlotId) (operand : Operand) → IsHeld (holding values operand) operand
+  unfolding IsHeld
+  held_with values (Slot slot) = held_last values slot
+  held_with values (Constant value) = tt
 
-    m' : FlowModel
-    m' = declare_of m (declared_local ty var false)
+  pub held_still : (values : List SlotId) (operand other : Operand) → IsHeld values operand → IsHeld (holding values other) operand
+  unfolding IsHeld
+  held_still values (Slot slot) (Slot other) here = held_before values other slot.0 here
+  held_still values (Slot slot) (Constant value) here = here
+  held_still values (Constant value) other here = tt
 
-    named : slot_named frame names variable.word ≡ slot_of frame var
-    named = ap (λ (found : Option LocalId). option_map_or (slot_of frame) found (record { 0 = 0 })) means
+  pub fewer_held : (values : List SlotId) (operand : Operand) (i : ℕ) → holds values i ≡ true → holds (holding values operand) i ≡ true
+  fewer_held values (Slot slot) i here = held_before values slot i here
+  fewer_held values (Constant value) i here = here
 
-    here : IsAt frame (slot_of frame var).0 (of_local (record { var = var; ty = ty }))
-    here = slot_of_local frame var (record { var = var; ty = ty }) listed
+  -- the function has the slot of an operand
+  pub operand_inside : (operand : Operand) (t : Ty) → IsOperandOf c operand t → IsOperand c.g operand
+  unfolding IsOperandOf
+  operand_inside (Slot slot) t is = is.0.inside
+  operand_inside (Constant value) t is = tt
 
-    same : IsSameElsewhere var m m'
-    same other apart = facts_of-declare_other m (declared_local ty var false) other apart
+  -- an operand that is held has its value
+  pub has_operand : (m : FlowModel) (values : List SlotId) (operand : Operand) (t : Ty) → Standing c m → AreValues c values → IsOperandOf c operand t → IsHeld values operand → Has c (facts c.x m values) operand t
+  unfolding IsOperandOf IsHeld
+  has_operand m values (Slot slot) t stands are is held = has_value c laws m stands values are slot t held is.1
+  has_operand m values (Constant value) t stands are is held = record { assigned = refl; typed = is }
 
-    goes_there : GoesOn p frame m' [] next
-    goes_there = subst (λ (o : Outcome). GoesOn p frame o.after [] next) (declare_is names variable ty m var means fresh) goes
+  -- the current type of a plain local is plain
+  pub current_plain : (l : Facts) → IsPlainLocal l → is_plain (current_of l) ≡ true
+  current_plain l plain = elim (last_among c laws l.ty l.chain) [
+    | inl same ↦ subst IsPlainType (sym same) plain.declared
+    | inr among ↦ all_in c laws IsPlainType l.chain (current_of l) plain.promoted among
+  ]
 
-    after : (b : Bool) → admits_null ty ≡ b → ◌≡◌ {A = SlotFact} (fact_for m' [] (of_local (record { var = var; ty = ty }))) (record { assigned = b && true; held = Own ty })
-    after b is = known_local m' [] (record { var = var; ty = ty }) (fresh_facts (declared_local ty var false)) (facts_of-declare_same m (declared_local ty var false)) refl
-        ∙ ap (λ (x : Bool). let fact : SlotFact = record { assigned = x && true; held = Own ty } in fact) is
+-- what is wrong with an expression is what its row says
+same_faults : (b : Bool) (e : Evaluation) → (cond b (record e { after = exit_of e.after; when_true = exit_of e.when_true; when_false = exit_of e.when_false }) e).faults ≡ e.faults
+same_faults true e = refl
+same_faults false e = refl
 
-    safe : (b : Bool) → admits_null ty ≡ b → IsSafe p k (record { source = Some at.node; facts = facts_for frame m []; term = if admits_null ty then Initialize (slot_of frame var) (Constant Null) (to next) else Declare (slot_of frame var) (to next) })
-    safe true is = rw is
-        (initialize_safe p frame m m' [] (Some at.node) k next var ty over here same (λ reached. reached) goes_there (not_only k next beyond)
-        (Constant Null) null ty (record { inside = tt; readable = refl; typed = refl }) is (after true is) is)
-    safe false is = rw is (declare_safe p frame m m' [] (Some at.node) k next var ty over here same (λ reached. reached) goes_there (not_only k next beyond) (after false is))
+pub row_none : (at : Place) (element : Option Meaning) (m : FlowModel) (row : Evaluation) → (expression_row at element m row).faults ≡ [] → row.faults ≡ []
+row_none at element m row none = sym (same_faults (same_type row.ty ty.never) row) ∙ none
 
--- a declaration with an initializer
-declare_with : (p : Program) (frame : Frame) (names : Names) (at : Place) (declared : Tree) (variable : Name) (value : Tree) (m : FlowModel) (k next : ℕ)
-    → IsOver frame p → IsGood frame m → IsTrue (is_statement (declare at declared variable (present value))) → (run no_rows names (declare at declared variable (present value)) m).faults ≡ [] → value_height value ≤ frame.height
-    → get names variable.word ≡ Some (local_of variable)
-    → find (is_local (local_of variable)) frame.locals ≡ Some (record { var = local_of variable; ty = type_of declared })
-    → facts_of m (local_of variable) ≡ None
-    → Has p k (statement_points no_rows frame names (declare at declared variable (present value)) m k next)
-    → IsBeyond k (value_count value + 1) next
-    → GoesOn p frame (run no_rows names (declare at declared variable (present value)) m).after [] next
-    → IsSound p frame m [] k (statement_points no_rows frame names (declare at declared variable (present value)) m k next) k
-declare_with p frame names at declared variable value m k next over good form clean room means listed fresh has beyond goes =
-    then_sound p frame names at.node value m k (Initialize (slot_named frame names variable.word) (operand_of frame names 0 value) (to next)) over good forms.1 both.0 room has
-    (subst (λ (s : SlotId). IsSafe p (k + value_count value) (record { source = Some at.node; facts = facts_for frame m (held_for 0 value); term = Initialize s (operand_of frame names 0 value) (to next) })) (sym named) safe)
-  where
-    ty : Ty
-    ty = type_of declared
+-- behind a value more is reached
+pub plain_row : (at : Place) (element : Option Meaning) (m : FlowModel) (row : Evaluation) → is_value_type row.ty ≡ true → expression_row at element m row ≡ with_node at.node element m row
+plain_row at element m row value = ap (with_node at.node element m) (value_stays row value)
 
-    var : LocalId
-    var = local_of variable
+module _ (c : Setting) (laws : Laws c) where
+  -- A name of a local.
+  module _ (at : Place) (word : ℕ) (m : FlowModel) (values : List SlotId) (var : LocalId) (l : Facts) (stands : Standing c m) (are : AreValues c values) (is : facts_of m var ≡ Some l) (assigned : l.assigned ≡ true)
+      (own : IsSaid c (said_of_expression at.node (Some (Local var)) m (of_type (current_of l) m)))
+    where
+      abbrev slot : SlotId
+      slot = slot_at c.x at
 
-    v : Value
-    v = evaluate no_rows names value m
+      before_here : known_before c.x at ≡ m
+      before_here = ap (λ found. option_map_or (λ (n : NodeFacts). n.before) found nowhere) own.found
 
-    forms : IsTrue (is_written_type declared) × IsTrue (is_expression value)
-    forms = and_parts (is_written_type declared) (is_expression value) form
+      name_code : code_of c.x values (identifier at word) ≡ step_at c.x at m values (stores slot (Slot (slot_of_local c.x var)))
+      name_code =
+          ap (λ found. name_row c.x at values (local_meant (option_map_or (λ (n : NodeFacts). n.element) found None))) own.found
+          ∙ ap (λ k. step_at c.x at k values (stores slot (Slot (slot_of_local c.x var)))) before_here
 
-    both : (v.faults ≡ []) × ((initialize_row no_rows names variable ty (place_of value) v.ty v.after).faults ≡ [])
-    both = both_empty v.faults (initialize_row no_rows names variable ty (place_of value) v.ty v.after).faults clean
+      name_does : Does c (code_of c.x values (identifier at word)) (facts c.x m values) (facts c.x m (values ++ slot ∷ []))
+      name_does =
+          let value = own.value (current_of l) refl in
+          let quiet = unshared c laws m stands values are in
+          subst (λ (code : Code). Does c code (facts c.x m values) (facts c.x m (values ++ slot ∷ []))) (sym name_code)
+          (does_step c laws (site_of at) (facts c.x m values) (facts c.x m (values ++ slot ∷ [])) (stores slot (Slot (slot_of_local c.x var))) (facts_inside c m values stands are)
+          (value.0.inside, (found_of c m var l stands is).slot.inside)
+          (λ reached f' tells. store_leads c laws (facts c.x m values) (facts c.x m (values ++ slot ∷ [])) quiet reached f' tells slot (Slot (slot_of_local c.x var)) (current_of l)
+          (has_local c laws m stands values are var l is assigned)
+          (gives_value c laws m stands values values are (λ i here. here) reached slot (current_of l) value.0 value.1 quiet)))
 
-    row_is : initialize_row no_rows names variable ty (place_of value) v.ty v.after ≡ record { after = at_local (declare_of m (declared_local ty var true)) var (assign_facts no_rows v.ty); faults = fit_faults no_rows (place_of value) v.ty ty }
-    row_is = ap (λ (x : FlowModel). initialize_row no_rows names variable ty (place_of value) v.ty x) (after_same frame names value m good forms.1 both.0) ∙ initialize_is names variable ty (place_of value) v.ty m var means fresh
+      pub name_valued : Valued c values m (identifier at word) (with_node at.node (Some (Local var)) m (of_type (current_of l) m))
+      unfolding IsOperandOf
+      name_valued = record {
+        does = name_does;
+        operand = own.value (current_of l) refl;
+        value = plain_value (current_of l) (current_plain c laws l (found_of c m var l stands is).plain);
+        before = before_here;
+        behind = ap (λ found. option_map_or (λ (n : NodeFacts). n.after) found nowhere) own.found;
+        when_true = λ test other. refl;
+        when_false = λ test other. refl;
+      }
 
-    l : Facts
-    l = fresh_facts (declared_local ty var true)
-
-    started : FlowModel
-    started = declare_of m (declared_local ty var true)
-
-    m' : FlowModel
-    m' = at_local started var (assign_facts no_rows v.ty)
-
-    named : slot_named frame names variable.word ≡ slot_of frame var
-    named = ap (λ (found : Option LocalId). option_map_or (slot_of frame) found (record { 0 = 0 })) means
-
-    known_then : facts_of m' var ≡ Some (assign_facts no_rows v.ty l)
-    known_then = facts_of-at_local_same started var (assign_facts no_rows v.ty) (λ x. refl) ∙ ap (option_map (assign_facts no_rows v.ty)) (facts_of-declare_same m (declared_local ty var true))
-
-    simple : IsTrue (is_simple v.ty)
-    simple = value_simple frame names value m good forms.1 both.0
-
-    below : IsTrue (sub no_rows v.ty ty)
-    below = fits_below v.ty ty simple (written_simple declared forms.0).0 (initializer_fits (place_of value) v.ty ty (sym (ap (λ (o : Outcome). o.faults) row_is) ∙ both.1))
-
-    same : IsSameElsewhere var m m'
-    same other apart = facts_of-at_local_other started var (assign_facts no_rows v.ty) (λ x. refl) other apart ∙ facts_of-declare_other m (declared_local ty var true) other apart
-
-    safe : IsSafe p (k + value_count value) (record { source = Some at.node; facts = facts_for frame m (held_for 0 value); term = Initialize (slot_of frame var) (operand_of frame names 0 value) (to next) })
-    safe = initialize_safe p frame m m' (held_for 0 value) (Some at.node) (k + value_count value) next var ty over (slot_of_local frame var (record { var = var; ty = ty }) listed) same (λ reached. reached)
-        (subst (λ (o : Outcome). GoesOn p frame o.after [] next) row_is goes) (not_last k (value_count value) next beyond)
-        (operand_of frame names 0 value) v.ty (current_of (assign_facts no_rows v.ty l)) (operand_ready p frame names value m 0 (held_for 0 value) over good forms.1 both.0 (omega arith) (λ t is. is)) below
-        (known_local m' [] (record { var = var; ty = ty }) (assign_facts no_rows v.ty l) known_then refl)
-        (written_type_fits v.ty l simple (written_simple declared forms.0).1 refl refl below)
-
--- the points of a declaration
-pub declare_sound : (p : Program) (frame : Frame) (names : Names) (at : Place) (declared : Tree) (variable : Name) (initial : Part) (m : FlowModel) (k next : ℕ)
-    → IsOver frame p → IsGood frame m → IsTrue (is_statement (declare at declared variable initial)) → (run no_rows names (declare at declared variable initial) m).faults ≡ [] → height_of (declare at declared variable initial) ≤ frame.height
-    → get names variable.word ≡ Some (local_of variable)
-    → find (is_local (local_of variable)) frame.locals ≡ Some (record { var = local_of variable; ty = type_of declared })
-    → facts_of m (local_of variable) ≡ None
-    → Has p k (statement_points no_rows frame names (declare at declared variable initial) m k next)
-    → IsBeyond k (count (declare at declared variable initial)) next
-    → GoesOn p frame (run no_rows names (declare at declared variable initial) m).after [] next
-    → IsSound p frame m [] k (statement_points no_rows frame names (declare at declared variable initial) m k next) k
-declare_sound p frame names at declared variable absent m k next over good form clean room means listed fresh has beyond goes = declare_alone p frame names at declared variable m k next over form means listed fresh has beyond goes
-declare_sound p frame names at declared variable (present value) m k next over good form clean room means listed fresh has beyond goes = declare_with p frame names at declared variable value m k next over good form clean room means listed fresh has beyond goes
-
--- the points of an assignment
-pub assign_sound : (p : Program) (frame : Frame) (names : Names) (at : Place) (target : Name) (value : Tree) (m : FlowModel) (k next : ℕ)
-    → IsOver frame p → IsGood frame m → IsTrue (is_statement (assign at target value)) → (run no_rows names (assign at target value) m).faults ≡ [] → height_of (assign at target value) ≤ frame.height
-    → Has p k (statement_points no_rows frame names (assign at target value) m k next)
-    → IsBeyond k (count (assign at target value)) next
-    → GoesOn p frame (run no_rows names (assign at target value) m).after [] next
-    → IsSound p frame m [] k (statement_points no_rows frame names (assign at target value) m k next) k
-assign_sound p frame names at target value m k next over good form clean room has beyond goes =
-    then_sound p frame names at.node value m k (Store (slot_named frame names target.word) (operand_of frame names 0 value) (to next)) over good form both.0 room has
-    (subst (λ (s : SlotId). IsSafe p (k + value_count value) (record { source = Some at.node; facts = facts_for frame m (held_for 0 value); term = Store s (operand_of frame names 0 value) (to next) })) (sym named) safe)
-  where
-    v : Value
-    v = evaluate no_rows names value m
-
-    both : (v.faults ≡ []) × ((assign_row no_rows names target (place_of value) v.ty v.after).faults ≡ [])
-    both = both_empty v.faults (assign_row no_rows names target (place_of value) v.ty v.after).faults clean
-
-    row_is : assign_row no_rows names target (place_of value) v.ty v.after ≡ assign_row no_rows names target (place_of value) v.ty m
-    row_is = ap (λ (x : FlowModel). assign_row no_rows names target (place_of value) v.ty x) (after_same frame names value m good form both.0)
-
-    writes : Writes names m target.word v.ty (assign_row no_rows names target (place_of value) v.ty m).after
-    writes = assign_writes names target (place_of value) v.ty m (sym (ap (λ (o : Outcome). o.faults) row_is) ∙ both.1)
-
-    l : Facts
-    l = writes.local
-
-    fits : Fits frame l
-    fits = good.fits writes.var l writes.known
-
-    m' : FlowModel
-    m' = at_local m writes.var (assign_facts no_rows v.ty)
-
-    named : slot_named frame names target.word ≡ slot_of frame writes.var
-    named = ap (λ (found : Option LocalId). option_map_or (slot_of frame) found (record { 0 = 0 })) writes.means
-
-    known_then : facts_of m' writes.var ≡ Some (assign_facts no_rows v.ty l)
-    known_then = facts_of-at_local_same m writes.var (assign_facts no_rows v.ty) (λ x. refl) ∙ ap (option_map (assign_facts no_rows v.ty)) writes.known
-
-    below : IsTrue (sub no_rows v.ty l.ty)
-    below = fits_below v.ty l.ty (value_simple frame names value m good form both.0) (shape_declared l.ty l.chain fits.shape) writes.fit
-
-    safe : IsSafe p (k + value_count value) (record { source = Some at.node; facts = facts_for frame m (held_for 0 value); term = Store (slot_of frame writes.var) (operand_of frame names 0 value) (to next) })
-    safe = store_safe p frame m m' (held_for 0 value) (Some at.node) (k + value_count value) next writes.var l.ty over (scope_slot frame m writes.var l good writes.known)
-        (λ other apart. facts_of-at_local_other m writes.var (assign_facts no_rows v.ty) (λ x. refl) other apart) (λ reached. reached)
-        (subst (λ (x : FlowModel). GoesOn p frame x [] next) (ap (λ (o : Outcome). o.after) row_is ∙ writes.is) goes) (not_last k (value_count value) next beyond)
-        (operand_of frame names 0 value) v.ty (current_of (assign_facts no_rows v.ty l)) (operand_ready p frame names value m 0 (held_for 0 value) over good form both.0 (omega arith) (λ t is. is)) below
-        (known_local m' [] (record { var = writes.var; ty = l.ty }) (assign_facts no_rows v.ty l) known_then fits.own)
-        (written_type_fits v.ty l (value_simple frame names value m good form both.0) fits.shape fits.untested fits.own below)
-        l writes.known fits.own
-
--- the points of an expression that stands as a statement
-pub eval_sound : (p : Program) (frame : Frame) (names : Names) (at : Place) (value : Tree) (m : FlowModel) (k next : ℕ)
-    → IsOver frame p → IsGood frame m → IsTrue (is_statement (eval at value)) → (run no_rows names (eval at value) m).faults ≡ [] → height_of (eval at value) ≤ frame.height
-    → Has p k (statement_points no_rows frame names (eval at value) m k next)
-    → IsBeyond k (count (eval at value)) next
-    → GoesOn p frame (run no_rows names (eval at value) m).after [] next
-    → IsSound p frame m [] k (statement_points no_rows frame names (eval at value) m k next) (entry (count (eval at value)) k next)
-eval_sound p frame names at value m k next over good form clean room has beyond goes =
-    let both = both_empty (evaluate no_rows names value m).faults [] clean in
-    let same = subst (λ (x : FlowModel). GoesOn p frame x [] next) (after_same frame names value m good form both.0) goes in
-    points_sound p frame names (Some at.node) value m 0 [] k next over good form both.0 (omega arith) has beyond (goes_on_holding p frame m (held_for 0 value) next over same)
-
--- the points of a print
-pub print_sound : (p : Program) (frame : Frame) (names : Names) (at : Place) (value : Tree) (m : FlowModel) (k next : ℕ)
-    → IsOver frame p → IsGood frame m → IsTrue (is_statement (print at value)) → (run no_rows names (print at value) m).faults ≡ [] → height_of (print at value) ≤ frame.height
-    → Has p k (statement_points no_rows frame names (print at value) m k next)
-    → IsBeyond k (count (print at value)) next
-    → GoesOn p frame (run no_rows names (print at value) m).after [] next
-    → IsSound p frame m [] k (statement_points no_rows frame names (print at value) m k next) k
-print_sound p frame names at value m k next over good form clean room has beyond goes =
-    let both = both_empty (evaluate no_rows names value m).faults [] clean in
-    let same = subst (λ (x : FlowModel). GoesOn p frame x [] next) (after_same frame names value m good form both.0) goes in
-    let f = facts_for frame m (held_for 0 value) in
-    let ready = operand_ready p frame names value m 0 (held_for 0 value) over good form both.0 (omega arith) (λ t is. is) in
-    then_sound p frame names at.node value m k (Output (operand_of frame names 0 value) (to next)) over good form both.0 room has
-    (record {
-      term_in = (ready.inside, goes.within);
-      moves_on = all_one (λ (x : PointId). x.0 ≢ k + value_count value) (to next) (not_last k (value_count value) next beyond);
-      fine = λ reached. record {
-        read = all_one (IsReadable f) (operand_of frame names 0 value) ready.readable;
-        stored = All-nil (FitsDeclared p);
-        asked = All-nil (FitsAsked p f);
-        leads = all_one (Leads p) _ ((goes_on_holding p frame m (held_for 0 value) next over same).leads reached);
-      };
-    })
+  -- the same by the rules
+  pub named : (names : Names) (at : Place) (word : ℕ) (wanted : Option Ty) (m : FlowModel) (values : List SlotId) → is_free (meaning_at c.outside word) ≡ true
+      → (evaluate (around c names) (identifier at word) wanted m).faults ≡ [] → Standing c m → AreValues c values → AreSaid c (evaluate (around c names) (identifier at word) wanted m).nodes
+      → Valued c values m (identifier at word) (evaluate (around c names) (identifier at word) wanted m)
+  named names at word wanted m values free none stands are said =
+      let s = around c names in
+      let row = rows.name_row (meaning_of s word) at m in
+      let reads = name_reads c names word at m free (row_none at (Some (meaning_of s word)) m row none) in
+      let value = plain_value (current_of reads.l) (current_plain c laws reads.l (found_of c m reads.var reads.l stands reads.found).plain) in
+      let is : evaluate s (identifier at word) wanted m ≡ with_node at.node (Some (Local reads.var)) m (of_type (current_of reads.l) m) =
+      ap (λ (meaning : Meaning). expression_row at (Some meaning) m row) reads.meant ∙ ap (expression_row at (Some (Local reads.var)) m) reads.gives ∙ plain_row at (Some (Local reads.var)) m (of_type (current_of reads.l) m) value in
+      let own = said_last c [] (said_of_expression at.node (Some (Local reads.var)) m (of_type (current_of reads.l) m)) (subst (λ (e : Evaluation). AreSaid c e.nodes) is said) in
+      subst (λ (e : Evaluation). Valued c values m (identifier at word) e) (sym is)
+      (name_valued at word m values reads.var reads.l stands are reads.found reads.assigned own)

@@ -1,289 +1,223 @@
--- What the judgement says of expressions in which nothing is wrong.
-use Rattle.std.proofs.Common.{◌≡◌, ℕ, Bool, true, false, List, [], ◌∷◌, ◌++◌, if◌then◌else◌, Option, Some, None, find, refl, sym, ap, subst, ◌∙◌, eqb-true}
-use Rattle.std.specs.Prelude.{IsTrue, ◌||◌}
+-- The code of every value that is built does what the rules say of it.
+use Rattle.std.proofs.Common.{◌≡◌, ℕ, Bool, true, false, cond, not, ◌&&◌, List, [], ◌∷◌, ◌++◌, Option, Some, None, refl, sym, ap, ◌∙◌, subst}
 use Rattle.std.specs.Option.{option_map_or}
-use Rattle.std.specs.FinMap.{get}
 use Rattle.std.proofs.lemmas.Bool.{and_parts}
-use Rattle.small_tree.specs.Tree.{Tree, name, integer, boolean, null_literal, binary, parenthesis}
-use Rattle.small_tree.specs.Places.{place_of}
-use Rattle.small_tree.specs.declared.places.Place.{Place}
-use Rattle.small_tree.specs.declared.places.Span.{Span}
-use Rattle.small_tree.specs.declared.nodes.IntegerLiteral.{IntegerLiteral}
-use Rattle.small_tree.specs.declared.nodes.Operator.{Operator}
-use Rattle.small_tree.specs.declared.nodes.OperatorKind.{OperatorKind}
-use Rattle.small_tree.specs.declared.nodes.OperatorKind.TheVariants.{Plus, Less, NotEqual}
-use Rattle.small_flow.specs.Ty.{Ty, never, null, int, bool, nullable, same_type}
-use Rattle.small_flow.specs.Sub.{no_rows, sub}
-use Rattle.small_flow.specs.Flow.{FlowModel, is_of, facts_of, current_of}
-use Rattle.small_flow.specs.declared.locals.LocalId.{LocalId}
-use Rattle.small_flow.specs.declared.locals.Facts.{Facts}
-use Rattle.small_flow.specs.declared.subtyping.Rows.{Rows}
-use Rattle.judgement.specs.declared.DiagnosticCode.TheVariants.{IntegerLiteralOutOfRange, UnassignedRead, UndefinedName}
-use Rattle.judgement.specs.Names.{Names}
-use Rattle.judgement.specs.Rows.{Value, exits_if_never, of_type, faulty, is_in_range, integer_row, boolean_row, read_row, name_row, is_invalid, fits, receiver_faults, argument_faults, operator_row}
-use Rattle.judgement.specs.Judgement.{compared_local, form_row, evaluate}
-use Rattle.judgement.proofs.Exits.{exits_if_never-lasts}
-use Rattle.elaborate.specs.Frame.{Frame, type_of_result}
-use Rattle.elaborate.specs.Forms.{is_expression}
-use Rattle.elaborate.proofs.Claims.{IsGood}
-use Rattle.elaborate.proofs.TypeLaws.{is_simple, shape_simple}
+use Rattle.dart_tree.specs.Tree.{Tree, assignment, call, identifier, integer_literal, boolean_literal, null_literal, parenthesis, binary_expression}
+use Rattle.dart_tree.specs.Places.{place_of}
+use Rattle.dart_tree.specs.declared.operators.BinaryOperator.{BinaryOperator}
+use Rattle.dart_tree.specs.declared.operators.BinaryOperatorKind.{BinaryOperatorKind}
+use Rattle.dart_tree.specs.declared.operators.BinaryOperatorKind.TheVariants.{Add, Less, NotEqual}
+use Rattle.dart_tree.specs.declared.places.Place.{Place}
+use Rattle.dart_tree.specs.declared.places.Span.{Span}
+use Rattle.dart_types.specs.Ty.{Ty}
+use Rattle.dart_types.specs.Ty as ty
+use Rattle.dart_types.specs.Same.{same_type}
+use Rattle.flow_model.specs.Flow.{FlowModel}
+use Rattle.flow_model.specs.Steps.{exit_of}
+use Rattle.flow_model.specs.declared.locals.LocalId.{LocalId}
+use Rattle.judgement.specs.NodeFacts.{NodeFacts}
+use Rattle.judgement.specs.declared.meaning.Meaning.{Meaning}
+use Rattle.judgement.specs.declared.meaning.Meaning.TheVariants.{Nothing, Local, Print, Class, Other}
+use Rattle.judgement.specs.Given.{Evaluation, exits_if_never, expression_row, said_of_expression, with_node}
+use Rattle.judgement.specs.ExpressionRows.{argument_faults, int, bool, kind_row, name_row, not_equal_row, operated_row, operation_of, parameter_of, receiver_faults, where_not_null}
+use Rattle.judgement.specs.Surroundings.{Names, meaning_of}
+use Rattle.judgement.specs.Written.{named_by, written_in}
+use Rattle.judgement.specs.Judgement as rules
+use Rattle.judgement.specs.Judgement.{as_local, element_of, evaluate, is_null_literal}
+use Rattle.built_forms.specs.Forms.{is_effect, is_operator, is_value}
+use Rattle.rule_laws.specs.Plain.{is_value_type}
+use Rattle.rule_laws.specs.Steps.{Evaluates, IsStep}
+use Rattle.core_ir.specs.declared.points.SlotId.{SlotId}
+use Rattle.core_emit.specs.Code.{adds, compares, differs}
+use Rattle.elaborate.specs.Sources.{is_of_node, local_meant, local_named, named_at, slot_at}
+use Rattle.elaborate.specs.Known.{holding}
+use Rattle.elaborate.specs.Rows.{compared_local, null_test, operand_of}
+use Rattle.elaborate.proofs.Given.{Setting, Laws, around}
+use Rattle.elaborate.proofs.Standing.{AreValues, Standing, same_slots}
+use Rattle.elaborate.proofs.ValueTypes.{add_operates, left_none, less_operates, right_none}
+use Rattle.elaborate.proofs.Expressions.{AreSaid, IsSaid, Valued, named, operand_slot, plain_row, row_none, said_last, said_left, said_right, values_with}
+use Rattle.elaborate.proofs.ValueForms.{adds_lead, before_node, behind_node, boolean, compares_lead, differs_lead, in_parentheses, integer, null, operands_inside, operator_does}
 
--- lists that have nothing together have nothing each
-pub both_empty : {X : Type 0} (xs ys : List X) → xs ++ ys ≡ [] → (xs ≡ []) × (ys ≡ [])
-both_empty [] ys none = (refl, none)
-both_empty (x ∷ xs) ys none = absurd cc
+-- what a value stands for where a statement may
+pub effect_of_value : (outside : List Meaning) (t : Tree) → is_value outside t ≡ true → is_effect outside t ≡ true
+effect_of_value outside (assignment at operator target value) built = absurd cc
+effect_of_value outside (call at callee type_arguments arguments) built = absurd cc
+effect_of_value outside _ built = built
 
--- a read changes nothing of what is known
-after_assigned : (at : Place) (ty : Ty) (m : FlowModel) (assigned : Bool) → (if assigned then of_type ty m else faulty at UnassignedRead m).after ≡ m
-after_assigned at ty m true = refl
-after_assigned at ty m false = refl
+-- behind a step the locals have slots as before it
+pub stands_behind : (c : Setting) (m a : FlowModel) (written : List LocalId) → Standing c m → IsStep c.rows.table m a written → Standing c a
+stands_behind c m a written stands step = record { plain = step.plain; slots = same_slots c a m step.same_scope stands.slots }
 
--- of a local, in scope or not
-after_read : (at : Place) (m : FlowModel) (found : Option Facts) → (read_row at found m).after ≡ m
-after_read at m None = refl
-after_read at m (Some local) = after_assigned at (current_of local) m local.assigned
+-- what an expression's code does, by the rules
+abbrev pub Value : Setting → Names → Tree → Type 0
+Value c names t = (wanted : Option Ty) (m : FlowModel) (values : List SlotId) → is_value c.outside t ≡ true → (evaluate (around c names) t wanted m).faults ≡ []
+    → Standing c m → AreValues c values → AreSaid c (evaluate (around c names) t wanted m).nodes → Valued c values m t (evaluate (around c names) t wanted m)
 
--- of a name, whatever it means
-after_name : (at : Place) (m : FlowModel) (found : Option LocalId) → (option_map_or (λ var. read_row at (facts_of m var) m) found (faulty at UndefinedName m)).after ≡ m
-after_name at m None = refl
-after_name at m (Some var) = after_read at m (facts_of m var)
+-- what is said of the nodes of an expression doesn't depend on whether more is reached behind it
+same_nodes : (b : Bool) (e : Evaluation) → (cond b (record e { after = exit_of e.after; when_true = exit_of e.when_true; when_false = exit_of e.when_false }) e).nodes ≡ e.nodes
+same_nodes true e = refl
+same_nodes false e = refl
 
--- nor does a literal
-after_integer : (at : Place) (m : FlowModel) (fitting : Bool) → (if fitting then of_type int m else faulty at IntegerLiteralOutOfRange m).after ≡ m
-after_integer at m true = refl
-after_integer at m false = refl
+pub row_said : (c : Setting) (at : Place) (element : Option Meaning) (m : FlowModel) (row : Evaluation) → AreSaid c (expression_row at element m row).nodes → AreSaid c row.nodes
+row_said c at element m row said =
+    subst (AreSaid c) (same_nodes (same_type row.ty ty.never) row) (said_left c (exits_if_never row).nodes (said_of_expression at.node element m (exits_if_never row) ∷ []) said)
 
--- whichever it is
-after_boolean : (value : Bool) (m : FlowModel) → (boolean_row value m).after ≡ m
-after_boolean true m = refl
-after_boolean false m = refl
+same_local : (meaning : Meaning) → local_meant (Some meaning) ≡ as_local meaning
+same_local Nothing = refl
+same_local (Local var) = refl
+same_local Print = refl
+same_local (Class class) = refl
+same_local Other = refl
 
--- after an operator is known what is known after its right side
-after_operator : (rows : Rows) (operator : OperatorKind) (span : Span) (at : Place) (compared : Option LocalId) (left right : Value) → (operator_row rows operator span at compared left right).after ≡ right.after
-after_operator rows Plus span at compared left right = refl
-after_operator rows Less span at compared left right = refl
-after_operator rows NotEqual span at compared left right = refl
+module _ (c : Setting) (laws : Laws c) (names : Names) where
+  -- the local that an expression names is said of its node
+  pub local_same : (t : Tree) (wanted : Option Ty) (m : FlowModel) → AreSaid c (evaluate (around c names) t wanted m).nodes → local_named c.x t ≡ as_local (named_by (around c names) t)
+  local_same (identifier at word) wanted m said =
+      let row = name_row (meaning_of (around c names) word) at m in
+      let own = said_last c (exits_if_never row).nodes (said_of_expression at.node (Some (meaning_of (around c names) word)) m (exits_if_never row)) said in
+      ap (λ found. local_meant (option_map_or (λ (n : NodeFacts). n.element) found None)) own.found ∙ same_local (meaning_of (around c names) word)
+  local_same (parenthesis at inner) wanted m said =
+      local_same inner wanted m (row_said c at (element_of (around c names) (parenthesis at inner)) m (evaluate (around c names) inner wanted m) said)
+  local_same _ wanted m said = refl
 
--- none of these types is Never
-simple_lasts : (t : Ty) → IsTrue (is_simple t) → same_type t never ≡ false
-simple_lasts null simple = refl
-simple_lasts int simple = refl
-simple_lasts bool simple = refl
-simple_lasts (nullable int) simple = refl
-simple_lasts _ simple = absurd cc
+  compared_at : (left right : Tree) (right_null left_null : Bool) (a a' b b' : Option LocalId) → a ≡ a' → b ≡ b' → cond right_null a (cond left_null b None) ≡ cond right_null a' (cond left_null b' None)
+  compared_at left right right_null left_null a a' b b' is is' = ap (λ v. cond right_null v (cond left_null b None)) is ∙ ap (λ v. cond right_null a' (cond left_null v None)) is'
 
--- so an expression of one of them doesn't exit
-pub simple_stays : (v : Value) → IsTrue (is_simple v.ty) → exits_if_never v ≡ v
-simple_stays v simple = exits_if_never-lasts v (simple_lasts v.ty simple)
+  pub compared_same : (left right : Tree) (wanted wanted' : Option Ty) (m m' : FlowModel) → AreSaid c (evaluate (around c names) left wanted m).nodes → AreSaid c (evaluate (around c names) right wanted' m').nodes
+      → compared_local c.x left right ≡ rules.compared_local (around c names) left right
+  compared_same left right wanted wanted' m m' said said' =
+      compared_at left right (is_null_literal right) (is_null_literal left) (local_named c.x left) (as_local (named_by (around c names) left)) (local_named c.x right) (as_local (named_by (around c names) right)) (local_same left wanted m said) (local_same right wanted' m' said')
 
--- what a name reads in which nothing is wrong: the local that it means, which is assigned
-pub record Reads (names : Names) (m : FlowModel) (word : ℕ) (ty : Ty) : Type 0 where
-  pub var : LocalId
-  pub local : Facts
-  pub means : get names word ≡ Some var
-  pub known : facts_of m var ≡ Some local
-  pub assigned : IsTrue local.assigned
-  pub typed : ty ≡ current_of local
+  -- where a comparison is no test for null, it tells nothing
+  untested : (compared : Option LocalId) → null_test c.x NotEqual compared ≡ None → compared ≡ None
+  untested None test = refl
+  untested (Some var) test = absurd cc
 
-module _ (names : Names) (at : Place) (word : ℕ) (m : FlowModel) where
-  -- of a local in scope, by whether it is assigned
-  reads_assigned : (var : LocalId) (local : Facts) → get names word ≡ Some var → facts_of m var ≡ Some local → (assigned : Bool) → local.assigned ≡ assigned
-      → (if assigned then of_type (current_of local) m else faulty at UnassignedRead m).faults ≡ [] → Reads names m word (if assigned then of_type (current_of local) m else faulty at UnassignedRead m).ty
-  reads_assigned var local means known true is clean = record { var = var; local = local; means = means; known = known; assigned = is; typed = refl }
-  reads_assigned var local means known false is clean = absurd cc
+  -- behind a value the locals have slots
+  pub stands_after : (t : Tree) (wanted : Option Ty) (m : FlowModel) → is_value c.outside t ≡ true → (evaluate (around c names) t wanted m).faults ≡ [] → Standing c m → Standing c (evaluate (around c names) t wanted m).after
+  stands_after t wanted m built none stands =
+      let steps = laws.values names t wanted m (effect_of_value c.outside t built) none stands.plain in
+      stands_behind c m (evaluate (around c names) t wanted m).after (written_in (around c names) t) stands steps.after
 
-  -- of a local, by what is known of it
-  reads_known : (var : LocalId) → get names word ≡ Some var → (found : Option Facts) → facts_of m var ≡ found → (read_row at found m).faults ≡ [] → Reads names m word (read_row at found m).ty
-  reads_known var means None known clean = absurd cc
-  reads_known var means (Some local) known clean = reads_assigned var local means known local.assigned refl clean
+  binary_at : (at : Place) (kind : BinaryOperatorKind) (span : Span) (left right : Tree) (wanted : Option Ty) (m : FlowModel) (values : List SlotId) → Value c names left → Value c names right
+      → (is_operator kind && (is_value c.outside left && is_value c.outside right)) ≡ true
+      → (evaluate (around c names) (binary_expression at (record { kind = kind; span = span }) left right) wanted m).faults ≡ [] → Standing c m → AreValues c values
+      → AreSaid c (evaluate (around c names) (binary_expression at (record { kind = kind; span = span }) left right) wanted m).nodes
+      → Valued c values m (binary_expression at (record { kind = kind; span = span }) left right) (evaluate (around c names) (binary_expression at (record { kind = kind; span = span }) left right) wanted m)
+  binary_at at Add span left right wanted m values one other built none stands are said =
+      let s = around c names in
+      let operator : BinaryOperator = record { kind = Add; span = span } in
+      let e = evaluate s left None m in
+      let e' = evaluate s right (parameter_of (operation_of e.ty Add)) e.after in
+      let row = operated_row c.rows.table operator (place_of right) e e' in
+      let parts = and_parts (is_value c.outside left) (is_value c.outside right) built in
+      let nothing_wrong = row_none at None m row none in
+      let nodes = row_said c at None m row said in
+      let e_none = left_none e.faults (e'.faults ++ (receiver_faults c.rows.table span e.ty Add ++ argument_faults c.rows.table (place_of right) (operation_of e.ty Add) e'.ty)) nothing_wrong in
+      let rest = right_none e.faults (e'.faults ++ (receiver_faults c.rows.table span e.ty Add ++ argument_faults c.rows.table (place_of right) (operation_of e.ty Add) e'.ty)) nothing_wrong in
+      let e'_none = left_none e'.faults (receiver_faults c.rows.table span e.ty Add ++ argument_faults c.rows.table (place_of right) (operation_of e.ty Add) e'.ty) rest in
+      let own_none = right_none e'.faults (receiver_faults c.rows.table span e.ty Add ++ argument_faults c.rows.table (place_of right) (operation_of e.ty Add) e'.ty) rest in
+      let l = one None m values parts.0 e_none stands are (said_left c e.nodes e'.nodes nodes) in
+      let stands_l = stands_after left None m parts.0 e_none stands in
+      let held = values_with c laws values (operand_of c.x left) e.ty are l.operand in
+      let r = other (parameter_of (operation_of e.ty Add)) e.after (holding values (operand_of c.x left)) parts.1 e'_none stands_l held (said_right c e.nodes e'.nodes nodes) in
+      let stands_r = stands_after right (parameter_of (operation_of e.ty Add)) e.after parts.1 e'_none stands_l in
+      let operates = add_operates c laws span (place_of right) e.ty e'.ty l.value r.value
+      (left_none (receiver_faults c.rows.table span e.ty Add) (argument_faults c.rows.table (place_of right) (operation_of e.ty Add) e'.ty) own_none)
+      (right_none (receiver_faults c.rows.table span e.ty Add) (argument_faults c.rows.table (place_of right) (operation_of e.ty Add) e'.ty) own_none) in
+      let value = subst (λ (t : Ty). is_value_type t ≡ true) (sym operates.gives) refl in
+      let is = plain_row at None m row value in
+      let own = said_last c row.nodes (said_of_expression at.node None m row) (subst (λ (k : Evaluation). AreSaid c k.nodes) is said) in
+      let slot = own.value row.ty refl in
+      subst (λ (k : Evaluation). Valued c values m (binary_expression at operator left right) k) (sym is) (record {
+        does = operator_does c laws at operator left right m values e e' stands_r are l r row.ty slot (adds (slot_at c.x at) (operand_of c.x left) (operand_of c.x right)) refl (operands_inside c laws at operator left right m values e e' stands_r are l r row.ty slot slot.0)
+            (λ reached f' tells. adds_lead c laws at operator left right m values e e' stands_r are l r row.ty slot reached f' tells operates.gives (record { one = operates.one; other = operates.other; gives = operates.gives }));
+        operand = operand_slot c (slot_at c.x at) row.ty slot;
+        value = value;
+        before = before_node c laws at (said_of_expression at.node None m row) own refl;
+        behind = behind_node c laws at (said_of_expression at.node None m row) own refl;
+        when_true = λ test no_truth. refl;
+        when_false = λ test no_truth. refl;
+      })
+  binary_at at Less span left right wanted m values one other built none stands are said =
+      let s = around c names in
+      let operator : BinaryOperator = record { kind = Less; span = span } in
+      let e = evaluate s left None m in
+      let e' = evaluate s right (parameter_of (operation_of e.ty Less)) e.after in
+      let row = operated_row c.rows.table operator (place_of right) e e' in
+      let parts = and_parts (is_value c.outside left) (is_value c.outside right) built in
+      let nothing_wrong = row_none at None m row none in
+      let nodes = row_said c at None m row said in
+      let e_none = left_none e.faults (e'.faults ++ (receiver_faults c.rows.table span e.ty Less ++ argument_faults c.rows.table (place_of right) (operation_of e.ty Less) e'.ty)) nothing_wrong in
+      let rest = right_none e.faults (e'.faults ++ (receiver_faults c.rows.table span e.ty Less ++ argument_faults c.rows.table (place_of right) (operation_of e.ty Less) e'.ty)) nothing_wrong in
+      let e'_none = left_none e'.faults (receiver_faults c.rows.table span e.ty Less ++ argument_faults c.rows.table (place_of right) (operation_of e.ty Less) e'.ty) rest in
+      let own_none = right_none e'.faults (receiver_faults c.rows.table span e.ty Less ++ argument_faults c.rows.table (place_of right) (operation_of e.ty Less) e'.ty) rest in
+      let l = one None m values parts.0 e_none stands are (said_left c e.nodes e'.nodes nodes) in
+      let stands_l = stands_after left None m parts.0 e_none stands in
+      let held = values_with c laws values (operand_of c.x left) e.ty are l.operand in
+      let r = other (parameter_of (operation_of e.ty Less)) e.after (holding values (operand_of c.x left)) parts.1 e'_none stands_l held (said_right c e.nodes e'.nodes nodes) in
+      let stands_r = stands_after right (parameter_of (operation_of e.ty Less)) e.after parts.1 e'_none stands_l in
+      let operates = less_operates c laws span (place_of right) e.ty e'.ty l.value r.value
+      (left_none (receiver_faults c.rows.table span e.ty Less) (argument_faults c.rows.table (place_of right) (operation_of e.ty Less) e'.ty) own_none)
+      (right_none (receiver_faults c.rows.table span e.ty Less) (argument_faults c.rows.table (place_of right) (operation_of e.ty Less) e'.ty) own_none) in
+      let value = subst (λ (t : Ty). is_value_type t ≡ true) (sym operates.gives) refl in
+      let is = plain_row at None m row value in
+      let own = said_last c row.nodes (said_of_expression at.node None m row) (subst (λ (k : Evaluation). AreSaid c k.nodes) is said) in
+      let slot = own.value row.ty refl in
+      subst (λ (k : Evaluation). Valued c values m (binary_expression at operator left right) k) (sym is) (record {
+        does = operator_does c laws at operator left right m values e e' stands_r are l r row.ty slot (compares (slot_at c.x at) (operand_of c.x left) (operand_of c.x right)) refl (operands_inside c laws at operator left right m values e e' stands_r are l r row.ty slot slot.0)
+            (λ reached f' tells. compares_lead c laws at operator left right m values e e' stands_r are l r row.ty slot reached f' tells operates.gives (record { one = operates.one; other = operates.other; gives = operates.gives }));
+        operand = operand_slot c (slot_at c.x at) row.ty slot;
+        value = value;
+        before = before_node c laws at (said_of_expression at.node None m row) own refl;
+        behind = behind_node c laws at (said_of_expression at.node None m row) own refl;
+        when_true = λ test no_truth. refl;
+        when_false = λ test no_truth. refl;
+      })
+  binary_at at NotEqual span left right wanted m values one other built none stands are said =
+      let s = around c names in
+      let operator : BinaryOperator = record { kind = NotEqual; span = span } in
+      let e = evaluate s left None m in
+      let e' = evaluate s right None e.after in
+      let compared = rules.compared_local s left right in
+      let row = not_equal_row c.rows.table compared e e' in
+      let parts = and_parts (is_value c.outside left) (is_value c.outside right) built in
+      let nothing_wrong = row_none at None m row none in
+      let nodes = row_said c at None m row said in
+      let e_none = left_none e.faults e'.faults nothing_wrong in
+      let e'_none = right_none e.faults e'.faults nothing_wrong in
+      let l = one None m values parts.0 e_none stands are (said_left c e.nodes e'.nodes nodes) in
+      let stands_l = stands_after left None m parts.0 e_none stands in
+      let held = values_with c laws values (operand_of c.x left) e.ty are l.operand in
+      let r = other None e.after (holding values (operand_of c.x left)) parts.1 e'_none stands_l held (said_right c e.nodes e'.nodes nodes) in
+      let stands_r = stands_after right None e.after parts.1 e'_none stands_l in
+      let is = plain_row at None m row refl in
+      let own = said_last c row.nodes (said_of_expression at.node None m row) (subst (λ (k : Evaluation). AreSaid c k.nodes) is said) in
+      let slot = own.value bool refl in
+      let same = compared_same left right None None m e.after (said_left c e.nodes e'.nodes nodes) (said_right c e.nodes e'.nodes nodes) in
+      subst (λ (k : Evaluation). Valued c values m (binary_expression at operator left right) k) (sym is) (record {
+        does = operator_does c laws at operator left right m values e e' stands_r are l r bool slot (differs (slot_at c.x at) (operand_of c.x left) (operand_of c.x right)) refl (operands_inside c laws at operator left right m values e e' stands_r are l r bool slot slot.0)
+            (λ reached f' tells. differs_lead c laws at operator left right m values e e' stands_r are l r bool slot reached f' tells refl);
+        operand = operand_slot c (slot_at c.x at) bool slot;
+        value = refl;
+        before = before_node c laws at (said_of_expression at.node None m row) own refl;
+        behind = behind_node c laws at (said_of_expression at.node None m row) own refl;
+        when_true = λ test no_truth. ap (λ v. where_not_null c.rows.table v e'.after) (sym same ∙ untested (compared_local c.x left right) test);
+        when_false = λ test no_truth. refl;
+      })
+  binary_at at _ span left right wanted m values one other built none stands are said = absurd cc
 
-  -- of a name, by what it means
-  reads_meant : (found : Option LocalId) → get names word ≡ found → (option_map_or (λ var. read_row at (facts_of m var) m) found (faulty at UndefinedName m)).faults ≡ []
-      → Reads names m word (option_map_or (λ var. read_row at (facts_of m var) m) found (faulty at UndefinedName m)).ty
-  reads_meant None is clean = absurd cc
-  reads_meant (Some var) is clean = reads_known var is (facts_of m var) refl clean
-
-  -- a name in which nothing is wrong reads a local
-  pub name_reads : (name_row names at word m).faults ≡ [] → Reads names m word (name_row names at word m).ty
-  name_reads clean = reads_meant (get names word) refl clean
-
--- a literal in which nothing is wrong is an int
-integer_typed_if : (at : Place) (m : FlowModel) (fitting : Bool) → (if fitting then of_type int m else faulty at IntegerLiteralOutOfRange m).faults ≡ [] → (if fitting then of_type int m else faulty at IntegerLiteralOutOfRange m).ty ≡ int
-integer_typed_if at m true clean = refl
-integer_typed_if at m false clean = absurd cc
-
--- so a literal expression is
-pub integer_typed : (at : Place) (literal : IntegerLiteral) (m : FlowModel) → (integer_row at literal m).faults ≡ [] → (integer_row at literal m).ty ≡ int
-integer_typed at literal m clean = integer_typed_if at m (is_in_range literal) clean
-
--- `true` and `false` are of type bool
-pub boolean_typed : (value : Bool) (m : FlowModel) → (boolean_row value m).ty ≡ bool
-boolean_typed true m = refl
-boolean_typed false m = refl
-
--- the receiver of an operator of int is an int where nothing is wrong
-receiver_int : (span : Span) (t : Ty) → IsTrue (is_simple t) → receiver_faults span t ≡ [] → t ≡ int
-receiver_int span null simple clean = absurd cc
-receiver_int span int simple clean = refl
-receiver_int span bool simple clean = absurd cc
-receiver_int span (nullable int) simple clean = absurd cc
-receiver_int span _ simple clean = absurd cc
-
--- and so is its argument
-argument_int : (at : Place) (t : Ty) → IsTrue (is_simple t) → argument_faults no_rows at int t ≡ [] → t ≡ int
-argument_int at null simple clean = absurd cc
-argument_int at int simple clean = refl
-argument_int at bool simple clean = absurd cc
-argument_int at (nullable int) simple clean = absurd cc
-argument_int at _ simple clean = absurd cc
-
--- an operator of int wants ints on both sides, `!=` wants nothing
-abbrev pub Wants : OperatorKind → Ty → Ty → Type 0
-Wants Plus left right = (left ≡ int) × (right ≡ int)
-Wants Less left right = (left ≡ int) × (right ≡ int)
-Wants NotEqual left right = Unit {0}
-
--- the sides of an operator in which nothing is wrong
-pub sides_clean : (operator : OperatorKind) (span : Span) (at : Place) (compared : Option LocalId) (left right : Value) → (operator_row no_rows operator span at compared left right).faults ≡ [] → (left.faults ≡ []) × (right.faults ≡ [])
-sides_clean Plus span at compared left right clean = let outer = both_empty left.faults _ clean in (outer.0, (both_empty right.faults _ outer.1).0)
-sides_clean Less span at compared left right clean = let outer = both_empty left.faults _ clean in (outer.0, (both_empty right.faults _ outer.1).0)
-sides_clean NotEqual span at compared left right clean = both_empty left.faults right.faults clean
-
--- both sides are ints where the checks of an operator of int find nothing
-ints : (span : Span) (at : Place) (left right : Value) → IsTrue (is_simple left.ty) → IsTrue (is_simple right.ty) → left.faults ++ (right.faults ++ (receiver_faults span left.ty ++ argument_faults no_rows at left.ty right.ty)) ≡ [] → (left.ty ≡ int) × (right.ty ≡ int)
-ints span at left right left_simple right_simple clean =
-    let checks = both_empty right.faults _ (both_empty left.faults _ clean).1 in
-    let each = both_empty (receiver_faults span left.ty) _ checks.1 in
-    let receiver = receiver_int span left.ty left_simple each.0 in
-    (receiver, argument_int at right.ty right_simple (subst (λ (t : Ty). argument_faults no_rows at t right.ty ≡ []) receiver each.1))
-
--- what an operator wants of its sides, and its type
-pub operator_wants : (operator : OperatorKind) (span : Span) (at : Place) (compared : Option LocalId) (left right : Value) → IsTrue (is_simple left.ty) → IsTrue (is_simple right.ty)
-    → (operator_row no_rows operator span at compared left right).faults ≡ [] → Wants operator left.ty right.ty × ((operator_row no_rows operator span at compared left right).ty ≡ type_of_result operator)
-operator_wants Plus span at compared left right left_simple right_simple clean = let both = ints span at left right left_simple right_simple clean in (both, rw (both.0, both.1) refl)
-operator_wants Less span at compared left right left_simple right_simple clean = let both = ints span at left right left_simple right_simple clean in (both, rw (both.0, both.1) refl)
-operator_wants NotEqual span at compared left right left_simple right_simple clean = (tt, refl)
-
--- the type of an operator's value is one of these
-result_simple : (operator : OperatorKind) → IsTrue (is_simple (type_of_result operator))
-result_simple Plus = refl
-result_simple Less = refl
-result_simple NotEqual = refl
-
--- an operator in which nothing is wrong: its sides, what it wants of them, and its type
-pub record BinaryClean (names : Names) (at : Place) (operator : Operator) (left right : Tree) (m : FlowModel) : Type 0 where
-  pub left_clean : (evaluate no_rows names left m).faults ≡ []
-  pub right_clean : (evaluate no_rows names right m).faults ≡ []
-  pub wants : Wants operator.kind (evaluate no_rows names left m).ty (evaluate no_rows names right m).ty
-  pub typed : (evaluate no_rows names (binary at operator left right) m).ty ≡ type_of_result operator.kind
-
--- an expression in which nothing is wrong has one of these types, changes nothing of what is known, and gives what its form does
-pub record Stays (names : Names) (tree : Tree) (m : FlowModel) : Type 0 where
-  pub simple : IsTrue (is_simple (evaluate no_rows names tree m).ty)
-  pub after : (evaluate no_rows names tree m).after ≡ m
-  pub is : evaluate no_rows names tree m ≡ form_row no_rows names tree m
-
--- from what its form gives
-stays_of : (names : Names) (tree : Tree) (m : FlowModel) → IsTrue (is_simple (form_row no_rows names tree m).ty) → (form_row no_rows names tree m).after ≡ m → Stays names tree m
-stays_of names tree m simple after =
-    let v = form_row no_rows names tree m in
-    let is = simple_stays v simple in
-    record { simple = simple; after = ap (λ (x : Value). x.after) is ∙ after; is = is }
-
--- the sides of an operator in which nothing is wrong, each as it stands, and what it wants of them
-record Sides (names : Names) (at : Place) (operator : Operator) (left right : Tree) (m : FlowModel) : Type 0 where
-  clean : BinaryClean names at operator left right m
-  stays : Stays names (binary at operator left right) m
-
--- an operator, from what its left side leaves
-sides_of : (names : Names) (at : Place) (operator : Operator) (left right : Tree) (m : FlowModel) → (evaluate no_rows names (binary at operator left right) m).faults ≡ []
-    → ((evaluate no_rows names left m).faults ≡ [] → Stays names left m) → ((evaluate no_rows names right m).faults ≡ [] → Stays names right m) → Sides names at operator left right m
-sides_of names at operator left right m clean left_stays right_stays =
-    let l = evaluate no_rows names left m in
-    let row = λ (x : FlowModel). operator_row no_rows operator.kind operator.span (place_of right) (compared_local names left right) l (evaluate no_rows names right x) in
-    let whole : (row l.after).faults ≡ [] = clean in
-    let first = left_stays (sides_clean operator.kind operator.span (place_of right) (compared_local names left right) l (evaluate no_rows names right l.after) whole).0 in
-    let here : (row m).faults ≡ [] = subst (λ (x : FlowModel). (row x).faults ≡ []) first.after whole in
-    let cleans = sides_clean operator.kind operator.span (place_of right) (compared_local names left right) l (evaluate no_rows names right m) here in
-    let second = right_stays cleans.1 in
-    let wants = operator_wants operator.kind operator.span (place_of right) (compared_local names left right) l (evaluate no_rows names right m) first.simple second.simple here in
-    let form_is : form_row no_rows names (binary at operator left right) m ≡ row m = ap row first.after in
-    let typed : (form_row no_rows names (binary at operator left right) m).ty ≡ type_of_result operator.kind = ap (λ (v : Value). v.ty) form_is ∙ wants.1 in
-    let after : (form_row no_rows names (binary at operator left right) m).after ≡ m =
-    ap (λ (v : Value). v.after) form_is ∙ after_operator no_rows operator.kind operator.span (place_of right) (compared_local names left right) l (evaluate no_rows names right m) ∙ second.after in
-    record {
-      clean = record { left_clean = cleans.0; right_clean = cleans.1; wants = wants.0; typed = typed };
-      stays = stays_of names (binary at operator left right) m (subst (λ (t : Ty). IsTrue (is_simple t)) (sym typed) (result_simple operator.kind)) after;
-    }
-
--- an expression in which nothing is wrong
-pub value_stays : (frame : Frame) (names : Names) (tree : Tree) (m : FlowModel) → IsGood frame m → IsTrue (is_expression tree) → (evaluate no_rows names tree m).faults ≡ [] → Stays names tree m
-value_stays frame names (name at word) m good form clean =
-    let reads = name_reads names at word m clean in
-    let fits = good.fits reads.var reads.local reads.known in
-    stays_of names (name at word) m (subst (λ (t : Ty). IsTrue (is_simple t)) (sym reads.typed) (shape_simple reads.local.ty reads.local.chain fits.shape)) (after_name at m (get names word))
-value_stays frame names (integer at literal) m good form clean =
-    stays_of names (integer at literal) m (subst (λ (t : Ty). IsTrue (is_simple t)) (sym (integer_typed at literal m clean)) refl)
-    (after_integer at m (is_in_range literal))
-value_stays frame names (boolean at value) m good form clean = stays_of names (boolean at value) m (subst (λ (t : Ty). IsTrue (is_simple t)) (sym (boolean_typed value m)) refl) (after_boolean value m)
-value_stays frame names (null_literal at) m good form clean = stays_of names (null_literal at) m refl refl
-value_stays frame names (binary at operator left right) m good form clean =
-    let forms = and_parts (is_expression left) (is_expression right) form in
-    (sides_of names at operator left right m clean (λ left_clean. value_stays frame names left m good forms.0 left_clean) (λ right_clean. value_stays frame names right m good forms.1 right_clean)).stays
-value_stays frame names (parenthesis at inner) m good form clean =
-    let same = value_stays frame names inner m good form clean in
-    stays_of names (parenthesis at inner) m same.simple same.after
-value_stays frame names _ m good form clean = absurd cc
-
--- its type
-pub value_simple : (frame : Frame) (names : Names) (tree : Tree) (m : FlowModel) → IsGood frame m → IsTrue (is_expression tree) → (evaluate no_rows names tree m).faults ≡ [] → IsTrue (is_simple (evaluate no_rows names tree m).ty)
-value_simple frame names tree m good form clean = (value_stays frame names tree m good form clean).simple
-
--- it changes nothing of what is known
-pub after_same : (frame : Frame) (names : Names) (tree : Tree) (m : FlowModel) → IsGood frame m → IsTrue (is_expression tree) → (evaluate no_rows names tree m).faults ≡ [] → (evaluate no_rows names tree m).after ≡ m
-after_same frame names tree m good form clean = (value_stays frame names tree m good form clean).after
-
--- an operator in which nothing is wrong
-pub binary_clean : (frame : Frame) (names : Names) (at : Place) (operator : Operator) (left right : Tree) (m : FlowModel) → IsGood frame m → IsTrue (is_expression (binary at operator left right))
-    → (evaluate no_rows names (binary at operator left right) m).faults ≡ [] → BinaryClean names at operator left right m
-binary_clean frame names at operator left right m good form clean =
-    let forms = and_parts (is_expression left) (is_expression right) form in
-    (sides_of names at operator left right m clean (value_stays frame names left m good forms.0) (value_stays frame names right m good forms.1)).clean
-
--- both its sides are judged by what is known before it
-pub binary_is : (frame : Frame) (names : Names) (at : Place) (operator : Operator) (left right : Tree) (m : FlowModel) → IsGood frame m → IsTrue (is_expression (binary at operator left right))
-    → (evaluate no_rows names (binary at operator left right) m).faults ≡ []
-    → evaluate no_rows names (binary at operator left right) m ≡ operator_row no_rows operator.kind operator.span (place_of right) (compared_local names left right) (evaluate no_rows names left m) (evaluate no_rows names right m)
-binary_is frame names at operator left right m good form clean =
-    let forms = and_parts (is_expression left) (is_expression right) form in
-    let sides = binary_clean frame names at operator left right m good form clean in
-    (value_stays frame names (binary at operator left right) m good form clean).is
-    ∙ ap (λ (x : FlowModel). operator_row no_rows operator.kind operator.span (place_of right) (compared_local names left right) (evaluate no_rows names left m) (evaluate no_rows names right x))
-    (after_same frame names left m good forms.0 sides.left_clean)
-
--- none of these types is Invalid
-simple_valid : (t : Ty) → IsTrue (is_simple t) → is_invalid t ≡ false
-simple_valid null simple = refl
-simple_valid int simple = refl
-simple_valid bool simple = refl
-simple_valid (nullable int) simple = refl
-simple_valid _ simple = absurd cc
-
--- a type of these that fits another is a subtype of it
-pub fits_below : (s t : Ty) → IsTrue (is_simple s) → IsTrue (is_simple t) → IsTrue (fits no_rows s t) → IsTrue (sub no_rows s t)
-fits_below s t s_simple t_simple fit =
-    let both : IsTrue (is_invalid s || (is_invalid t || sub no_rows s t)) = fit in
-    rw (simple_valid s s_simple, simple_valid t t_simple) at both
-
--- what is found of a local is of that local
-found_is : (var : LocalId) (locals : List Facts) (l : Facts) → find (is_of var) locals ≡ Some l → is_of var l ≡ true
-found_is var [] l found = absurd cc
-found_is var (first ∷ rest) l found = by (is_of var first) refl found (found_is var rest l)
-  where
-    by : (b : Bool) → is_of var first ≡ b → (if b then Some first else find (is_of var) rest) ≡ Some l → (find (is_of var) rest ≡ Some l → is_of var l ≡ true) → is_of var l ≡ true
-    by true is found more = let same : first ≡ l = cc in subst (λ (x : Facts). is_of var x ≡ true) same is
-    by false is found more = more found
-
--- so is what is known of a local
-pub known_var : (m : FlowModel) (var : LocalId) (l : Facts) → facts_of m var ≡ Some l → l.var ≡ var
-known_var m var l known = let same = eqb-true l.var.0 var.0 (found_is var m.locals l known) in ap (λ (k : ℕ). let id : LocalId = record { 0 = k } in id) same
+  -- every value
+  pub valued : (t : Tree) → Value c names t
+  valued (identifier at word) wanted m values built none stands are said = named c laws names at word wanted m values built none stands are said
+  valued (integer_literal at word) wanted m values built none stands are said = integer c laws names at word wanted m values none said
+  valued (boolean_literal at value) wanted m values built none stands are said = boolean c laws names at value wanted m values said
+  valued (null_literal at) wanted m values built none stands are said = null c laws names at wanted m values said
+  valued (parenthesis at inner) wanted m values built none stands are said =
+      let e = evaluate (around c names) inner wanted m in
+      let element = element_of (around c names) (parenthesis at inner) in
+      in_parentheses c laws names at inner wanted m values said
+      (valued inner wanted m values built (row_none at element m e none) stands are (row_said c at element m e said))
+  valued (binary_expression at operator left right) wanted m values built none stands are said =
+      binary_at at operator.kind operator.span left right wanted m values (valued left) (valued right) built none stands are said
+  valued _ wanted m values built none stands are said = absurd cc

@@ -1,105 +1,113 @@
--- The number of nodes of a list's trees, and what it bounds.
-use Rattle.std.proofs.Common.{◌≡◌, Bool, true, false, if◌then◌else◌, is_some, ℕ, zero, suc, ◌+◌, ◌<◌, ◌≤◌, List, [], ◌∷◌, ◌++◌, length, length-append, get_or, drop, refl, ap, sym, ◌∙◌, subst, arith, add-one, drop-cons}
-use Rattle.small_tree.specs.Tree.{Tree, Trees, Part, no_more, more, absent, present, trees_of, name, integer, boolean, null_literal, binary, parenthesis, int_type, bool_type, declare, assign, eval, print, if_statement, while_statement, block, function, unit}
-use Rattle.small_tree.specs.Numbers.{nodes_in, nodes_in_all, nodes_in_part}
-use Rattle.elaborate.specs.Layout.{value_count, tested_word, condition_count, initial_count, count, count_all, count_part}
-use Rattle.elaborate.specs.Frame.{locals_in, locals_in_all, locals_in_part}
+-- Code has no more than two points for each node of its tree.
+use Rattle.std.proofs.Common.{◌≡◌, ℕ, ◌+◌, ◌*◌, ◌<◌, ◌≤◌, Bool, true, false, List, [], ◌∷◌, Option, Some, None, if◌then◌else◌, arith}
+use Rattle.std.specs.Option.{option_map_or}
+use Rattle.dart_tree.specs.Tree.{Tree, Trees, Part, no_more, more, absent, present, identifier, parenthesis, call, binary_expression, assignment, argument_list, argument, variable_list, variable, block, variable_statement, expression_statement, if_statement, while_statement}
+use Rattle.dart_tree.specs.Numbers.{nodes_in, nodes_in_all, nodes_in_part}
+use Rattle.dart_tree.specs.Places.{place_of}
+use Rattle.dart_tree.specs.declared.places.Place.{Place}
+use Rattle.flow_model.specs.Flow.{FlowModel}
+use Rattle.flow_model.specs.declared.locals.LocalId.{LocalId}
+use Rattle.core_ir.specs.declared.points.Operand.{Operand}
+use Rattle.core_ir.specs.declared.points.SlotId.{SlotId}
+use Rattle.core_emit.specs.Code.{Code, Step, Test, nothing}
+use Rattle.core_emit.specs.Emitted.{size_of}
+use Rattle.elaborate.specs.Sources.{Sources, is_print, known_behind, local_meant, named_at, slot_at}
+use Rattle.elaborate.specs.Known.{holding}
+use Rattle.elaborate.specs.Rows.{all_declared, assignment_row, branch_code, code_of, condition_of, condition_row, declared_code, effect_code, list_code, name_row, one_printed, operand_of, operator_step, print_code, printed, statement_code, statements_code, step_at, test_of_null}
 
--- no tree of a list has more nodes than all have together
-pub nodes_in-item : (ts : List Tree) (i : ℕ) (t : Tree) → i < length ts → t ≡ get_or ts i t → nodes_in t ≤ nodes_in_all (trees_of ts)
-nodes_in-item [] i t within is = absurd (omega arith)
-nodes_in-item (first ∷ rest) zero t within is = omega (arith, ap nodes_in is)
-nodes_in-item (first ∷ rest) (suc i) t within is = omega (arith, nodes_in-item rest i t (omega arith) is)
+-- what has no code
+none : (n : ℕ) → size_of nothing ≤ n
+none n = omega arith
 
--- the trees from one on are that tree and those behind it
-pub trees_of-drop : (ts : List Tree) (i : ℕ) (t : Tree) → i < length ts → t ≡ get_or ts i t → trees_of (drop i ts) ≡ more t (trees_of (drop (i + 1) ts))
-trees_of-drop ts i t within is =
-    rw add-one (ap trees_of (drop-cons ts i t within) ∙ ap (λ first. more first (trees_of (drop (suc i) ts))) (sym is))
+-- code that there may be
+either : (b : Bool) (code : Code) (n : ℕ) → size_of code ≤ n → size_of (if b then code else nothing) ≤ n
+either true code n few = few
+either false code n few = none n
 
-mutual
-  -- a tree declares at most as many locals as it has nodes
-  pub locals-few : (t : Tree) → length (locals_in t) ≤ nodes_in t
-  locals-few (declare at declared variable initial) = omega arith
-  locals-few (if_statement at condition then_block else_block) =
-      omega (arith, length-append (locals_in then_block) (locals_in_part else_block), locals-few then_block, locals_of_part-few else_block)
-  locals-few (while_statement at condition body) = omega (arith, locals-few body)
-  locals-few (block at statements) = omega (arith, locals_of_all-few statements)
-  locals-few (function at body) = omega (arith, locals-few body)
-  locals-few (unit at main) = omega (arith, locals-few main)
-  locals-few _ = omega arith
+-- a name, an operator and an assignment have a point, or none
+of_name : (x : Sources) (at : Place) (values : List SlotId) (meant : Option LocalId) → size_of (name_row x at values meant) ≤ 1
+of_name x at values None = omega arith
+of_name x at values (Some var) = omega arith
 
-  -- so do trees together
-  pub locals_of_all-few : (ts : Trees) → length (locals_in_all ts) ≤ nodes_in_all ts
-  locals_of_all-few no_more = omega arith
-  locals_of_all-few (more first rest) = omega (arith, length-append (locals_in first) (locals_in_all rest), locals-few first, locals_of_all-few rest)
+of_step : (x : Sources) (at : Place) (m : FlowModel) (values : List SlotId) (step : Option Step) → size_of (option_map_or (step_at x at m values) step nothing) ≤ 1
+of_step x at m values None = omega arith
+of_step x at m values (Some step) = omega arith
 
-  -- and a part
-  pub locals_of_part-few : (p : Part) → length (locals_in_part p) ≤ nodes_in_part p
-  locals_of_part-few absent = omega arith
-  locals_of_part-few (present tree) = locals-few tree
-
--- each tree has a node
-nodes_in-some : (t : Tree) → 1 ≤ nodes_in t
-nodes_in-some (name at word) = omega arith
-nodes_in-some (integer at literal) = omega arith
-nodes_in-some (boolean at value) = omega arith
-nodes_in-some (null_literal at) = omega arith
-nodes_in-some (binary at operator left right) = omega arith
-nodes_in-some (parenthesis at inner) = omega arith
-nodes_in-some (int_type at nullable) = omega arith
-nodes_in-some (bool_type at) = omega arith
-nodes_in-some (declare at declared variable initial) = omega arith
-nodes_in-some (assign at target value) = omega arith
-nodes_in-some (eval at value) = omega arith
-nodes_in-some (print at value) = omega arith
-nodes_in-some (if_statement at condition then_block else_block) = omega arith
-nodes_in-some (while_statement at condition body) = omega arith
-nodes_in-some (block at statements) = omega arith
-nodes_in-some (function at body) = omega arith
-nodes_in-some (unit at main) = omega arith
-
--- one or some number is at most what both are at most
-cond_below : (b : Bool) (n limit : ℕ) → n ≤ limit → 1 ≤ limit → (if b then 1 else n) ≤ limit
-cond_below true n limit h some = some
-cond_below false n limit h some = h
-
--- an expression has fewer points than nodes
-value_count-few : (t : Tree) → value_count t + 1 ≤ nodes_in t
-value_count-few (binary at operator left right) = omega (arith, value_count-few left, value_count-few right)
-value_count-few (parenthesis at inner) = omega (arith, value_count-few inner)
-value_count-few (name at word) = omega arith
-value_count-few (integer at literal) = omega arith
-value_count-few (boolean at value) = omega arith
-value_count-few (null_literal at) = omega arith
-value_count-few t = let some = nodes_in-some t in omega arith
-
--- so has a condition, at most
-condition_count-few : (t : Tree) → condition_count t ≤ nodes_in t
-condition_count-few t = cond_below (is_some (tested_word t)) (value_count t + 1) (nodes_in t) (value_count-few t) (nodes_in-some t)
-
--- and an initializer
-initial_count-few : (p : Part) → initial_count p ≤ nodes_in_part p
-initial_count-few absent = omega arith
-initial_count-few (present value) = omega (arith, value_count-few value)
+of_write : (x : Sources) (at : Place) (m : FlowModel) (values : List SlotId) (meant : Option LocalId) (value : Operand) → size_of (assignment_row x at m values meant value) ≤ 1
+of_write x at m values None value = omega arith
+of_write x at m values (Some var) value = omega arith
 
 mutual
-  -- a tree has at most as many points as nodes
-  pub count-few : (t : Tree) → count t ≤ nodes_in t
-  count-few (declare at declared variable initial) = omega (arith, initial_count-few initial)
-  count-few (assign at target value) = omega (arith, value_count-few value)
-  count-few (eval at value) = omega (arith, value_count-few value)
-  count-few (print at value) = omega (arith, value_count-few value)
-  count-few (if_statement at condition then_block else_block) = omega (arith, condition_count-few condition, count-few then_block, count_part-few else_block)
-  count-few (while_statement at condition body) = omega (arith, condition_count-few condition, count-few body)
-  count-few (block at statements) = omega (arith, count_all-few statements)
-  count-few _ = omega arith
+  -- the code of an expression
+  pub size_of-code_of : (x : Sources) (values : List SlotId) (tree : Tree) → size_of (code_of x values tree) ≤ 2 * nodes_in tree
+  size_of-code_of x values (identifier at word) = omega (arith, of_name x at values (local_meant (named_at x at)))
+  size_of-code_of x values (parenthesis at inner) = omega (arith, size_of-code_of x values inner)
+  size_of-code_of x values (binary_expression at operator left right) =
+      let held = holding values (operand_of x left) in
+      omega (arith, size_of-code_of x values left, size_of-code_of x held right, of_step x at (known_behind x (place_of right)) (holding held (operand_of x right)) (operator_step operator.kind (slot_at x at) (operand_of x left) (operand_of x right)))
+  size_of-code_of x values (assignment at operator target value) =
+      omega (arith, size_of-code_of x values value, of_write x at (known_behind x (place_of value)) values (local_meant (named_at x at)) (operand_of x value))
+  size_of-code_of x values (call at callee type_arguments arguments) =
+      either (is_print (named_at x at)) (print_code x at values arguments) (2 * nodes_in (call at callee type_arguments arguments)) (omega (arith, size_of-print_code x at values arguments))
+  size_of-code_of x values tree = none (2 * nodes_in tree)
 
-  -- so have trees together
-  pub count_all-few : (ts : Trees) → count_all ts ≤ nodes_in_all ts
-  count_all-few no_more = omega arith
-  count_all-few (more first rest) = omega (arith, count-few first, count_all-few rest)
+  -- that of a call of `print` with these arguments
+  size_of-print_code : (x : Sources) (at : Place) (values : List SlotId) (tree : Tree) → size_of (print_code x at values tree) ≤ 2 * nodes_in tree
+  size_of-print_code x at values (argument_list over arguments) = omega (arith, size_of-one_printed x at values arguments)
+  size_of-print_code x at values tree = none (2 * nodes_in tree)
 
-  -- and a part
-  pub count_part-few : (p : Part) → count_part p ≤ nodes_in_part p
-  count_part-few absent = omega arith
-  count_part-few (present tree) = count-few tree
+  size_of-one_printed : (x : Sources) (at : Place) (values : List SlotId) (trees : Trees) → size_of (one_printed x at values trees) ≤ 2 * nodes_in_all trees
+  size_of-one_printed x at values no_more = none 0
+  size_of-one_printed x at values (more first no_more) = omega (arith, size_of-printed x at values first)
+  size_of-one_printed x at values (more first (more second rest)) = none (2 * nodes_in_all (more first (more second rest)))
+
+  size_of-printed : (x : Sources) (at : Place) (values : List SlotId) (tree : Tree) → size_of (printed x at values tree) ≤ 2 * nodes_in tree
+  size_of-printed x at values (argument over name value) = omega (arith, size_of-code_of x values value)
+  size_of-printed x at values tree = none (2 * nodes_in tree)
+
+-- that of a condition, before its test
+of_condition : (x : Sources) (tree : Tree) (test : Option Test) → size_of (condition_row x [] tree test).code ≤ 2 * nodes_in tree
+of_condition x tree (Some test) = none (2 * nodes_in tree)
+of_condition x tree None = size_of-code_of x [] tree
+
+pub size_of-condition_of : (x : Sources) (tree : Tree) → size_of (condition_of x [] tree).code ≤ 2 * nodes_in tree
+size_of-condition_of x tree = of_condition x tree (test_of_null x tree)
+
+-- that of declarations
+of_variable : (x : Sources) (tree : Tree) → size_of (declared_code x tree) ≤ 2 * nodes_in tree
+of_variable x (variable at name absent) = omega arith
+of_variable x (variable at name (present value)) = omega (arith, size_of-code_of x [] value)
+of_variable x tree = none (2 * nodes_in tree)
+
+of_variables : (x : Sources) (trees : Trees) → size_of (all_declared x trees) ≤ 2 * nodes_in_all trees
+of_variables x no_more = none 0
+of_variables x (more first rest) = omega (arith, of_variable x first, of_variables x rest)
+
+of_list : (x : Sources) (tree : Tree) → size_of (list_code x tree) ≤ 2 * nodes_in tree
+of_list x (variable_list at is_final written variables) = omega (arith, of_variables x variables)
+of_list x tree = none (2 * nodes_in tree)
+
+of_effect : (x : Sources) (part : Part) → size_of (effect_code x part) ≤ 2 * nodes_in_part part
+of_effect x absent = none 0
+of_effect x (present value) = size_of-code_of x [] value
+
+mutual
+  -- that of a statement
+  pub size_of-statement_code : (x : Sources) (tree : Tree) → size_of (statement_code x tree) ≤ 2 * nodes_in tree
+  size_of-statement_code x (variable_statement at variables) = omega (arith, of_list x variables)
+  size_of-statement_code x (expression_statement at value) = omega (arith, of_effect x value)
+  size_of-statement_code x (if_statement at condition then_branch else_branch) =
+      omega (arith, size_of-condition_of x condition, size_of-statement_code x then_branch, size_of-branch_code x else_branch)
+  size_of-statement_code x (while_statement at condition body) = omega (arith, size_of-condition_of x condition, size_of-statement_code x body)
+  size_of-statement_code x (block at statements) = omega (arith, size_of-statements_code x statements)
+  size_of-statement_code x tree = none (2 * nodes_in tree)
+
+  -- those of statements, one after another
+  pub size_of-statements_code : (x : Sources) (trees : Trees) → size_of (statements_code x trees) ≤ 2 * nodes_in_all trees
+  size_of-statements_code x no_more = none 0
+  size_of-statements_code x (more first rest) = omega (arith, size_of-statement_code x first, size_of-statements_code x rest)
+
+  -- that of a branch
+  pub size_of-branch_code : (x : Sources) (part : Part) → size_of (branch_code x part) ≤ 2 * nodes_in_part part
+  size_of-branch_code x absent = none 0
+  size_of-branch_code x (present tree) = size_of-statement_code x tree

@@ -1,32 +1,37 @@
--- What is known at a point, from a flow model.
-use Rattle.std.specs.Prelude.{Bool, false, ◌&&◌, List, map, nat_eq, if◌then◌else◌}
-use Rattle.std.specs.Option.{option_map_or}
-use Rattle.std.specs.List.{list_any}
-use Rattle.small_flow.specs.Ty.{Ty, same_type}
-use Rattle.small_flow.specs.Flow.{FlowModel, facts_of, current_of}
-use Rattle.small_flow.specs.declared.locals.Facts.{Facts}
-use Rattle.core_ir.specs.PointFacts.{PointFacts}
-use Rattle.core_ir.specs.declared.facts.Held.TheVariants.{Own, Shared}
+-- What is known at a point, from a flow model and the values that are held there.
+use Rattle.std.specs.Prelude.{true, List, [], ◌∷◌, ◌++◌, fold, map}
+use Rattle.flow_model.specs.Flow.{FlowModel, current_of}
+use Rattle.flow_model.specs.declared.locals.Facts.{Facts}
+use Rattle.core_ir.specs.PointFacts.{PointFacts, put}
+use Rattle.core_ir.specs.declared.facts.Held.TheVariants.{Declared}
+use Rattle.core_ir.specs.declared.facts.Known.{Known}
 use Rattle.core_ir.specs.declared.facts.SlotFact.{SlotFact}
-use Rattle.elaborate.specs.Frame.{Temporary, Purpose, of_local, of_temporary, Frame, purposes}
+use Rattle.core_ir.specs.declared.points.Operand.{Operand}
+use Rattle.core_ir.specs.declared.points.Operand.TheVariants.{Slot, Constant}
+use Rattle.core_ir.specs.declared.points.SlotId.{SlotId}
+use Rattle.core_check.specs.Types.{held_as}
+use Rattle.elaborate.specs.Sources.{Sources, slot_of_local}
 
--- what is known of the slot of a local in scope: it is assigned where the model says so, and has the local's current type, or is shared where the local is captured
-abbrev pub fact_in_scope : Facts → SlotFact
-fact_in_scope local = record { assigned = local.assigned; held = if local.captured then Shared else Own (current_of local) }
+-- what is known of the slot of a local: it has the local's current type, and is shared where a closure writes it
+abbrev pub known_of_local : Facts → Known
+known_of_local l = record { assigned = l.assigned; held = held_as l.captured (current_of l) }
 
--- what is known of a slot that has no value: its type
-abbrev pub fact_of_none : Ty → SlotFact
-fact_of_none ty = record { assigned = false; held = Own ty }
+abbrev pub fact_of_local : Sources → Facts → SlotFact
+fact_of_local x l = record { slot = slot_of_local x l.var; known = known_of_local l }
 
--- whether these are the same temporary
-abbrev pub same_temporary : Temporary → Temporary → Bool
-same_temporary a b = same_type a.ty b.ty && nat_eq a.height b.height
+-- what is known of the slot of an expression whose value is held: it has the expression's type
+abbrev pub fact_of_value : SlotId → SlotFact
+fact_of_value slot = record { slot = slot; known = record { assigned = true; held = Declared } }
 
--- what is known of a slot, from the model and the temporaries that hold a value
-abbrev pub fact_for : FlowModel → List Temporary → Purpose → SlotFact
-fact_for m held (of_local local) = option_map_or fact_in_scope (facts_of m local.var) (fact_of_none local.ty)
-fact_for m held (of_temporary temporary) = record { assigned = list_any (same_temporary temporary) held; held = Own temporary.ty }
+-- what is known of slots where this is known of locals, and these values are held
+abbrev pub listed_facts : Sources → List Facts → (values : List SlotId) → List SlotFact
+listed_facts x locals values = fold put (fold put [] (map (fact_of_local x) locals)) (map fact_of_value values)
 
 -- what is known at a point
-abbrev pub facts_for : Frame → FlowModel → List Temporary → PointFacts
-facts_for frame m held = record { reachable = m.reachable; slots = map (fact_for m held) (purposes frame) }
+abbrev pub facts : Sources → FlowModel → (values : List SlotId) → PointFacts
+facts x m values = record { reachable = m.reachable; listed = listed_facts x m.locals values }
+
+-- the values that are held, with that of an operand, which a constant needn't be
+abbrev pub holding : (values : List SlotId) → Operand → List SlotId
+holding values (Slot slot) = values ++ slot ∷ []
+holding values (Constant value) = values

@@ -1,55 +1,30 @@
--- A program that is being laid out: its points so far, over its frame.
-use Rattle.std.specs.Prelude.{◌≡◌, ℕ, ◌+◌, ◌<◌, ◌≤◌, ◌^◌, List, ◌++◌, map, length, slice_index_or, All, Option}
-use Rattle.std.specs.Option.{option_map_or}
-use Rattle.small_tree.specs.Tree.{Tree}
-use Rattle.small_tree.specs.Numbers.{nodes_in}
-use Rattle.small_flow.specs.declared.locals.LocalId.{LocalId}
-use Rattle.core_ir.specs.PointFacts.{PointFacts}
-use Rattle.core_ir.specs.Program.{Program}
+-- What is laid: the points of code, and of the test of a condition with the code before it.
+use Rattle.std.specs.Prelude.{◌≡◌, List, Option}
+use Rattle.flow_model.specs.Flow.{FlowModel}
 use Rattle.core_ir.specs.declared.points.Point.{Point}
-use Rattle.core_ir.specs.declared.points.SlotId.{SlotId}
-use Rattle.core_check.specs.Known.{no_facts}
-use Rattle.elaborate.specs.Frame.{Frame, frame_of, purposes, slot_of}
-use Rattle.elaborate.specs.Layout.{LaidPoint}
+use Rattle.core_ir.specs.declared.points.PointId.{PointId}
+use Rattle.core_ir.specs.declared.points.Span.{Span}
+use Rattle.core_emit.specs.Code.{Code, test_to}
+use Rattle.core_emit.specs.Emitted.{Made, emit, with_point}
+use Rattle.elaborate.specs.Sources.{Sources}
+use Rattle.elaborate.specs.Known.{facts}
+use Rattle.elaborate.specs.Rows.{Condition}
+use Rattle.elaborate.specs.Elaborated.{main_function}
 
--- the frame of a program, and the points that are laid
-pub record Laid : Type 0 where
-  pub frame : Frame
-  pub points : List LaidPoint
+-- points, and the one at which the code that was laid last begins
+abbrev pub made : List Point → PointId → Made
+made points entry = record { points = points; entry = entry }
 
--- more points behind those that are laid
-abbrev pub laid_behind : Laid → List LaidPoint → Laid
-laid_behind laid more = record { frame = laid.frame; points = laid.points ++ more }
+-- code that goes on at a point was laid over points: these are the points now, and there it begins
+pub record IsLaid (code : Code) (next : PointId) (old new : List Point) (entry : PointId) : Type 0 where
+  pub laid : made new entry ≡ emit main_function code next old
 
--- a point with what is known at it, which it names by its place in a table
-abbrev pub with_facts : List PointFacts → Point → LaidPoint
-with_facts facts point = record { source = point.source; facts = slice_index_or facts point.facts no_facts; term = point.term }
+-- the points of a condition behind which this is known: its code, and then its test, which goes on at one point where it holds, and at another where it doesn't
+abbrev pub asked : Sources → Option Span → FlowModel → Condition → (one other : PointId) → List Point → Made
+asked x site m c one other points =
+    let tests = with_point main_function site (facts x m c.values) (test_to c.test one other) points in
+    emit main_function c.code tests.entry tests.points
 
--- the slot of a local, if there is one, and else the first
-abbrev pub slot_meant : Frame → Option LocalId → SlotId
-slot_meant frame element = option_map_or (slot_of frame) element (record { 0 = 0 })
-
--- a frame is small where its slots have numbers of 32 bits, however high a temporary stands that has a number of 31
-abbrev pub IsSmall : Frame → Type 0
-IsSmall frame = length frame.locals + frame.height < 2 ^ 31
-
--- a table of facts and the points that take theirs from it: each point's facts are in it, they speak of each slot, and there are no more facts than points
-pub record IsBuilt (frame : Frame) (facts : List PointFacts) (points : List Point) : Type 0 where
-  pub facts_in : All (λ point. point.facts < length facts) points
-  pub wide : All (λ f. length f.slots ≡ length (purposes frame)) facts
-  pub few : length facts ≤ length points
-
--- a table has these facts at the place, and else what it had before and at most one more
-pub record Shares (before after : List PointFacts) (facts : PointFacts) (place : ℕ) : Type 0 where
-  pub place_in : place < length after
-  pub facts_at_place : slice_index_or after place no_facts ≡ facts
-  pub kept : (i : ℕ) → i < length before → slice_index_or after i no_facts ≡ slice_index_or before i no_facts
-  pub none_lost : length before ≤ length after
-  pub one_more : length after ≤ length before + 1
-  pub same_width : (width : ℕ) → All (λ f. length f.slots ≡ width) before → length facts.slots ≡ width → All (λ f. length f.slots ≡ width) after
-
--- a program for a tree is built: it has a point, no more points than the tree has nodes, and its points and facts fit together
-pub record IsBuiltFor (tree : Tree) (p : Program) : Type 0 where
-  pub has_entry : 0 < length p.points
-  pub few : length p.points ≤ nodes_in tree
-  pub table : IsBuilt (frame_of tree) p.facts p.points
+-- they were laid over points
+pub record IsAsked (x : Sources) (site : Option Span) (m : FlowModel) (c : Condition) (one other : PointId) (old new : List Point) (entry : PointId) : Type 0 where
+  pub laid : made new entry ≡ asked x site m c one other old

@@ -1,9 +1,6 @@
--- The core program of a library.
-pub mod Frame
+pub mod Sources
 pub mod Known
-pub mod Layout
+pub mod Rows
 pub mod Elaborated
-pub mod Forms
+pub mod Lookups
 pub mod Laid
-pub mod Codes
-pub mod Walk

@@ -1,57 +1,49 @@
-//! The points of a program that is being laid out.
+//! The points of a program that is being laid out, from its end to its start.
 
-ghost use Rattle.std.specs.Prelude.{◌≡◌, ◌≢◌, ◌∷◌, [], ◌<◌, ◌≤◌, ◌^◌, IsTrue, OnOk, OnErr, IfOk, IfSome, length, map, slice_index_or};
-ghost use Rattle.small_flow.specs.declared.locals.LocalId.{LocalId};
-ghost use Rattle.core_check.specs.Known.{no_facts};
-ghost use Rattle.elaborate.specs.Frame as frame;
-ghost use Rattle.elaborate.specs.Known.{facts_for};
-ghost use Rattle.elaborate.specs.Laid.{IsBuilt, Shares, laid_behind, slot_meant, with_facts};
+ghost use Rattle.std.specs.Prelude.{◌≡◌, ◌+◌, ◌<◌, ◌^◌, [], true, IfOk, IsTrue, OnOk, fold, length, map};
+ghost use Rattle.core_check.specs.Types.{held_as};
+ghost use Rattle.core_emit.specs.Code.{Step, step_to};
+ghost use Rattle.core_emit.specs.Emitted.{with_point, with_term};
+ghost use Rattle.core_ir.specs.PointFacts.{put};
+ghost use Rattle.core_ir.specs.declared.facts.Held.TheVariants.{Declared};
+ghost use Rattle.elaborate.specs.Elaborated.{main_function};
+ghost use Rattle.elaborate.specs.Known as known;
+ghost use Rattle.elaborate.specs.Laid.{IsLaid, made};
+ghost use Rattle.elaborate.specs.Rows.{site_of, step_at};
 
-use crate::frame::{HeldValue, Slots};
-use core_ir::{Facts, Held, Point, SlotFact, SlotId, Term};
-use small_flow::{Flow, LocalId};
-use small_tree::{NodeId, OperatorKind};
+use crate::said::Said;
+use core_ir::{
+    Facts, FunctionId, Held, Known, Point, PointId, SharedFact, SlotFact, SlotId, Span, Term,
+};
+use dart_tree::Place;
+use dart_types::DartType;
+use flow_model::Flow;
 use std::alloc::{AllocError, Global};
-use std::marker::Model;
 
-/// How many facts a point is compared with, the last ones.
-const COMPARED: usize = 4;
-
-/// The points of a program that were laid, in their order, and the facts that they name. Points at
-/// which the same is known share it, where they stand close together.
+/// The points that were laid, and what was last known of each slot, which points at which the same is
+/// known of it share.
 #[derive(Drop)]
-pub(crate) struct Builder<'a> {
+pub(crate) struct Builder {
     alloc: Global,
-    slots: &'a Slots,
-    facts: Vec<Facts>,
-    points: Vec<Point>,
+    shared: Vec<Option<SharedFact>>,
+    /// The points.
+    pub(crate) points: Vec<Point>,
 }
 
-impl<'a> Model for Builder<'a> {
-    ghost use Rattle.std.specs.Prelude.{map};
-    ghost use Rattle.elaborate.specs.Laid.{Laid, IsBuilt, with_facts};
-    ghost use Rattle.elaborate.specs.Codes.{laid_code};
-
-    ghost Value = { Laid };
-
-    ghost coded = { laid_code };
-
-    ghost view = { λ b. record { frame = b.slots.now; points = map (with_facts b.facts.items) b.points.items } };
-
-    ghost invariant = { λ b. IsBuilt b.slots.now b.facts.items b.points.items };
-}
-
-impl<'a> Builder<'a> {
-    /// No point is laid yet.
-    pub(crate) fn new(alloc: Global, slots: &'a Slots) -> Builder<'a>
-        ensures { result ≡ record { frame = slots.now; points = [] } }
+impl Builder {
+    /// No point is laid yet, for a function with so many slots.
+    pub(crate) fn new(alloc: Global, slots: usize) -> Result<Builder, AllocError>
+        ensures { IfOk result (λ build. build.points.items ≡ []) }
     {
-        Builder {
-            alloc,
-            slots,
-            facts: Vec::new(alloc),
-            points: Vec::new(alloc),
+        let mut shared = Vec::new(alloc);
+        for _ in 0..slots {
+            shared.push(None)?;
         }
+        Ok(Builder {
+            alloc,
+            shared,
+            points: Vec::new(alloc),
+        })
     }
 
     /// The allocator that it is built with.
@@ -59,116 +51,192 @@ impl<'a> Builder<'a> {
         self.alloc
     }
 
-    /// The number that the next point will have.
-    pub(crate) fn here(&self) -> u32
-        requires { length self.now.points < 2 ^ 32 }
-        ensures { result ≡ length self.now.points }
-    {
-        self.points.len() as u32
-    }
-
-    /// The slot of a local, if there is one, and else the first.
-    pub(crate) fn slot_of(&self, element: Option<LocalId>) -> SlotId
-        ensures { result ≡ slot_meant self.now.frame element }
-    {
-        self.slots.slot_of(element)
-    }
-
-    /// The slot for the value of an operator, where so many values are held.
-    pub(crate) fn slot_for(&self, operator: OperatorKind, height: u32) -> SlotId
-        requires { height < 2 ^ 31 }
-        ensures { result ≡ frame.slot_for self.now.frame operator height }
-    {
-        self.slots.slot_for(operator, height)
-    }
-
-    /// Lays a point at which this is known of the locals, and these temporaries hold a value. After
-    /// an `Err` the builder is as before.
+    /// Lays a point.
     pub(crate) fn lay(
         &mut self,
-        source: Option<NodeId>,
-        flow: &Flow,
-        held: &[HeldValue],
+        site: Option<Span>,
+        facts: Facts,
         term: Term,
-    ) -> Result<(), AllocError>
-        requires { length self.old.points < 2 ^ 32 }
-        ensures ok { OnOk result (self.new ≡ laid_behind self.old (record { source = source; facts = facts_for self.old.frame flow.now held.now; term = term } ∷ [])) }
-        ensures err { OnErr result (self.new ≡ self.old) }
+    ) -> Result<PointId, AllocError>
+        requires { length self.old.points.items < 2 ^ 32 }
+        ensures { IfOk result (λ entry. made self.new.points.items entry ≡ with_point main_function site facts term self.old.points.items) }
     {
-        let known = self.slots.facts(self.alloc, flow, held)?;
-        self.points.reserve(1)?;
-        let facts = share(&mut self.facts, known)? as u32;
-        self.points.push_reserved(Point {
-            source,
+        let entry = PointId(self.points.len() as u32);
+        self.points.push(Point {
+            function: FunctionId(0),
+            site,
             facts,
             term,
-        });
+        })?;
+        Ok(entry)
+    }
+
+    /// Lays the point of a step that is done where a node stands, where this is known of the locals and
+    /// these values are held.
+    pub(crate) fn lay_step(
+        &mut self,
+        said: &Said,
+        at: Place,
+        flow: &Flow,
+        values: &[SlotId],
+        term: Term,
+    ) -> Result<PointId, AllocError>
+        requires { length self.old.points.items < 2 ^ 32 }
+        ensures laid { IfOk result (λ entry. (step : Step) (next : PointId) → term ≡ step_to step next → IsLaid (step_at said.now at flow.now values.now step) next self.old.points.items self.new.points.items entry) }
+        ensures few { OnOk result (length self.new.points.items ≡ length self.old.points.items + 1) }
+    {
+        let facts = self.facts(said, flow, values)?;
+        self.lay(site_of(at), facts, term)
+    }
+
+    /// Tells a point its term.
+    pub(crate) fn tell(&mut self, point: PointId, term: Term)
+        requires { point.0 < length self.old.points.items }
+        ensures { self.new.points.items ≡ with_term self.old.points.items point term }
+    {
+        self.points[point.0 as usize].term = term;
+    }
+
+    /// What is known at a point, where this is known of the locals and these values are held.
+    pub(crate) fn facts(
+        &mut self,
+        said: &Said,
+        flow: &Flow,
+        values: &[SlotId],
+    ) -> Result<Facts, AllocError>
+        ensures facts { IfOk result (λ facts. facts ≡ known.facts said.now flow.now values.now) }
+        ensures points { OnOk result (self.new.points.items ≡ self.old.points.items) }
+    {
+        let mut facts = Facts::new(self.alloc, flow.reachable());
+        self.put_locals(said, flow, &mut facts)?;
+        self.put_values(values, &mut facts)?;
+        Ok(facts)
+    }
+
+    // Puts what is known of the slots of locals.
+    fn put_locals(&mut self, said: &Said, flow: &Flow, facts: &mut Facts) -> Result<(), AllocError>
+        ensures facts { OnOk result (facts.new ≡ record facts.old { listed = fold put facts.old.listed (map (known.fact_of_local said.now) flow.now.locals) }) }
+        ensures points { OnOk result (self.new.points.items ≡ self.old.points.items) }
+    {
+        for local in flow.locals() {
+            let local = local.facts();
+            let slot = said.slot_of_local(local.var);
+            let fact = self.local_fact(slot, local.assigned, local.captured, local.current())?;
+            facts.put(fact)?;
+        }
         Ok(())
     }
 
-    /// The table of facts, and the points.
-    pub(crate) fn finish(self) -> (Vec<Facts>, Vec<Point>)
-        ensures points { map (with_facts result.0.items) result.1.items ≡ self.entry.points }
-        ensures built { IsBuilt self.entry.frame result.0.items result.1.items }
+    // Puts what is known of the slots of values that are held.
+    fn put_values(&mut self, values: &[SlotId], facts: &mut Facts) -> Result<(), AllocError>
+        ensures facts { OnOk result (facts.new ≡ record facts.old { listed = fold put facts.old.listed (map known.fact_of_value values.now) }) }
+        ensures points { OnOk result (self.new.points.items ≡ self.old.points.items) }
     {
-        (self.facts, self.points)
+        for slot in values {
+            let fact = self.value_fact(*slot)?;
+            facts.put(fact)?;
+        }
+        Ok(())
     }
-}
 
-// Puts facts into a table, unless equal ones stand among its last ones. The answer is their place.
-fn share(facts: &mut Vec<Facts>, known: Facts) -> Result<usize, AllocError>
-    ensures ok { IfOk result (Shares facts.old.items facts.new.items known) }
-    ensures err { OnErr result (facts.new.items ≡ facts.old.items) }
-{
-    if let Some(place) = find_shared(facts, &known) {
-        return Ok(place);
+    // What is known of the slot of a local that has this type.
+    fn local_fact(
+        &mut self,
+        slot: SlotId,
+        assigned: bool,
+        captured: bool,
+        ty: &DartType,
+    ) -> Result<SharedFact, AllocError>
+        ensures fact { IfOk result (λ fact. fact ≡ record { slot = slot; known = record { assigned = assigned; held = held_as captured ty.now } }) }
+        ensures points { OnOk result (self.new.points.items ≡ self.old.points.items) }
+    {
+        if let Some(last) = self.last(slot) {
+            if last.fact().slot == slot && is_of_local(&last.fact().known, assigned, captured, ty) {
+                return last.share();
+            }
+        }
+        let held = if captured {
+            Held::Shared
+        } else {
+            Held::Own(ty.copy(self.alloc)?)
+        };
+        self.share(slot, Known { assigned, held })
     }
-    let place = facts.len();
-    facts.push(known)?;
-    Ok(place)
-}
 
-// The place of equal facts among the last ones, if there are any.
-fn find_shared(facts: &[Facts], known: &Facts) -> Option<usize>
-    ensures within { IfSome result (λ place. place < length facts.now) }
-    ensures same { IfSome result (λ place. slice_index_or facts.now place no_facts ≡ known.now) }
-{
-    let first = facts.len().saturating_sub(COMPARED);
-    for place in first..facts.len() {
-        if are_same(&facts[place], known) {
-            return Some(place);
+    // What is known of the slot of a value that is held.
+    fn value_fact(&mut self, slot: SlotId) -> Result<SharedFact, AllocError>
+        ensures fact { IfOk result (λ fact. fact ≡ known.fact_of_value slot) }
+        ensures points { OnOk result (self.new.points.items ≡ self.old.points.items) }
+    {
+        if let Some(last) = self.last(slot) {
+            if last.fact().slot == slot && is_of_value(&last.fact().known) {
+                return last.share();
+            }
+        }
+        let held = Held::Declared;
+        self.share(
+            slot,
+            Known {
+                assigned: true,
+                held,
+            },
+        )
+    }
+
+    // What was last known of a slot.
+    fn last(&self, slot: SlotId) -> Option<&SharedFact> {
+        match self.shared.get(slot.0 as usize) {
+            Some(Some(last)) => Some(last),
+            Some(None) => None,
+            None => None,
         }
     }
-    None
-}
 
-// Whether two facts are the same.
-fn are_same(a: &Facts, b: &Facts) -> bool
-    ensures { IsTrue result → a.now ≡ b.now }
-{
-    if a.reachable != b.reachable || a.slots.len() != b.slots.len() {
-        return false;
-    }
-    for (place, fact) in a.slots.iter().enumerate() {
-        if !is_same(fact, &b.slots[place]) {
-            return false;
+    // A fact, which is kept for the points that are laid next.
+    fn share(&mut self, slot: SlotId, known: Known) -> Result<SharedFact, AllocError>
+        ensures fact { IfOk result (λ fact. fact ≡ record { slot = slot; known = known }) }
+        ensures points { OnOk result (self.new.points.items ≡ self.old.points.items) }
+    {
+        let fact = SharedFact::new(self.alloc, SlotFact { slot, known })?;
+        let place = slot.0 as usize;
+        if place < self.shared.len() {
+            self.shared[place] = Some(fact.share()?);
         }
+        Ok(fact)
     }
-    true
 }
 
-// Whether the same is known of two slots.
-fn is_same(a: &SlotFact, b: &SlotFact) -> bool
-    ensures { IsTrue result → a.now ≡ b.now }
+/// Where a node stands.
+pub(crate) fn site_of(at: Place) -> Option<Span>
+    ensures { result ≡ site_of at }
 {
-    if a.assigned != b.assigned {
+    Some(Span {
+        start: at.span.start,
+        end: at.span.end,
+    })
+}
+
+// Whether this is known of a slot as of that of a local with this type.
+fn is_of_local(known: &Known, assigned: bool, captured: bool, ty: &DartType) -> bool
+    ensures { IsTrue result → known.now ≡ record { assigned = assigned; held = held_as captured ty.now } }
+{
+    if known.assigned != assigned {
         return false;
     }
-    match &a.held {
-        Held::Shared => matches!(&b.held, Held::Shared),
-        Held::Own(ty) => match &b.held {
-            Held::Shared => false,
-            Held::Own(other) => ty.is_same(other),
-        },
+    match &known.held {
+        Held::Declared => false,
+        Held::Shared => captured,
+        Held::Own(own) => !captured && own.is_same(ty),
+    }
+}
+
+// Whether this is known of a slot as of that of a value that is held.
+fn is_of_value(known: &Known) -> bool
+    ensures { IsTrue result → known.now ≡ record { assigned = true; held = Declared } }
+{
+    match &known.held {
+        Held::Declared => known.assigned,
+        Held::Shared => false,
+        Held::Own(_) => false,
     }
 }

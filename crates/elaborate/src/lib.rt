@@ -1,115 +1,83 @@
-//! Elaboration: from a library in whose text nothing is wrong to its core program.
+//! Elaboration: from a library in whose text nothing is wrong to the core program of its function `main`.
 //!
-//! `elaborate` gives the core program of `specs/Layout.antt`, one row for each form of a tree: its
-//! slots (`specs/Frame.antt`), its points, and what is known at each, from the flow models of the
-//! typed tree (`specs/Known.antt`). No point of such a program is refused by the second check, which
-//! is proved by induction over the judgement. The crate stands on the checked library, the
-//! judgement, and core programs with their check.
+//! Each form of a tree has one row that gives its code (`specs/Rows.antt`), from what the rules said of its
+//! nodes, which is looked up by their numbers (`specs/Sources.antt`), and the code of its parts. What is
+//! known at a point comes from the flow models before and behind nodes (`specs/Known.antt`). The points of
+//! code are laid from its end to its start, as `core_emit` says; `specs/Elaborated.antt` puts the program
+//! together. That each form's code leads from the model before it to the models behind it is proved by
+//! induction over the forms, once (`proofs/`), and so no point of such a program is refused by the second
+//! check.
 #![tactic(auto)]
 
 mod builder;
-mod count;
-mod frame;
-mod height;
-mod locals;
-mod nodes;
+mod conditions;
+mod declarations;
+mod laws;
+mod operands;
+mod program;
+mod said;
+mod slots;
 mod statements;
 mod values;
 
-ghost use Rattle.std.specs.Prelude.{◌≡◌, ◌<◌, ◌≤◌, ◌*◌, ◌^◌, ℕ, List, length, Some, IfOk, OnOk, IsTrue, []};
-ghost use Rattle.std.specs.FinMap.{empty};
-ghost use Rattle.small_tree.specs.Numbers.{nodes_in};
-ghost use Rattle.small_flow.specs.Sub.{no_rows};
-ghost use Rattle.small_flow.specs.Flow.{start_of};
-ghost use Rattle.judgement.specs.Typed.{typed_unit};
-ghost use Rattle.check_library.specs.Checked.{IsCheckOf, IsFaultless};
+ghost use Rattle.std.specs.Prelude.{◌≡◌, ◌+◌, ◌*◌, ◌<◌, ◌≤◌, ◌^◌, ℕ, List, Some, IfOk, length, option_map};
 ghost use Rattle.dart_scan.specs.Scanned.{tokens_of};
-ghost use Rattle.core_check.specs.WellFormed.{IsWellFormed};
+ghost use Rattle.dart_tree.specs.Tree.{block, trees_of};
+ghost use Rattle.dart_tree.specs.Numbers.{nodes_in};
+ghost use Rattle.check_library.specs.Checked.{IsCheckOf, IsFaultless, main_of_checked};
 ghost use Rattle.core_check.specs.Accepted.{IsAccepted};
-ghost use Rattle.elaborate.specs.Frame.{frame_of};
-ghost use Rattle.elaborate.specs.Forms.{is_program};
-ghost use Rattle.elaborate.specs.Laid.{IsBuiltFor};
-ghost use Rattle.elaborate.specs.Elaborated.{IsElaborationOf};
+ghost use Rattle.core_check.specs.WellFormed.{IsWellFormed};
+ghost use Rattle.elaborate.specs.Elaborated.{elaborated};
 
-use crate::builder::Builder;
-use crate::frame::Slots;
-use crate::nodes::Nodes;
-use crate::statements::lay_body;
+use crate::laws::programs_of_bodies_are_accepted;
+use crate::program::build_program;
+use built_forms::built_bodies_are_blocks;
 use check_library::Checked;
 use core_ir::CoreProgram;
-use judgement::TypedNode;
-use small_flow::Rows;
-use small_tree::{Block, Function, Unit};
+use dart_tree::{Body, BodyNode, Place, Stmt, numbering_laws};
+use rule_laws::each_node_is_spoken_of_once;
 use std::alloc::{AllocError, Global};
 
-/// The core program of what is run of a library in whose text nothing is wrong. It takes time and
-/// memory linear in the points times the slots; points at which the same is known share it.
-pub fn elaborate(alloc: Global, checked: &Checked, unit: &Unit) -> Result<CoreProgram, AllocError>
+/// The core program of the function `main` of a library in whose text nothing is wrong. It takes time
+/// and memory linear in the points times the locals in scope; points at which the same is known of a
+/// slot share that. The error is want of memory.
+pub fn elaborate(alloc: Global, checked: &Checked, body: &Body) -> Result<CoreProgram, AllocError>
     requires faultless { IsFaultless checked.now }
-    requires unit { checked.now.unit ≡ Some unit.now }
-    ensures program { IfOk result (IsElaborationOf unit.now) }
+    requires body { option_map (λ main. main.1) (main_of_checked checked.now) ≡ Some body.now }
+    ensures program { IfOk result (λ program. program ≡ elaborated checked.now.rows checked.now.unit.words checked.now.forms.outside.items body.now) }
     ensures well_formed { IfOk result IsWellFormed }
     ensures accepted { IfOk result IsAccepted }
     ensures few { IfOk result (λ program. (text : List ℕ) → IsCheckOf text checked.now → length program.points ≤ 64 * length (tokens_of text)) }
 {
-    let program = elaborate_unit(alloc, unit, &checked.typed)?;
-    Ok(program)
+    built_bodies_are_blocks();
+    match &body.node {
+        BodyNode::Block { at, statements } => elaborate_block(alloc, checked, *at, statements),
+        BodyNode::Expression { .. } => unreachable!(),
+        BodyNode::Empty { .. } => unreachable!(),
+        BodyNode::Native { .. } => unreachable!(),
+    }
 }
 
-// The core program of a unit, of whose nodes this is said.
-fn elaborate_unit(
+// The core program of a block that is the body of that function.
+fn elaborate_block(
     alloc: Global,
-    unit: &Unit,
-    typed: &[TypedNode],
+    checked: &Checked,
+    at: Place,
+    statements: &[Stmt],
 ) -> Result<CoreProgram, AllocError>
-    requires small { nodes_in unit.now < 2 ^ 30 }
-    requires typed { typed.now ≡ typed_unit no_rows unit.now }
-    ensures program { IfOk result (IsElaborationOf unit.now) }
-    ensures built { IfOk result (IsBuiltFor unit.now) }
-    ensures form { OnOk result (IsTrue (is_program unit.now)) }
+    requires faultless { IsFaultless checked.now }
+    requires body { option_map (λ main. main.1) (main_of_checked checked.now) ≡ Some (block at (trees_of statements.now)) }
+    ensures program { IfOk result (λ program. program ≡ elaborated checked.now.rows checked.now.unit.words checked.now.forms.outside.items (block at (trees_of statements.now))) }
+    ensures well_formed { IfOk result IsWellFormed }
+    ensures accepted { IfOk result IsAccepted }
+    ensures few { IfOk result (λ program. (text : List ℕ) → IsCheckOf text checked.now → length program.points ≤ 64 * length (tokens_of text)) }
 {
-    let program = elaborate_main(alloc, &unit.main, typed)?;
+    numbering_laws();
+    built_bodies_are_blocks();
+    each_node_is_spoken_of_once();
+    let rows = checked.rows.copy(alloc)?;
+    let words = checked.unit.words.as_slice();
+    let program = build_program(alloc, rows, words, &checked.typed, at, statements)?;
+    programs_of_bodies_are_accepted(&checked.rows, &program);
     Ok(program)
-}
-
-// The core program of the function of a unit.
-fn elaborate_main(
-    alloc: Global,
-    main: &Function,
-    typed: &[TypedNode],
-) -> Result<CoreProgram, AllocError>
-    requires small { nodes_in main.now < 2 ^ 30 }
-    requires typed { typed.now ≡ typed_unit no_rows main.now }
-    ensures program { IfOk result (IsElaborationOf main.now) }
-    ensures built { IfOk result (IsBuiltFor main.now) }
-    ensures form { OnOk result (IsTrue (is_program main.now)) }
-{
-    let program = elaborate_body(alloc, &main.body, typed)?;
-    Ok(program)
-}
-
-// The core program of its body.
-fn elaborate_body(
-    alloc: Global,
-    body: &Block,
-    typed: &[TypedNode],
-) -> Result<CoreProgram, AllocError>
-    requires small { nodes_in body.now < 2 ^ 30 }
-    requires typed { typed.now ≡ typed_unit no_rows body.now }
-    ensures program { IfOk result (IsElaborationOf body.now) }
-    ensures built { IfOk result (IsBuiltFor body.now) }
-    ensures form { OnOk result (IsTrue (is_program body.now)) }
-{
-    let slots = Slots::of(alloc, body)?;
-    let mut builder = Builder::new(alloc, &slots);
-    let mut nodes = Nodes::of(typed);
-    lay_body(&mut builder, &mut nodes, &body.statements)?;
-    let (facts, points) = builder.finish();
-    let types = slots.types(alloc)?;
-    Ok(CoreProgram {
-        rows: Rows::new(),
-        slots: types,
-        facts,
-        points,
-    })
 }

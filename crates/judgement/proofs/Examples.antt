@@ -1,120 +1,65 @@
--- The table on a few small trees, computed.
-use Rattle.std.specs.Prelude.{◌≡◌, ℕ, ◌+◌, true, false, List, [], ◌∷◌, ◌++◌, Some, None, refl, map}
-use Rattle.std.specs.FinMap.{get, gets}
-use Rattle.small_tree.specs.declared.places.Place.{Place}
-use Rattle.small_tree.specs.declared.nodes.Name.{Name}
-use Rattle.small_tree.specs.declared.nodes.Operator.{Operator}
-use Rattle.small_tree.specs.declared.nodes.OperatorKind.{OperatorKind}
-use Rattle.small_tree.specs.declared.nodes.OperatorKind.TheVariants.{Plus, Less, NotEqual}
-use Rattle.small_tree.specs.declared.nodes.Radix.TheVariants.{Decimal, Hexadecimal}
-use Rattle.small_tree.specs.Tree.{Tree, Trees, no_more, more, absent, present, name, integer, boolean, null_literal, binary, int_type, bool_type, declare, assign, eval, if_statement, while_statement, block}
-use Rattle.small_flow.specs.Ty.{never}
-use Rattle.small_flow.specs.Sub.{no_rows}
-use Rattle.small_flow.specs.Flow.{FlowModel, facts_of, current_of}
-use Rattle.small_flow.specs.Steps.{exit_of}
-use Rattle.small_flow.specs.declared.locals.Facts.{Facts}
-use Rattle.small_flow.specs.declared.locals.LocalId.{LocalId}
-use Rattle.judgement.specs.declared.Fault.{Fault}
-use Rattle.judgement.specs.declared.DiagnosticCode.{DiagnosticCode}
-use Rattle.judgement.specs.declared.DiagnosticCode.TheVariants.{ArgumentType, ConditionNotBool, DuplicateDefinition, IntegerLiteralOutOfRange, InvalidAssignment, ReferencedBeforeDeclaration, UnassignedRead, UncheckedNullableUse, UndefinedOperator}
-use Rattle.judgement.specs.Names.{Names}
-use Rattle.judgement.specs.Rows.{fault_at}
-use Rattle.judgement.specs.Judgement.{evaluate, run, faults_of}
+-- A few rows, computed: of a block that declares two names of one word.
+use Rattle.std.proofs.Common.{◌≡◌, ℕ, Bool, true, false, not, ◌||◌, nat_eq, List, [], ◌∷◌, Option, Some, is_some, if◌then◌else◌, ap}
+use Rattle.std.specs.Prelude.{slice_index_or}
+use Rattle.std.specs.Option.{option_map_or}
+use Rattle.std.specs.Ordering.{nat_cmp}
+use Rattle.std.specs.Cmp.{nat_cmp_total}
+use Rattle.std.specs.FinMap.{empty, get, get-empty, get-insert}
+use Rattle.dart_tree.specs.declared.names.Name.{Name}
+use Rattle.dart_types.specs.Ty.{Ty}
+use Rattle.dart_types.specs.Tables.{Table}
+use Rattle.flow_model.specs.Flow.{FlowModel, declare_of, facts_of, start_of}
+use Rattle.flow_model.specs.declared.locals.LocalDecl.{LocalDecl}
+use Rattle.flow_model.specs.declared.locals.LocalId.{LocalId}
+use Rattle.judgement.specs.declared.code.DiagnosticCode.TheVariants.{DuplicateDefinition}
+use Rattle.judgement.specs.declared.meaning.Meaning.{Meaning}
+use Rattle.judgement.specs.declared.meaning.Meaning.TheVariants.{Nothing, Local}
+use Rattle.judgement.specs.Surroundings.{Surroundings, of_body, meaning_of}
+use Rattle.judgement.specs.DeclaredNames.{local_of, names_within, within}
+use Rattle.judgement.specs.Given.{complains, just}
+use Rattle.judgement.specs.StatementRows.{declared_local, declare_row, is_declared_before}
 
--- a node with this number, at the range of one code unit with the same offset
-abbrev at : ℕ → Place
-at n = record { node = record { 0 = n }; span = record { start = n; end = n } }
+-- the word 2, at the nodes 9 and 12
+abbrev first : Name
+first = record { at = record { node = record { 0 = 9 }; span = record { start = 4; end = 5 } }; word = 2 }
 
--- the code of a diagnostic, and where it begins
-abbrev found : Fault → DiagnosticCode × ℕ
-found fault = (fault.code, fault.span.start)
+abbrev second : Name
+second = record { at = record { node = record { 0 = 12 }; span = record { start = 11; end = 12 } }; word = 2 }
 
--- what is wrong with the statements of a function's block
-abbrev wrong_with : Trees → List (DiagnosticCode × ℕ)
-wrong_with statements = map found (faults_of no_rows (block (at 0) statements))
+module _ (table : Table) (words : List (List ℕ)) (outside : List Meaning) where
+  -- before the first statement of a body, a word means what it means outside
+  pub means_what_it_means_outside : (word : ℕ) → meaning_of (of_body table words outside) word ≡ slice_index_or outside word Nothing
+  means_what_it_means_outside word = ap (λ (local : Option LocalId). option_map_or Local local (slice_index_or outside word Nothing)) (get-empty nat_cmp word)
 
-abbrev variable : ℕ → Name
-variable n = record { at = at n; word = 0 }
+  -- in the block
+  abbrev inside : Surroundings
+  inside = within (of_body table words outside) (first ∷ second ∷ [])
 
-abbrev x : ℕ → Tree
-x n = name (at n) 0
+  -- the word is that of the first
+  word_is_first : get inside.names 2 ≡ Some (local_of first)
+  word_is_first = get-insert nat_cmp_total (names_within empty (second ∷ [])) 2 (local_of first) 2
 
-abbrev one : ℕ → Tree
-one n = integer (at n) (record { radix = Decimal; magnitude = Some 1 })
+  pub means_first : meaning_of inside 2 ≡ Local (local_of first)
+  means_first = ap (λ (local : Option LocalId). option_map_or Local local (slice_index_or outside 2 Nothing)) word_is_first
 
-abbrev operator : OperatorKind → ℕ → Operator
-operator kind n = record { kind = kind; span = record { start = n; end = n } }
+  -- the first comes into scope
+  abbrev declared : Ty → LocalDecl
+  declared ty = declared_local table ty (local_of first) false
 
--- `x + 1`
-abbrev sum : ℕ → Tree
-sum n = binary (at n) (operator Plus (n + 1)) (x n) (one (n + 2))
+  first_is_new : is_declared_before inside first (start_of []) ≡ false
+  first_is_new = ap (λ (local : Option LocalId). not (option_map_or (λ var. nat_eq var.0 9) local false) || false) word_is_first
 
--- `x != null`
-abbrev is_not_null : ℕ → Tree
-is_not_null n = binary (at n) (operator NotEqual (n + 1)) (x n) (null_literal (at (n + 2)))
+  pub first_is_declared : (ty : Ty) → declare_row inside first ty (start_of []) ≡ just (declare_of (start_of []) (declared ty))
+  first_is_declared ty = ap (λ (before : Bool). if before then complains first.at.span DuplicateDefinition (start_of []) else just (declare_of (start_of []) (declared ty))) first_is_new
 
--- `int? x;`
-abbrev maybe_x : ℕ → Tree
-maybe_x n = declare (at n) (int_type (at n) true) (variable n) absent
+  -- once it is in scope, it was declared before
+  pub first_is_declared_once : (ty : Ty) → is_declared_before inside first (declare_of (start_of []) (declared ty)) ≡ true
+  first_is_declared_once ty = ap (λ (local : Option LocalId). not (option_map_or (λ var. nat_eq var.0 9) local false) || true) word_is_first
 
--- `null + 0xFFFFFFFFFFFFFFFFF; true + 1; 1 + true; if (1) { }`: the right side is judged behind a left one that is null
-operators_and_conditions :
-    wrong_with
-    (more (eval (at 1) (binary (at 1) (operator Plus 2) (null_literal (at 1)) (integer (at 3) (record { radix = Hexadecimal; magnitude = None }))))
-    (more (eval (at 4) (binary (at 4) (operator Plus 5) (boolean (at 4) true) (one 6)))
-    (more (eval (at 7) (binary (at 7) (operator Less 8) (one 7) (boolean (at 9) true)))
-    (more (if_statement (at 10) (one 10) (block (at 11) no_more) absent) no_more))))
-    ≡ (IntegerLiteralOutOfRange, 3) ∷ (UncheckedNullableUse, 2) ∷ (UndefinedOperator, 5) ∷ (ArgumentType, 9) ∷ (ConditionNotBool, 10) ∷ []
-operators_and_conditions = refl
+  -- the second never comes into scope
+  second_is_not_new : (m : FlowModel) → is_declared_before inside second m ≡ true
+  second_is_not_new m = ap (λ (local : Option LocalId). not (option_map_or (λ var. nat_eq var.0 12) local false) || is_some (facts_of m (local_of second))) word_is_first
 
--- `int x = 1; { x; int x; }`: a block's name means its own local from its beginning on
-own_from_the_beginning :
-    wrong_with
-    (more (declare (at 1) (int_type (at 1) false) (variable 1) (present (one 2)))
-    (more (block (at 10) (more (eval (at 11) (x 11)) (more (declare (at 12) (int_type (at 12) false) (variable 12) absent) no_more)))
-    (more (eval (at 30) (sum 30)) no_more)))
-    ≡ (ReferencedBeforeDeclaration, 11) ∷ []
-own_from_the_beginning = simp gets refl
-
--- `int? x; if (x != null) { x + 1; } x + 1;`: what isn't null is so in the branch, and no longer behind it
-promoted_in_the_branch :
-    wrong_with
-    (more (maybe_x 1)
-    (more (if_statement (at 10) (is_not_null 10) (block (at 20) (more (eval (at 21) (sum 21)) no_more)) absent)
-    (more (eval (at 30) (sum 30)) no_more)))
-    ≡ (UncheckedNullableUse, 31) ∷ []
-promoted_in_the_branch = simp gets refl
-
--- `int? x = 1; while (x != null) { x = null; } x + 1;`: what the body writes is forgotten at the head
-forgotten_at_the_head :
-    wrong_with
-    (more (declare (at 1) (int_type (at 1) true) (variable 1) (present (one 2)))
-    (more (while_statement (at 10) (is_not_null 10) (block (at 20) (more (assign (at 21) (variable 21) (null_literal (at 22))) no_more)))
-    (more (eval (at 30) (sum 30)) no_more)))
-    ≡ (UncheckedNullableUse, 31) ∷ []
-forgotten_at_the_head = simp gets refl
-
--- `int x; if (true) { x = 1; } else { x = 1; } x; while (false) { int x; x; }`: a local that both branches assign is assigned
-assigned_by_both :
-    wrong_with
-    (more (declare (at 1) (int_type (at 1) false) (variable 1) absent)
-    (more
-    (if_statement (at 10) (boolean (at 10) true) (block (at 11) (more (assign (at 12) (variable 12) (one 13)) no_more))
-    (present (block (at 14) (more (assign (at 15) (variable 15) (one 16)) no_more))))
-    (more (eval (at 20) (x 20))
-    (more
-    (while_statement (at 30) (boolean (at 30) false)
-    (block (at 31) (more (declare (at 32) (int_type (at 32) false) (variable 32) absent) (more (eval (at 33) (x 33)) no_more)))) no_more))))
-    ≡ (UnassignedRead, 33) ∷ []
-assigned_by_both = simp gets refl
-
--- `bool x = 1;` where the block has declared x before: the name is wrong, and so is the initializer that doesn't fit it; nothing comes into scope
-declared_again : (names : Names) (m : FlowModel) (var : LocalId) (local : Facts) → get names 0 ≡ Some var → facts_of m var ≡ Some local
-    → run no_rows names (declare (at 10) (bool_type (at 10)) (variable 11) (present (one 12))) m
-    ≡ record { after = m; faults = fault_at (at 12) InvalidAssignment ++ fault_at (at 11) DuplicateDefinition }
-declared_again names m var local means known = rw (means, known) refl
-
--- `x` where the current type of x is Never: nothing is reached behind it
-never_exits : (names : Names) (m : FlowModel) (var : LocalId) (local : Facts) → get names 0 ≡ Some var → facts_of m var ≡ Some local → local.assigned ≡ true → current_of local ≡ never
-    → (evaluate no_rows names (x 1) m).after ≡ exit_of m
-never_exits names m var local means known assigned ty = rw (means, known, assigned, ty) refl
+  pub second_is_duplicate : (ty : Ty) (m : FlowModel) → declare_row inside second ty m ≡ complains second.at.span DuplicateDefinition m
+  second_is_duplicate ty m =
+      ap (λ (before : Bool). if before then complains second.at.span DuplicateDefinition m else just (declare_of m (declared_local table ty (local_of second) false))) (second_is_not_new m)

@@ -1,6 +1,9 @@
-pub mod Names
-pub mod Written
-pub mod Rows
-pub mod Judgement
 pub mod NodeFacts
-pub mod Typed
+pub mod Surroundings
+pub mod DeclaredNames
+pub mod Literals
+pub mod Given
+pub mod ExpressionRows
+pub mod StatementRows
+pub mod Written
+pub mod Judgement

@@ -1,43 +1,56 @@
 -- The locals that a tree writes.
 use Rattle.std.specs.Prelude.{List, [], ◌∷◌, ◌++◌}
-use Rattle.std.specs.Option.{option_map_or}
-use Rattle.std.specs.FinMap.{get}
-use Rattle.small_tree.specs.Tree.{Tree, Trees, Part, no_more, more, absent, present, name, integer, boolean, null_literal, binary, parenthesis, int_type, bool_type, declare, assign, eval, print, if_statement, while_statement, block, function, unit}
-use Rattle.small_tree.specs.declared.nodes.Name.{Name}
-use Rattle.small_flow.specs.declared.locals.LocalId.{LocalId}
-use Rattle.judgement.specs.Names.{Names, names_within}
+use Rattle.dart_tree.specs.Tree.{Tree, Trees, Part, no_more, more, absent, present, identifier, parenthesis, binary_expression, assignment, call, argument_list, argument, variable_list, variable, block, variable_statement, expression_statement, if_statement, while_statement}
+use Rattle.flow_model.specs.declared.locals.LocalId.{LocalId}
+use Rattle.judgement.specs.declared.meaning.Meaning.{Meaning}
+use Rattle.judgement.specs.declared.meaning.Meaning.TheVariants.{Nothing, Local, Print, Class, Other}
+use Rattle.judgement.specs.Surroundings.{Surroundings, meaning_of}
+use Rattle.judgement.specs.DeclaredNames.{names_declared, names_in, within}
 
--- the local that an assignment to this name writes, if the name means one
-abbrev pub written_by : Names → Name → List LocalId
-written_by names target = option_map_or (λ var. var ∷ []) (get names target.word) []
+-- what an expression names, in parentheses too; expressions of other forms name nothing
+abbrev pub named_by : Surroundings → Tree → Meaning
+named_by s (identifier at word) = meaning_of s word
+named_by s (parenthesis at inner) = named_by s inner
+named_by s _ = Nothing
+
+-- the local that a name means, as a list
+abbrev pub local_meant : Meaning → List LocalId
+local_meant (Local var) = var ∷ []
+local_meant Nothing = []
+local_meant Print = []
+local_meant (Class class) = []
+local_meant Other = []
 
 abbrev mutual
-  -- The locals that the assignments in a tree name, each by what its name means there. An initializer is no write, and the other forms write nothing.
-  pub written_in : Names → Tree → List LocalId
-  written_in names (assign at target value) = written_by names target
-  written_in names (if_statement at condition then_block else_block) = written_in names then_block ++ written_in_part names else_block
-  written_in names (while_statement at condition body) = written_in names body
-  written_in names (block at statements) = written_in_all (names_within names statements) statements
-  written_in names (name at word) = []
-  written_in names (integer at literal) = []
-  written_in names (boolean at value) = []
-  written_in names (null_literal at) = []
-  written_in names (binary at operator left right) = []
-  written_in names (parenthesis at inner) = []
-  written_in names (int_type at nullable) = []
-  written_in names (bool_type at) = []
-  written_in names (declare at declared variable initial) = []
-  written_in names (eval at value) = []
-  written_in names (print at value) = []
-  written_in names (function at body) = []
-  written_in names (unit at main) = []
+  -- The locals that the assignments in a tree name, each by what its name means there. An initializer is no write. The forms that aren't listed write nothing, or aren't judged yet.
+  pub written_in : Surroundings → Tree → List LocalId
+  written_in s (parenthesis at inner) = written_in s inner
+  written_in s (binary_expression at operator left right) = written_in s left ++ written_in s right
+  written_in s (assignment at operator target value) = written_in s value ++ local_meant (named_by s target)
+  written_in s (call at callee type_arguments arguments) = written_in s arguments
+  written_in s (argument_list at arguments) = written_in_all s arguments
+  written_in s (argument at name value) = written_in s value
+  written_in s (variable_list at is_final declared variables) = written_in_all s variables
+  written_in s (variable at name initializer) = written_in_part s initializer
+  written_in s (block at statements) = written_in_all (within s (names_in statements)) statements
+  written_in s (variable_statement at variables) = written_in s variables
+  written_in s (expression_statement at value) = written_in_part s value
+  written_in s (if_statement at condition then_branch else_branch) =
+      written_in s condition ++ (written_in (within s (names_declared then_branch)) then_branch ++ written_in_branch s else_branch)
+  written_in s (while_statement at condition body) = written_in s condition ++ written_in (within s (names_declared body)) body
+  written_in s _ = []
 
-  -- those that statements write, one after another
-  pub written_in_all : Names → Trees → List LocalId
-  written_in_all names no_more = []
-  written_in_all names (more first rest) = written_in names first ++ written_in_all names rest
+  -- those that trees write, one after another
+  pub written_in_all : Surroundings → Trees → List LocalId
+  written_in_all s no_more = []
+  written_in_all s (more first rest) = written_in s first ++ written_in_all s rest
 
   -- those that a part writes: none where it is left out
-  pub written_in_part : Names → Part → List LocalId
-  written_in_part names absent = []
-  written_in_part names (present tree) = written_in names tree
+  pub written_in_part : Surroundings → Part → List LocalId
+  written_in_part s absent = []
+  written_in_part s (present tree) = written_in s tree
+
+  -- those that a statement writes that is a branch, and so a scope
+  pub written_in_branch : Surroundings → Part → List LocalId
+  written_in_branch s absent = []
+  written_in_branch s (present tree) = written_in (within s (names_declared tree)) tree

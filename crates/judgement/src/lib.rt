@@ -1,112 +1,26 @@
-//! The judgement: what each form of a tree gives, from what is known before it.
+//! The rules: what each form of a body gives, from what is known before it.
 //!
-//! For an expression these are its static type and its diagnostics, for a statement what is known
-//! after it and its diagnostics: one row of a table for each form (`specs/Rows.antt`), and the
-//! recursion over trees that cites them (`specs/Judgement.antt`). The typed tree lists what they say
-//! of each node (`specs/Typed.antt`). The rules are those of the Dart specification and its null
-//! safety, restated in docs/LANGUAGE.md. The crate has these definitions and the plain types of what
-//! they say; it stands on the trees and the flow models, and the checker proves its code against it.
+//! For an expression these are its static type, the flow models after it, where it is true and where
+//! it is false, its diagnostics, and what is said of its nodes; for a statement the flow model after
+//! it, the jumps out of it and the types that it returns, its diagnostics and its nodes. There is one
+//! row of a table for each form (`specs/ExpressionRows.antt`, `specs/StatementRows.antt`), and the
+//! recursion over trees that cites them (`specs/Judgement.antt`). The rules are those of the Dart
+//! specification and its null safety, restated in docs/LANGUAGE.md. The crate has these definitions,
+//! the plain types of what they say, diagnostics among them, and one function, `integer_of`, that the
+//! judge and the elaboration both call: the value of an integer literal. It stands on the trees, the
+//! types and the flow models, and the judge proves its code against it.
 #![tactic(auto)]
 
+mod code;
+mod fault;
+mod literals;
+mod meaning;
+mod operation;
 mod typed;
 
-use small_tree::Span;
-pub use typed::{Branch, TypedNode};
-
-/// What a diagnostic says, in the order of the codes' names.
-#[derive(Clone, Copy, Debug, PartialEq, Eq, PartialOrd, Ord)]
-pub enum DiagnosticCode {
-    /// The right side of an operator hasn't the type that the left side's operator takes.
-    ArgumentType,
-    /// An escape of a string stands for no character.
-    BadEscape,
-    /// The condition of an `if` or a `while` is no bool.
-    ConditionNotBool,
-    /// A name is declared again in one block.
-    DuplicateDefinition,
-    /// The bytes of a file aren't UTF-8.
-    FileNotUtf8,
-    /// An ASCII character begins no lexeme.
-    IllegalCharacter,
-    /// A decimal literal past 2^63 - 1, or a hexadecimal one past 2^64 - 1.
-    IntegerLiteralOutOfRange,
-    /// A value hasn't the type of the variable that it is written to.
-    InvalidAssignment,
-    /// A directive or a declaration holds a form that isn't checked yet.
-    NotBuilt,
-    /// An `@` stands where no annotation is read.
-    ProfileAnnotation,
-    /// The word `assert`, which the language leaves out.
-    ProfileAssert,
-    /// Asynchronous functions and generators, which the language leaves out.
-    ProfileAsync,
-    /// A spread, an `if` or a `for` among the elements of a collection.
-    ProfileCollectionElement,
-    /// A URI that depends on a condition.
-    ProfileConditionalUri,
-    /// The word `const`, which the language leaves out.
-    ProfileConst,
-    /// A label before a case of a switch.
-    ProfileContinueCase,
-    /// The word `covariant`, which the language leaves out.
-    ProfileCovariant,
-    /// A deferred import.
-    ProfileDeferred,
-    /// A double literal.
-    ProfileDouble,
-    /// An enum.
-    ProfileEnum,
-    /// An extension.
-    ProfileExtension,
-    /// The word `external`, which the language leaves out.
-    ProfileExternal,
-    /// A file has more than 4,194,304 bytes.
-    ProfileFileLength,
-    /// Characters beyond ASCII stand outside strings and comments.
-    ProfileIdentifier,
-    /// The word `late`, which the language leaves out.
-    ProfileLate,
-    /// A class that is made by `=`.
-    ProfileMixinApplication,
-    /// A segment has too many groups in one another, or too many lexemes.
-    ProfileNesting,
-    /// A factory that hands on to another constructor by `=`.
-    ProfileRedirectingFactory,
-    /// A `#`, with which a symbol begins.
-    ProfileSymbol,
-    /// The operator `>>>`.
-    ProfileTripleShift,
-    /// A typedef of a form that the language leaves out.
-    ProfileTypedef,
-    /// A variable is named before its declaration.
-    ReferencedBeforeDeclaration,
-    /// A segment of a text derives nothing.
-    SyntaxError,
-    /// A variable is read that may have no value yet.
-    UnassignedRead,
-    /// An operator of int is used on a value that may be null.
-    UncheckedNullableUse,
-    /// A bracket opens a group that no bracket closes.
-    UnclosedGroup,
-    /// A name means nothing.
-    UndefinedName,
-    /// A value's type hasn't the operator.
-    UndefinedOperator,
-    /// A bracket closes no group.
-    UnopenedGroup,
-    /// A comment never ends.
-    UnterminatedComment,
-    /// A string never ends.
-    UnterminatedString,
-}
-
-/// Something wrong in a text, and where: in UTF-16 code units, from 0.
-///
-/// Diagnostics are ordered by where they stand, and those of one place by their codes' names.
-#[derive(Clone, Copy, Debug, PartialEq, Eq, PartialOrd, Ord)]
-pub struct Fault {
-    /// The part of the text that is wrong.
-    pub span: Span,
-    /// What is wrong with it.
-    pub code: DiagnosticCode,
-}
+pub use code::DiagnosticCode;
+pub use fault::Fault;
+pub use literals::integer_of;
+pub use meaning::Meaning;
+pub use operation::Operation;
+pub use typed::TypedNode;

@@ -160,16 +160,18 @@ const NESTED: &str = "\
 10000 :: ProfileNesting@210+19604";
 
 // Texts, whether something of them is judged, and the numbers of the nodes of their typed trees: the parts of a
-// node come before it. The unit has 0, its function 1 and the body 2.
+// node come before it. A unit has 0, its first function 1 to 5 with what stands before its body, and the body 6.
 const TYPED: &str = "\
-void main(){} :: tree 2
-void main(){int x;x=1;} :: tree 3 8 6 2
-void main(){if(true){}else{1;}} :: tree 4 5 8 7 6 3 2
-void main(){ :: tree 2
-void main(){1+;} :: tree 2
-void main(){1;2+;print(3);} :: tree 4 3 6 5 2
-import 'b.dart';void main(){} :: tree 2
-int x=1;void main(){} :: tree 2
+void main(){} :: main 6
+void main(){int x;x=1;} :: main 10 7 15 13 12 6
+void main(){int x=7;print(x);} :: main 12 10 7 18 14 13 6
+void main(){if(true){}else{1;}} :: main 8 9 12 11 10 7 6
+void main(){while(1<2){(3);}} :: main 9 10 8 14 13 12 11 7 6
+void main(){ :: main 6
+void main(){1+;} :: main 6
+void main(){1;2+;print(3);} :: main 8 7 15 11 10 6
+import 'b.dart';void main(){} :: main 8
+int x=1;void main(){} :: main 12
 void main(){1-2;} :: none
  :: none
 import 'b.dart'; :: none";
@@ -205,12 +207,12 @@ fn diagnostics(alloc: Global, text: &str) -> Result<String, Fail> {
 fn nodes(alloc: Global, text: &str) -> Result<String, Fail> {
     let text = Text::from_str(alloc, text)?;
     let checked = check(alloc, "/a.dart", &text)?;
-    let tree = if checked.unit.is_some() {
-        "tree"
+    let judged = if checked.main().is_some() {
+        "main"
     } else {
         "none"
     };
-    let mut told = format!(in alloc; "{} {tree}", checked.path.as_str())?;
+    let mut told = format!(in alloc; "{} {judged}", checked.path.as_str())?;
     for node in &checked.typed {
         told.push_str(&format!(in alloc; " {}", node.node.0)?)?;
     }

@@ -2,9 +2,9 @@
 use Rattle.std.specs.Prelude.{ℕ, Bool, ◌&&◌, ◌||◌, List, [], ◌∷◌, Option, None, Some, is_some}
 use Rattle.std.specs.List.{list_any}
 use Rattle.std.specs.Option.{option_map_or}
-use Rattle.judgement.specs.declared.Fault.{Fault}
-use Rattle.judgement.specs.declared.DiagnosticCode.{DiagnosticCode}
-use Rattle.judgement.specs.declared.DiagnosticCode.TheVariants.{FileNotUtf8, ProfileFileLength}
+use Rattle.judgement.specs.declared.fault.Fault.{Fault}
+use Rattle.judgement.specs.declared.code.DiagnosticCode.{DiagnosticCode}
+use Rattle.judgement.specs.declared.code.DiagnosticCode.TheVariants.{FileNotUtf8, ProfileFileLength}
 use Rattle.load_files.specs.Paths.{lies_in, is_library}
 use Rattle.load_files.specs.Tables.{contents_at}
 use Rattle.load_files.specs.declared.contents.FileContents.{FileContents}

@@ -13,7 +13,7 @@ pub struct Faults {
 
 impl Model for Faults {
     ghost use Rattle.std.specs.Prelude.{List};
-    ghost use Rattle.judgement.specs.declared.Fault.{Fault};
+    ghost use Rattle.judgement.specs.declared.fault.Fault.{Fault};
 
     ghost Value = { List Fault };
 

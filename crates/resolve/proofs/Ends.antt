@@ -1,8 +1,8 @@
 -- A block that declares nothing.
 use Rattle.std.proofs.Common.{◌≡◌, List, [], ◌∷◌, refl, ap}
 use Rattle.std.specs.Prelude.{filter, not}
-use Rattle.small_flow.specs.Flow.{FlowModel, end_of, is_listed}
-use Rattle.small_flow.specs.declared.locals.Facts.{Facts}
+use Rattle.flow_model.specs.Flow.{FlowModel, end_of, is_listed}
+use Rattle.flow_model.specs.declared.locals.Facts.{Facts}
 
 -- all are kept of which none is listed
 kept : (locals : List Facts) → filter (λ (l : Facts). not (is_listed [] l.var)) locals ≡ locals

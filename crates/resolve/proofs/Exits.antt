@@ -1,57 +1,67 @@
--- What exits is judged as what doesn't, but for what is known behind it.
-use Rattle.std.proofs.Common.{◌≡◌, true, false, List, [], refl, sym, ap, ◌∙◌}
-use Rattle.small_tree.specs.declared.places.Place.{Place}
-use Rattle.small_flow.specs.Ty.{Ty, never, same_type}
-use Rattle.small_flow.specs.Flow.{FlowModel}
-use Rattle.small_flow.specs.Steps.{exit_of}
-use Rattle.judgement.specs.declared.typed.Branch.{Branch}
-use Rattle.judgement.specs.declared.typed.Branch.TheVariants.{Same, Unreached, NotNull}
-use Rattle.judgement.specs.NodeFacts.{NodeFacts, at_branch}
-use Rattle.judgement.specs.Rows.{Value, exit_by, exits_if_never}
-use Rattle.judgement.proofs.Exits.{exit_by-exits, exits_if_never-lasts}
-use Rattle.resolve.specs.Judged.{Evaluates, Exited, reported}
-use Rattle.resolve.specs.declared.judge.Judged.{Judged}
+-- What the node of an expression gives, from what its form gives.
+use Rattle.std.proofs.Common.{◌≡◌, Bool, true, false, [], ◌∷◌, ◌++◌, Option, if◌then◌else◌, refl, sym, ap, ◌∙◌, append_assoc}
+use Rattle.dart_tree.specs.declared.places.Place.{Place}
+use Rattle.dart_types.specs.Ty.{never}
+use Rattle.dart_types.specs.Same.{same_type}
+use Rattle.flow_model.specs.Flow.{FlowModel}
+use Rattle.flow_model.specs.Steps.{exit_of}
+use Rattle.judgement.specs.declared.meaning.Meaning.{Meaning}
+use Rattle.judgement.specs.Given.{Evaluation, exits_if_never, expression_row, said_of_expression}
+use Rattle.resolve.specs.Judged.{Evaluates, typed_of}
+use Rattle.resolve.specs.declared.judge.Found.{Found}
 use Rattle.resolve.specs.declared.judge.Typed.{Typed}
 
--- a branch of what isn't reached isn't reached
-exit_branch : (m : FlowModel) (branch : Branch) → at_branch (exit_of m) branch ≡ exit_of (at_branch m branch)
-exit_branch m Same = refl
-exit_branch m Unreached = refl
-exit_branch m (NotNull var) = refl
+-- an evaluation without diagnostics and nodes
+abbrev bare : Evaluation → Evaluation
+bare e = record e { faults = []; nodes = [] }
 
--- what an expression of type Never gives, once what is known after it isn't reached
-exited_reported : (typed exited : Typed) → same_type typed.ty never ≡ true → exited.ty ≡ typed.ty → exited.after.value ≡ exit_of typed.after.value
-    → exited.when_true ≡ typed.when_true → exited.when_false ≡ typed.when_false → reported exited ≡ exits_if_never (reported typed)
-exited_reported typed exited exits ty after when_true when_false i =
-    let m = typed.after.value in
-    let branch = λ (b : Branch). exit_branch m b ∙ sym (exit_by-exits typed.ty (at_branch m b) exits) in
-    let first : exited.after.value ≡ exit_by typed.ty m = after ∙ sym (exit_by-exits typed.ty m exits) in
-    let where_true : at_branch exited.after.value exited.when_true ≡ exit_by typed.ty (at_branch m typed.when_true) = rw (after, when_true) (branch typed.when_true) in
-    let where_false : at_branch exited.after.value exited.when_false ≡ exit_by typed.ty (at_branch m typed.when_false) = rw (after, when_false) (branch typed.when_false) in
-    record { ty = ty i; after = first i; when_true = where_true i; when_false = where_false i; faults = [] }
+-- it exits like the whole
+exits_bare : (b : Bool) (e : Evaluation)
+    → (if b then record (bare e) { after = exit_of e.after; when_true = exit_of e.when_true; when_false = exit_of e.when_false } else bare e)
+    ≡ bare (if b then record e { after = exit_of e.after; when_true = exit_of e.when_true; when_false = exit_of e.when_false } else e)
+exits_bare true e = refl
+exits_bare false e = refl
 
--- so it exits
-pub never_exits : (typed exited : Typed) → same_type typed.ty never ≡ true → exited.at ≡ typed.at → exited.ty ≡ typed.ty → exited.after.value ≡ exit_of typed.after.value
-    → exited.when_true ≡ typed.when_true → exited.when_false ≡ typed.when_false → Exited typed exited
-never_exits typed exited exits place ty after when_true when_false = record { place_is = place; value_is = exited_reported typed exited exits ty after when_true when_false }
+-- an expression that exits has the diagnostics and the nodes that it had
+same_faults : (b : Bool) (e : Evaluation) → (if b then record e { after = exit_of e.after; when_true = exit_of e.when_true; when_false = exit_of e.when_false } else e).faults ≡ e.faults
+same_faults true e = refl
+same_faults false e = refl
 
--- any other is left as it is
-pub other_lasts : (typed : Typed) → same_type typed.ty never ≡ false → Exited typed typed
-other_lasts typed lasts = record { place_is = refl; value_is = sym (exits_if_never-lasts (reported typed) lasts) }
+same_nodes : (b : Bool) (e : Evaluation) → (if b then record e { after = exit_of e.after; when_true = exit_of e.when_true; when_false = exit_of e.when_false } else e).nodes ≡ e.nodes
+same_nodes true e = refl
+same_nodes false e = refl
 
--- models of the same type exit alike
-exit_alike : {s t : Ty} {m n : FlowModel} → s ≡ t → m ≡ n → exit_by s m ≡ exit_by t n
-exit_alike ty model i = exit_by (ty i) (model i)
-
--- an expression exits as its row says
-pub exits_evaluates : {found now : Judged} {typed exited : Typed} {at : Place} {value : Value} {nodes : List NodeFacts}
-    → Exited typed exited → Evaluates found now typed at value nodes → Evaluates found now exited at (exits_if_never value) nodes
-exits_evaluates exits judged = record {
-  place_is = exits.place_is ∙ judged.place_is;
-  type_is = ap (λ (v : Value). v.ty) exits.value_is ∙ judged.type_is;
-  after_is = ap (λ (v : Value). v.after) exits.value_is ∙ exit_alike judged.type_is judged.after_is;
-  when_true_is = ap (λ (v : Value). v.when_true) exits.value_is ∙ exit_alike judged.type_is judged.when_true_is;
-  when_false_is = ap (λ (v : Value). v.when_false) exits.value_is ∙ exit_alike judged.type_is judged.when_false_is;
-  faults_are = judged.faults_are;
-  nodes_are = judged.nodes_are;
+-- what was judged is the row, its diagnostics and nodes aside
+is_bare : {found now : Found} {typed : Typed} {at : Place} {row : Evaluation} → Evaluates found now typed at row → typed_of typed ≡ bare row
+is_bare judged i = record {
+  ty = judged.type_is i;
+  after = judged.after_is i;
+  when_true = judged.when_true_is i;
+  when_false = judged.when_false_is i;
+  faults = [];
+  nodes = [];
 }
+
+-- what is said of a node doesn't depend on diagnostics
+pub exited_evaluates : {found mid now : Found} {typed exited : Typed} {at : Place} {row : Evaluation} (element : Option Meaning) (m : FlowModel)
+    → Evaluates found mid typed at row → exited.at ≡ typed.at → typed_of exited ≡ exits_if_never (typed_of typed)
+    → now.faults.items ≡ mid.faults.items → now.nodes.items ≡ mid.nodes.items ++ said_of_expression exited.at.node element m (typed_of exited) ∷ []
+    → Evaluates found now exited at (expression_row at element m row)
+exited_evaluates {found} {mid} {now} {typed} {exited} {at} {row} element m judged place value faults nodes =
+    let whole : typed_of exited ≡ bare (exits_if_never row) = value ∙ ap exits_if_never (is_bare judged) ∙ exits_bare (same_type row.ty never) row in
+    let stands : exited.at ≡ at = place ∙ judged.place_is in
+    record {
+      place_is = stands;
+      type_is = ap (λ (e : Evaluation). e.ty) whole;
+      after_is = ap (λ (e : Evaluation). e.after) whole;
+      when_true_is = ap (λ (e : Evaluation). e.when_true) whole;
+      when_false_is = ap (λ (e : Evaluation). e.when_false) whole;
+      faults_are = faults ∙ judged.faults_are ∙ ap (λ fs. found.faults.items ++ fs) (sym (same_faults (same_type row.ty never) row));
+      nodes_are =
+          nodes
+          ∙ ap (λ (e : Evaluation). mid.nodes.items ++ said_of_expression exited.at.node element m e ∷ []) whole
+          ∙ ap (λ (p : Place). mid.nodes.items ++ said_of_expression p.node element m (exits_if_never row) ∷ []) stands
+          ∙ ap (λ ns. ns ++ said_of_expression at.node element m (exits_if_never row) ∷ []) judged.nodes_are
+          ∙ append_assoc found.nodes.items row.nodes (said_of_expression at.node element m (exits_if_never row) ∷ [])
+          ∙ ap (λ ns. found.nodes.items ++ (ns ++ said_of_expression at.node element m (exits_if_never row) ∷ [])) (sym (same_nodes (same_type row.ty never) row));
+    }

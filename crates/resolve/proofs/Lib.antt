@@ -1,8 +1,13 @@
 pub mod Ahead
-pub mod Blocks
+pub mod Declarations
+pub mod DeclaredBefore
 pub mod Ends
 pub mod Exits
+pub mod Forms
+pub mod Jumps
+pub mod Loops
 pub mod Meanings
 pub mod Operators
+pub mod Parts
 pub mod Shadowing
 pub mod Sizes

@@ -1,96 +1,84 @@
--- Operators: which types have them, and what they give once their sides are judged.
-use Rattle.std.proofs.Common.{◌≡◌, List, ◌++◌, Option, refl, sym, ◌∙◌, append_assoc, append-nil}
-use Rattle.small_tree.specs.declared.places.Place.{Place}
-use Rattle.small_tree.specs.declared.places.Span.{Span}
-use Rattle.small_tree.specs.declared.nodes.OperatorKind.{OperatorKind}
-use Rattle.small_tree.specs.declared.nodes.OperatorKind.TheVariants.{Plus, Less, NotEqual}
-use Rattle.small_flow.specs.Ty.{Ty, invalid, never, null, int, bool, nullable, bare_of, same_type}
-use Rattle.small_flow.specs.Flow.{FlowModel}
-use Rattle.small_flow.specs.declared.locals.LocalId.{LocalId}
-use Rattle.small_flow.specs.declared.subtyping.Rows.{Rows}
-use Rattle.judgement.specs.declared.Fault.{Fault}
-use Rattle.judgement.specs.NodeFacts.{NodeFacts}
-use Rattle.judgement.specs.Rows.{Value, has_operators, operator_row}
-use Rattle.resolve.specs.Judged.{Evaluates, RowEvaluates, reported}
-use Rattle.resolve.specs.declared.judge.Judged.{Judged}
+-- What an operator gives, from what its sides give.
+use Rattle.std.proofs.Common.{◌≡◌, ◌++◌, Option, None, Result, IfOk, refl, sym, ap, subst, ◌∙◌, append_assoc}
+use Rattle.std.proofs.lemmas.Result.{IfOk-weaker}
+use Rattle.dart_tree.specs.declared.places.Place.{Place}
+use Rattle.dart_tree.specs.declared.operators.BinaryOperator.{BinaryOperator}
+use Rattle.dart_tree.specs.declared.operators.BinaryOperatorKind.{BinaryOperatorKind}
+use Rattle.dart_tree.specs.declared.operators.BinaryOperatorKind.TheVariants.{NotEqual}
+use Rattle.dart_types.specs.Ty.{Ty}
+use Rattle.dart_types.specs.Tables.{Table}
+use Rattle.flow_model.specs.Flow.{FlowModel}
+use Rattle.flow_model.specs.declared.locals.LocalId.{LocalId}
+use Rattle.judgement.specs.Given.{Evaluation}
+use Rattle.judgement.specs.ExpressionRows.{Judged, argument_faults, kind_row, member_operator_row, not_equal_row, operated_row, operation_of, operator_row, parameter_of, receiver_faults, result_type, where_not_null}
+use Rattle.resolve.specs.Judged.{Evaluates, Has, RowEvaluates, typed_of}
+use Rattle.resolve.specs.declared.judge.Found.{Found}
 use Rattle.resolve.specs.declared.judge.Typed.{Typed}
 
--- where null has the operators no more than `Never`, a type without its `?` shows it
-pub bare-has_operators : (t : Ty) → same_type (bare_of t) int ≡ has_operators t
-bare-has_operators invalid = refl
-bare-has_operators never = refl
-bare-has_operators null = refl
-bare-has_operators int = refl
-bare-has_operators bool = refl
-bare-has_operators (nullable bare) = bare-has_operators bare
+-- each operator but `!=` is one of a class
+member_kind : (table : Table) (operator : BinaryOperator) (kind : BinaryOperatorKind) (at : Place) (compared : Option LocalId) (left : Evaluation) (right : Judged)
+    → (kind ≡ NotEqual → ⊥) → member_operator_row table operator at left right ≡ kind_row table operator kind at compared left right
+member_kind table operator NotEqual at compared left right other = absurd (other refl)
+member_kind table operator _ at compared left right other = refl
 
--- what an expression gives is what was found, with its diagnostics
-pub Evaluates-value : {found now : Judged} {typed : Typed} {at : Place} {value : Value} {nodes : List NodeFacts}
-    → Evaluates found now typed at value nodes → value ≡ record (reported typed) { faults = value.faults }
-Evaluates-value {value = value} e i = record {
-  ty = sym e.type_is i;
-  after = sym e.after_is i;
-  when_true = sym e.when_true_is i;
-  when_false = sym e.when_false_is i;
-  faults = value.faults;
-}
+module _ {E : Type 0} (r : Result Typed E) (table : Table) (operator : BinaryOperator) (at left_at right_at : Place) (compared : Option LocalId) (left : Evaluation) (right : Judged) where
+  -- `!=`, whose sides were judged one after the other
+  pub of_difference : (found mid now : Found) (first second : Typed) (local : Option LocalId) → operator.kind ≡ NotEqual → local ≡ compared
+      → Evaluates found mid first left_at left → Evaluates mid now second right_at (right None first.after.value)
+      → IfOk r (λ typed. Has typed at (not_equal_row table local (typed_of second) (typed_of second)))
+      → IfOk r (λ typed. Evaluates found now typed at (operator_row table operator right_at compared left right))
+  of_difference found mid now first second local is same one behind given =
+      let other : Evaluates mid now second right_at (right None left.after) = subst (λ (m : FlowModel). Evaluates mid now second right_at (right None m)) one.after_is behind in
+      let value = right None left.after in
+      subst (λ (kind : BinaryOperatorKind). IfOk r (λ typed. Evaluates found now typed at (kind_row table operator kind right_at compared left right))) (sym is)
+      (IfOk-weaker r (λ typed. Has typed at (not_equal_row table local (typed_of second) (typed_of second))) (λ typed. Evaluates found now typed at (not_equal_row table compared left value))
+      (λ typed has. record {
+        place_is = has.place_is;
+        type_is = has.type_is;
+        after_is = has.after_is ∙ other.after_is;
+        when_true_is = has.when_true_is ∙ ap (λ (l : Option LocalId). where_not_null table l second.after.value) same ∙ ap (where_not_null table compared) other.after_is;
+        when_false_is = has.when_false_is ∙ other.after_is;
+        faults_are = other.faults_are ∙ ap (λ fs. fs ++ value.faults) one.faults_are ∙ append_assoc found.faults.items left.faults value.faults;
+        nodes_are = other.nodes_are ∙ ap (λ ns. ns ++ value.nodes) one.nodes_are ∙ append_assoc found.nodes.items left.nodes value.nodes;
+      })
+      given)
 
--- diagnostics that were reported before come before those of the operator
-faults_before : (found left right own : List Fault) → ((found ++ left) ++ right) ++ own ≡ found ++ (left ++ (right ++ own))
-faults_before found left right own = append_assoc (found ++ left) right own ∙ append_assoc found left (right ++ own)
-
-module _ (rows : Rows) (span : Span) (compared : Option LocalId) (found now : List Fault) (left right typed : Typed) (at : Place) where
-  -- an operator whose sides have no diagnostics that aren't reported, and the same behind the diagnostics of its sides
-  operator_behind : (kind : OperatorKind) (left_faults right_faults : List Fault)
-      → RowEvaluates ((found ++ left_faults) ++ right_faults) now typed at (operator_row rows kind span right.at compared (reported left) (reported right))
-      → RowEvaluates found now typed at
-      (operator_row rows kind span right.at compared (record (reported left) { faults = left_faults }) (record (reported right) { faults = right_faults }))
-  operator_behind Plus left_faults right_faults e = record {
-    place_is = e.place_is;
-    type_is = e.type_is;
-    after_is = e.after_is;
-    when_true_is = e.when_true_is;
-    when_false_is = e.when_false_is;
-    faults_are = e.faults_are ∙ faults_before found left_faults right_faults _;
-  }
-  operator_behind Less left_faults right_faults e = record {
-    place_is = e.place_is;
-    type_is = e.type_is;
-    after_is = e.after_is;
-    when_true_is = e.when_true_is;
-    when_false_is = e.when_false_is;
-    faults_are = e.faults_are ∙ faults_before found left_faults right_faults _;
-  }
-  operator_behind NotEqual left_faults right_faults e = record {
-    place_is = e.place_is;
-    type_is = e.type_is;
-    after_is = e.after_is;
-    when_true_is = e.when_true_is;
-    when_false_is = e.when_false_is;
-    faults_are = e.faults_are ∙ append-nil _ ∙ append_assoc found left_faults right_faults;
-  }
-
--- an operator gives what its row says, if its sides were judged one after the other, and then itself
-pub operator_evaluates : (rows : Rows) (kind : OperatorKind) (span : Span) (compared : Option LocalId) (found behind_left behind_right now : Judged)
-    (left right typed : Typed) (left_at right_at at : Place) (left_value : Value) (right_value : FlowModel → Value)
-    (left_nodes : List NodeFacts) (right_nodes : FlowModel → List NodeFacts)
-    → Evaluates found behind_left left left_at left_value left_nodes
-    → Evaluates behind_left behind_right right right_at (right_value left.after.value) (right_nodes left.after.value)
-    → RowEvaluates behind_right.faults.items now.faults.items typed at (operator_row rows kind span right.at compared (reported left) (reported right))
-    → now.nodes.items ≡ behind_right.nodes.items
-    → Evaluates found now typed at (operator_row rows kind span right_at compared left_value (right_value left_value.after)) (left_nodes ++ right_nodes left_value.after)
-operator_evaluates rows kind span compared found behind_left behind_right now left right typed left_at right_at at left_value right_value left_nodes right_nodes l r e same =
-    let row : RowEvaluates found.faults.items now.faults.items typed at (operator_row rows kind span right_at compared left_value (right_value left_value.after)) =
-    rw (← l.after_is, ← r.place_is, Evaluates-value l, Evaluates-value r)
-    (operator_behind rows span compared found.faults.items now.faults.items left right typed at kind left_value.faults (right_value left.after.value).faults
-    (rw (← l.faults_are, ← r.faults_are) e))
-    in
-    record {
-      place_is = row.place_is;
-      type_is = row.type_is;
-      after_is = row.after_is;
-      when_true_is = row.when_true_is;
-      when_false_is = row.when_false_is;
-      faults_are = row.faults_are;
-      nodes_are = same ∙ r.nodes_are ∙ rw (l.nodes_are, ← l.after_is) (append_assoc found.nodes.items left_nodes (right_nodes left.after.value));
-    }
+  -- an operator of a class, whose sides were judged one after the other, and then it was looked for
+  pub of_operation : (found mid behind now : Found) (first second : Typed) (wanted : Option Ty) → (operator.kind ≡ NotEqual → ⊥)
+      → wanted ≡ parameter_of (operation_of first.ty operator.kind)
+      → Evaluates found mid first left_at left → Evaluates mid behind second right_at (right wanted first.after.value)
+      → now.nodes.items ≡ behind.nodes.items
+      → IfOk r (λ typed. RowEvaluates behind.faults.items now.faults.items typed at (operated_row table operator second.at (typed_of first) (typed_of second)))
+      → IfOk r (λ typed. Evaluates found now typed at (operator_row table operator right_at compared left right))
+  of_operation found mid behind now first second wanted is wants one then_other same given =
+      let value = right (parameter_of (operation_of left.ty operator.kind)) left.after in
+      let other : Evaluates mid behind second right_at value =
+      subst (λ (m : FlowModel). Evaluates mid behind second right_at (right (parameter_of (operation_of left.ty operator.kind)) m)) one.after_is
+      (subst (λ (t : Ty). Evaluates mid behind second right_at (right (parameter_of (operation_of t operator.kind)) first.after.value)) one.type_is
+      (subst (λ (w : Option Ty). Evaluates mid behind second right_at (right w first.after.value)) wants then_other))
+      in
+      let own = λ (p : Place) (t u : Ty). receiver_faults table operator.span t operator.kind ++ argument_faults table p (operation_of t operator.kind) u in
+      let so_far = behind.faults.items in
+      subst (λ (e : Evaluation). IfOk r (λ typed. Evaluates found now typed at e)) (member_kind table operator operator.kind right_at compared left right is)
+      (IfOk-weaker r (λ typed. RowEvaluates behind.faults.items now.faults.items typed at (operated_row table operator second.at (typed_of first) (typed_of second)))
+      (λ typed. Evaluates found now typed at (operated_row table operator right_at left value))
+      (λ typed row. record {
+        place_is = row.place_is;
+        type_is =
+            row.type_is
+            ∙ ap (λ (t : Ty). result_type table t (operation_of t operator.kind) second.ty) one.type_is
+            ∙ ap (λ (u : Ty). result_type table left.ty (operation_of left.ty operator.kind) u) other.type_is;
+        after_is = row.after_is ∙ other.after_is;
+        when_true_is = row.when_true_is ∙ other.after_is;
+        when_false_is = row.when_false_is ∙ other.after_is;
+        faults_are =
+            row.faults_are
+            ∙ ap (λ (t : Ty). so_far ++ own second.at t second.ty) one.type_is
+            ∙ ap (λ (u : Ty). so_far ++ own second.at left.ty u) other.type_is
+            ∙ ap (λ (p : Place). so_far ++ own p left.ty value.ty) other.place_is
+            ∙ ap (λ fs. fs ++ own right_at left.ty value.ty) (other.faults_are ∙ ap (λ fs. fs ++ value.faults) one.faults_are)
+            ∙ append_assoc (found.faults.items ++ left.faults) value.faults (own right_at left.ty value.ty)
+            ∙ append_assoc found.faults.items left.faults (value.faults ++ own right_at left.ty value.ty);
+        nodes_are = same ∙ other.nodes_are ∙ ap (λ ns. ns ++ value.nodes) one.nodes_are ∙ append_assoc found.nodes.items left.nodes value.nodes;
+      })
+      given)

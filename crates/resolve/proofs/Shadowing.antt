@@ -4,10 +4,10 @@ use Rattle.std.specs.Ordering.{nat_cmp, eq_by_cmp, is_eq}
 use Rattle.std.specs.declared.cmp.Ordering.TheVariants.{Less, Equal, Greater}
 use Rattle.std.specs.Cmp.{nat_cmp_total}
 use Rattle.std.specs.FinMap.{get, insert, get-insert, get-remove, get_tied, same_map, nat_cmp-IsAntisymmetric}
-use Rattle.small_flow.specs.declared.locals.LocalId.{LocalId}
-use Rattle.judgement.specs.Names.{Names}
+use Rattle.flow_model.specs.declared.locals.LocalId.{LocalId}
+use Rattle.judgement.specs.Surroundings.{Names}
 use Rattle.resolve.specs.declared.names.Shadowed.{Shadowed}
-use Rattle.resolve.specs.Shadows.{with_meaning, restored, undone}
+use Rattle.resolve.specs.Shadows.{with_local, restored, undone}
 
 -- names that mean the same are the same
 same_names : (m n : Names) → ((q : ℕ) → get m q ≡ get n q) → m ≡ n
@@ -37,9 +37,9 @@ meaning_again names word q local before is =
     ∙ put_back names word q before is
 
 -- a word that is declared and then means again what it meant before changes nothing
-pub with_meaning-insert : (names : Names) (word : ℕ) (local : LocalId) → with_meaning (insert names word local) word (get names word) ≡ names
-with_meaning-insert names word local =
-    elim (get names word) as (λ o. get names word ≡ o → with_meaning (insert names word local) word o ≡ names) [
+pub with_local-insert : (names : Names) (word : ℕ) (local : LocalId) → with_local (insert names word local) word (get names word) ≡ names
+with_local-insert names word local =
+    elim (get names word) as (λ o. get names word ≡ o → with_local (insert names word local) word o ≡ names) [
       | None ↦ λ is. same_names _ _ (λ q. get-remove nat_cmp_total (insert names word local) word q ∙ meaning_again names word q local None is)
       | Some before ↦ λ is. same_names _ _ (λ q. get-insert nat_cmp_total (insert names word local) word before q ∙ meaning_again names word q local (Some before) is)
     ] refl
@@ -54,4 +54,4 @@ pub undone-declared : (names : Names) (hidden : List Shadowed) (word : ℕ) (loc
     → undone (insert names word local) (hidden ++ record { word = word; before = get names word } ∷ []) ≡ undone names hidden
 undone-declared names hidden word local =
     undone-push (insert names word local) hidden (record { word = word; before = get names word })
-    ∙ ap (λ (ns : Names). undone ns hidden) (with_meaning-insert names word local)
+    ∙ ap (λ (ns : Names). undone ns hidden) (with_local-insert names word local)

@@ -1,7 +1,7 @@
 -- The number of nodes of a list's trees.
 use Rattle.std.proofs.Common.{◌≡◌, ℕ, zero, suc, ◌<◌, ◌≤◌, List, [], ◌∷◌, length, get_or, ap, arith}
-use Rattle.small_tree.specs.Tree.{Tree, trees_of}
-use Rattle.small_tree.specs.Numbers.{nodes_in, nodes_in_all}
+use Rattle.dart_tree.specs.Tree.{Tree, trees_of}
+use Rattle.dart_tree.specs.Numbers.{nodes_in, nodes_in_all}
 
 -- no tree of a list has more nodes than all have together
 pub nodes_in-item : (ts : List Tree) (i : ℕ) (t : Tree) → i < length ts → t ≡ get_or ts i t → nodes_in t ≤ nodes_in_all (trees_of ts)

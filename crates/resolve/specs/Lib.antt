@@ -1,4 +1,4 @@
-pub mod Declarations
+pub mod Around
+pub mod CoreTypes
 pub mod Judged
-pub mod Loops
 pub mod Shadows

@@ -1,5 +1,6 @@
-//! The judge: what the judgement says of a unit, one function for each row of the judgement.
+//! The judge: what the rules say of a body, one function for each row.
 
+mod core_types;
 mod expressions;
 mod models;
 mod operators;
@@ -8,105 +9,104 @@ mod types;
 mod writes;
 mod written;
 
-ghost use Rattle.std.specs.Prelude.{◌≡◌, ◌++◌, IfOk, OnOk};
-ghost use Rattle.small_flow.specs.Sub.{no_rows};
-ghost use Rattle.judgement.specs.Rows.{fault_over};
-ghost use Rattle.judgement.specs.Judgement.{faults_of};
-ghost use Rattle.judgement.specs.Typed.{typed_unit};
+ghost use Rattle.std.specs.Prelude.{◌≡◌, ◌++◌, [], IfOk, OnOk};
+ghost use Rattle.dart_tree.specs.Tree.{block, trees_of};
+ghost use Rattle.flow_model.specs.Flow.{start_of};
+ghost use Rattle.judgement.specs.Given.{fault_over, of_type};
+ghost use Rattle.judgement.specs.Judgement.{run};
+ghost use Rattle.judgement.specs.Surroundings.{of_body};
+ghost use Rattle.resolve.specs.Judged.{typed_of};
 
 use crate::names::NamesInScope;
-use judgement::{Branch, DiagnosticCode, Fault, TypedNode};
-use small_flow::{DartType, Flow, Rows};
-use small_tree::{Block, Function, Place, Span, Unit};
+use core_types::CoreTypes;
+use dart_tree::{Place, Span, Stmt};
+use dart_types::{DartType, Rows};
+use flow_model::Flow;
+use judgement::{DiagnosticCode, Fault, Meaning, TypedNode};
+use plain_text::PlainText;
 use statements::judge_block;
 use std::alloc::{AllocError, Global};
 use std::rc::Rc;
 
-/// What the judgement says of a unit.
+/// What the rules say of a body.
 #[derive(Drop)]
-pub struct Judged {
+pub struct Found {
     /// Its diagnostics, in the order in which its statements are judged.
     pub faults: Vec<Fault>,
-    /// Its typed tree: the nodes of its function's body, those in a node before it.
+    /// Its typed tree: what is said of its nodes, those in a node before it.
     pub nodes: Vec<TypedNode>,
 }
 
-/// The diagnostics of a unit and its typed tree. A name costs the logarithm of the names and of the
-/// locals in scope. What changes what is known of the locals copies it, once; what leaves it as it
-/// was shares it. A loop goes through its body once before it is judged, and each write there costs
-/// these logarithms too.
-pub fn judge_unit(alloc: Global, unit: &Unit) -> Result<Judged, AllocError>
-    ensures faults { IfOk result (λ judged. judged.faults.items ≡ faults_of no_rows unit.now) }
-    ensures nodes { IfOk result (λ judged. judged.nodes.items ≡ typed_unit no_rows unit.now) }
+/// What the rules say of the block that is the body of a function without parameters, in a library
+/// with these classes, in which words mean this outside of functions. A name costs the logarithm of
+/// the names and of the locals in scope. What changes what is known of the locals copies it, once;
+/// what leaves it as it was shares it. A loop goes through its body once before it is judged, and each
+/// write there costs these logarithms too. The error is want of memory.
+pub fn judge_body(
+    alloc: Global,
+    rows: &Rows,
+    words: &[PlainText],
+    outside: &[Meaning],
+    at: Place,
+    statements: &[Stmt],
+) -> Result<Found, AllocError>
+    ensures faults { IfOk result (λ found. found.faults.items ≡ (run (of_body rows.now.table words.now outside.now) (block at (trees_of statements.now)) (start_of [])).faults) }
+    ensures nodes { IfOk result (λ found. found.nodes.items ≡ (run (of_body rows.now.table words.now outside.now) (block at (trees_of statements.now)) (start_of [])).nodes) }
 {
-    let judged = judge_main(alloc, &unit.main)?;
-    Ok(judged)
-}
-
-// What is said of the function of a unit.
-fn judge_main(alloc: Global, main: &Function) -> Result<Judged, AllocError>
-    ensures faults { IfOk result (λ judged. judged.faults.items ≡ faults_of no_rows main.now) }
-    ensures nodes { IfOk result (λ judged. judged.nodes.items ≡ typed_unit no_rows main.now) }
-{
-    let judged = judge_body(alloc, &main.body)?;
-    Ok(judged)
-}
-
-// What is said of its body, where no name means anything yet and nothing is known.
-fn judge_body(alloc: Global, body: &Block) -> Result<Judged, AllocError>
-    ensures faults { IfOk result (λ judged. judged.faults.items ≡ faults_of no_rows body.now) }
-    ensures nodes { IfOk result (λ judged. judged.nodes.items ≡ typed_unit no_rows body.now) }
-{
-    let rows = Rows::new();
-    let context = Context { alloc, rows: &rows };
+    let core = CoreTypes::new(alloc)?;
+    let context = Context {
+        alloc,
+        rows,
+        words,
+        outside,
+        core: &core,
+    };
     let mut names = NamesInScope::new(alloc);
     let flow = Flow::start(alloc, &[])?;
     let start = Rc::new(alloc, flow)?;
     let faults = Vec::new(alloc);
     let nodes = Vec::new(alloc);
-    let mut judged = Judged { faults, nodes };
-    judge_block(
-        context,
-        &mut names,
-        body.at,
-        &body.statements,
-        &start,
-        &mut judged,
-    )?;
-    Ok(judged)
+    let mut found = Found { faults, nodes };
+    judge_block(context, &mut names, at, statements, &start, &mut found)?;
+    Ok(found)
 }
 
-/// What all of a unit is judged with: the allocator, and the classes of the program.
+/// What all of a body is judged with: the allocator, the classes, the words and what they mean outside
+/// of the body, and the types that rows name.
 #[derive(Clone, Copy)]
 struct Context<'a> {
     alloc: Global,
     rows: &'a Rows,
+    words: &'a [PlainText],
+    outside: &'a [Meaning],
+    core: &'a CoreTypes,
 }
 
-/// An expression that was judged: where it stands, its static type, what is known after it, and what
-/// is known more where it is true and where it is false.
+/// An expression that was judged: where it stands, its static type, and what is known after it, where
+/// it is true and where it is false.
 #[derive(Drop)]
 struct Typed {
     at: Place,
     ty: DartType,
     after: Rc<Flow>,
-    when_true: Branch,
-    when_false: Branch,
+    when_true: Rc<Flow>,
+    when_false: Rc<Flow>,
 }
 
-impl Typed {
-    // An expression of the type, which says no more where it is true or false.
-    fn of(at: Place, ty: DartType, after: Rc<Flow>) -> Typed
-        ensures { result ≡ record { at = at; ty = ty; after = after; when_true = Branch.Same; when_false = Branch.Same } }
-    {
-        Typed {
-            at,
-            ty,
-            after,
-            when_true: Branch::Same,
-            when_false: Branch::Same,
-        }
-    }
+// An expression of the type, which says no more where it is true or false.
+fn of_type(at: Place, ty: DartType, after: Rc<Flow>) -> Result<Typed, AllocError>
+    ensures row { IfOk result (λ typed. typed_of typed ≡ of_type ty after.value) }
+    ensures place { IfOk result (λ typed. typed.at ≡ at) }
+{
+    let when_true = after.clone()?;
+    let when_false = after.clone()?;
+    Ok(Typed {
+        at,
+        ty,
+        after,
+        when_true,
+        when_false,
+    })
 }
 
 // Adds a diagnostic to those that were found.

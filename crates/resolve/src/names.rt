@@ -1,27 +1,27 @@
-//! What names mean.
+//! The locals in scope.
 
-ghost use Rattle.std.specs.Prelude.{◌≡◌, IfOk, OnOk};
+ghost use Rattle.std.specs.Prelude.{◌≡◌, ◌++◌, IfOk, OnOk};
 ghost use Rattle.std.specs.FinMap.{empty, get, insert, remove};
-ghost use Rattle.small_tree.specs.Tree.{trees_of};
-ghost use Rattle.judgement.specs.Names.{local_of, locals_of, meaning_declared, names_within};
+ghost use Rattle.dart_tree.specs.Tree.{trees_of};
+ghost use Rattle.judgement.specs.DeclaredNames.{local_of, locals_of, name_of_variable, names_declared, names_in, names_of_list, names_of_variables, names_within};
 ghost use Rattle.resolve.specs.Shadows.{restored, undone};
 
-use small_flow::LocalId;
-use small_tree::{Name, Stmt, StmtNode};
+use dart_tree::{Name, Stmt, StmtNode, Variable};
+use flow_model::LocalId;
 use std::alloc::{AllocError, Global};
 use std::collections::BTreeMap;
 use std::marker::Model;
 
-/// What names mean at a point of a body: the local of each word that means one.
+/// The locals in scope at a point of a body: one for each word that means one.
 ///
-/// A body has one table of them. A block puts the names that it declares in where it begins, and
-/// takes them out again where it ends, so no table is copied however deep blocks nest.
+/// A body has one table of them. A scope puts the names that it declares in where it begins, and
+/// takes them out again where it ends, so no table is copied however deep scopes nest.
 #[derive(Drop)]
 pub struct NamesInScope {
     locals: BTreeMap<u32, LocalId>,
 }
 
-/// What a declaration hides: the word that it declares, and what that meant before, if anything.
+/// What a declaration hides: the word that it declares, and the local that it meant before, if any.
 #[derive(Clone, Copy)]
 pub struct Shadowed {
     word: u32,
@@ -29,10 +29,10 @@ pub struct Shadowed {
 }
 
 impl Model for NamesInScope {
-    ghost use Rattle.judgement.specs.Names.{Names};
+    ghost use Rattle.judgement.specs.Surroundings.{Names};
     ghost use Rattle.std.specs.Coded.{coded_ℕ};
     ghost use Rattle.std.specs.FinMap as map;
-    ghost use Rattle.small_flow.specs.contracts.locals.LocalId as local;
+    ghost use Rattle.flow_model.specs.contracts.locals.LocalId as local;
 
     ghost Value = { Names };
 
@@ -42,7 +42,7 @@ impl Model for NamesInScope {
 }
 
 impl NamesInScope {
-    /// No name means anything.
+    /// No local is in scope.
     pub fn new(alloc: Global) -> NamesInScope
         ensures { result ≡ empty }
     {
@@ -52,28 +52,27 @@ impl NamesInScope {
     }
 
     /// The local that a word means, if it means one. It costs the logarithm of the number of words.
-    pub fn meaning(&self, word: u32) -> Option<LocalId>
+    pub fn local(&self, word: u32) -> Option<LocalId>
         ensures { result ≡ get self.now word }
     {
         self.locals.get(&word).copied()
     }
 
-    /// A block of these statements begins: its names mean what it declares, from its beginning on,
-    /// and of a word that is declared twice the first declaration. The answer is what `leave` wants
-    /// where the block ends. Each declaration costs the logarithm of the number of words. After an
-    /// `Err` some of its names may be in.
-    pub fn enter(&mut self, alloc: Global, statements: &[Stmt]) -> Result<Vec<Shadowed>, AllocError>
-        ensures names { OnOk result (self.new ≡ names_within self.old (trees_of statements.now)) }
+    /// A scope begins that declares these names: they mean their locals from its beginning on, and of
+    /// a word that is declared twice the first. The answer is what `leave` wants where the scope ends.
+    /// Each name costs the logarithm of the number of words. After an `Err` some of them may be in.
+    pub fn enter(&mut self, alloc: Global, declared: &[Name]) -> Result<Vec<Shadowed>, AllocError>
+        ensures names { OnOk result (self.new ≡ names_within self.old declared.now) }
         ensures undone { IfOk result (λ shadowed. undone self.new shadowed.items ≡ self.old) }
     {
         let mut shadowed = Vec::new(alloc);
-        for i in (0..statements.len()).rev() {
-            self.declare(&statements[i], &mut shadowed)?;
+        for i in (0..declared.len()).rev() {
+            self.declare(declared[i], &mut shadowed)?;
         }
         Ok(shadowed)
     }
 
-    /// A block ends, which hid these meanings: they are put back, those that were hidden last first.
+    /// A scope ends, which hid these meanings: they are put back, those that were hidden last first.
     /// Each costs the logarithm of the number of words. After an `Err` some may not be back.
     pub fn leave(&mut self, mut shadowed: Vec<Shadowed>) -> Result<(), AllocError>
         ensures { OnOk result (self.new ≡ undone self.old shadowed.items) }
@@ -84,28 +83,17 @@ impl NamesInScope {
         Ok(())
     }
 
-    // The name that a statement declares means its local; what it meant before is put with what is
-    // hidden.
-    fn declare(&mut self, statement: &Stmt, shadowed: &mut Vec<Shadowed>) -> Result<(), AllocError>
-        ensures names { OnOk result (self.new ≡ meaning_declared statement.now self.old) }
+    // A name means its local; what it meant before is put with what is hidden.
+    fn declare(&mut self, name: Name, shadowed: &mut Vec<Shadowed>) -> Result<(), AllocError>
+        ensures names { OnOk result (self.new ≡ insert self.old name.word (local_of name)) }
         ensures undone { OnOk result (undone self.new shadowed.new.items ≡ undone self.old shadowed.old.items) }
     {
-        match &statement.node {
-            StmtNode::Declare { name, .. } => {
-                let before = self.insert(name.word, declared_local(name))?;
-                shadowed.push(Shadowed {
-                    word: name.word,
-                    before,
-                })?;
-                Ok(())
-            }
-            StmtNode::Assign { .. } => Ok(()),
-            StmtNode::Eval { .. } => Ok(()),
-            StmtNode::Print { .. } => Ok(()),
-            StmtNode::If { .. } => Ok(()),
-            StmtNode::While { .. } => Ok(()),
-            StmtNode::Block { .. } => Ok(()),
-        }
+        let before = self.insert(name.word, declared_local(name))?;
+        shadowed.push(Shadowed {
+            word: name.word,
+            before,
+        })?;
+        Ok(())
     }
 
     // A word means this local; the answer is what it meant before.
@@ -133,7 +121,7 @@ impl NamesInScope {
         }
     }
 
-    // A word means nothing.
+    // A word means no local.
     fn remove(&mut self, word: u32)
         ensures { self.new ≡ remove self.old word }
     {
@@ -141,22 +129,62 @@ impl NamesInScope {
     }
 }
 
-// The local that a name declares: it has the number of that name.
-fn declared_local(name: &Name) -> LocalId
-    ensures { result ≡ local_of name.now }
+/// The local that a name declares: it has the number of that name.
+pub(crate) fn declared_local(name: Name) -> LocalId
+    ensures { result ≡ local_of name }
 {
     LocalId(name.at.node.0)
 }
 
-/// The locals that these statements themselves declare, in the order of the statements.
-pub fn declared_locals(alloc: Global, statements: &[Stmt]) -> Result<Vec<LocalId>, AllocError>
-    ensures { IfOk result (λ locals. locals.items ≡ locals_of (trees_of statements.now)) }
+/// The locals of these names.
+pub(crate) fn locals_of(alloc: Global, names: &[Name]) -> Result<Vec<LocalId>, AllocError>
+    ensures { IfOk result (λ locals. locals.items ≡ locals_of names.now) }
 {
     let mut locals = Vec::new(alloc);
-    for statement in statements {
-        if let StmtNode::Declare { name, .. } = &statement.node {
-            locals.push(declared_local(name))?;
-        }
+    for name in names {
+        locals.push(declared_local(*name))?;
     }
     Ok(locals)
+}
+
+/// The names that a statement itself declares.
+pub(crate) fn names_declared(alloc: Global, statement: &Stmt) -> Result<Vec<Name>, AllocError>
+    ensures { IfOk result (λ names. names.items ≡ names_declared statement.now) }
+{
+    let mut names = Vec::new(alloc);
+    add_names_declared(statement, &mut names)?;
+    Ok(names)
+}
+
+/// The names that the statements of a block declare, in their order.
+pub(crate) fn names_in(alloc: Global, statements: &[Stmt]) -> Result<Vec<Name>, AllocError>
+    ensures { IfOk result (λ names. names.items ≡ names_in (trees_of statements.now)) }
+{
+    let mut names = Vec::new(alloc);
+    for statement in statements {
+        add_names_declared(statement, &mut names)?;
+    }
+    Ok(names)
+}
+
+// Puts the names that a statement itself declares behind others.
+fn add_names_declared(statement: &Stmt, names: &mut Vec<Name>) -> Result<(), AllocError>
+    ensures { OnOk result (names.new.items ≡ names.old.items ++ names_declared statement.now) }
+{
+    match &*statement.node {
+        StmtNode::Variables { variables, .. } => {
+            add_names_of_variables(&variables.variables, names)
+        }
+        _ => Ok(()),
+    }
+}
+
+// Puts the names of variables behind others.
+fn add_names_of_variables(variables: &[Variable], names: &mut Vec<Name>) -> Result<(), AllocError>
+    ensures { OnOk result (names.new.items ≡ names.old.items ++ names_of_variables (trees_of variables.now)) }
+{
+    for variable in variables {
+        names.push(variable.name)?;
+    }
+    Ok(())
 }

@@ -2,7 +2,7 @@
 use Rattle.std.proofs.Common.{◌≡◌, ℕ, suc, ◌==◌, true, false, List, [], ◌∷◌, length, refl, sym, subst, ◌∙◌}
 use Rattle.std.proofs.Math.Dec.{eqb-suc-zero}
 use Rattle.std.proofs.lemmas.Bool.{true≢false}
-use Rattle.judgement.specs.declared.Fault.{Fault}
+use Rattle.judgement.specs.declared.fault.Fault.{Fault}
 use Rattle.check_library.specs.Diagnostics.{faults_in, diagnostics}
 use Rattle.check_library.specs.Checked.{IsCheckOf, IsFaultless}
 use Rattle.check_library.specs.declared.library.Checked.{Checked}

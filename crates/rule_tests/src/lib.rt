@@ -1,7 +1,13 @@
-//! Tests of the judge, over units that are built by hand, and of elaboration, over texts whose core
-//! programs are worked out by hand.
+//! Tests of the rules and of elaboration, over texts: diagnostics of bodies, what their typed trees say,
+//! and the points and runs of their core programs, all worked out by hand.
+//!
+//! It holds nothing else, so that the judge and elaboration are proved without their tests.
 #![tactic(auto)]
 
+#[cfg(test)]
+mod libraries;
+#[cfg(test)]
+mod node_tests;
 #[cfg(test)]
 mod program_tests;
 #[cfg(test)]

@@ -1,271 +1,141 @@
-//! Units that are built by hand, with their diagnostics and their typed trees.
+//! Bodies of `main` and their diagnostics, worked out by hand from the rules; and names in scopes.
+//!
+//! The table is a text, which is read when the test runs: a line is a case, `BODY :: DIAGNOSTICS`. A
+//! diagnostic is `CODE@START-END`, in the body.
 
-mod units;
-
-use judgement::DiagnosticCode::{
-    ArgumentType, ConditionNotBool, DuplicateDefinition, InvalidAssignment,
-    ReferencedBeforeDeclaration, UnassignedRead, UncheckedNullableUse, UndefinedName,
-    UndefinedOperator,
-};
-use judgement::{Branch, DiagnosticCode, TypedNode};
+use crate::libraries::{MAIN, library_of};
+use check_library::check;
+use dart_tree::{Name, NodeId, Place, Span};
+use flow_model::LocalId;
+use judgement::Fault;
 use resolve::NamesInScope;
-use small_flow::{DartType, LocalId, TypeNode};
+use std::alloc::{AllocError, Global};
 use std::test::Fail;
-use units::{LESS, NOT_EQUAL, PLUS, Side, Step, WORD_X, WORD_Y, are_found, int_x, judged};
+
+// What names mean, and where they have a value.
+const NAMES: &str = "\
+x;int x;x;int x;y; :: ReferencedBeforeDeclaration@0-1 UnassignedRead@8-9 DuplicateDefinition@14-15 UndefinedName@16-17
+int? x;bool x=1;x+1; :: DuplicateDefinition@12-13 InvalidAssignment@14-15 UncheckedNullableUse@17-18
+int x=1;int x=2;{int x=3;int x=4;x;}x; :: DuplicateDefinition@12-13 DuplicateDefinition@29-30
+int? x=1;{x;int x;x;}x; :: ReferencedBeforeDeclaration@10-11 UnassignedRead@18-19
+{x;int x=1;} :: ReferencedBeforeDeclaration@1-2
+x=1;int x=2; :: ReferencedBeforeDeclaration@0-1
+int x=1;{int y=x;int x=2;y;} :: ReferencedBeforeDeclaration@15-16
+int x=1;{int x=2;}{int x=3;}x; ::
+{int x=1;}x; :: UndefinedName@10-11
+int x=x; :: ReferencedBeforeDeclaration@6-7
+int x;x=x; :: UnassignedRead@8-9
+int x;x=1;x=x+1; ::
+int x;if(1<2){x=1;}x; :: UnassignedRead@19-20
+int x;if(1<2){x=1;}else{x=2;}x; ::
+int x;if(true){x=1;}x; ::
+int x;while(1<2){x=1;}x; :: UnassignedRead@22-23
+bool x=(1);(y); :: InvalidAssignment@7-10 UndefinedName@12-13
+int x=y;x=z; :: UndefinedName@6-7 UndefinedName@10-11
+int? x=1;x=true;x; :: InvalidAssignment@11-15
+int x=1;x=null; :: InvalidAssignment@10-14";
+
+// Literals, operators and conditions.
+const VALUES: &str = "\
+9223372036854775807;0xFFFFFFFFFFFFFFFF;0Xff; ::
+9223372036854775808; :: IntegerLiteralOutOfRange@0-19
+0XFFFFFFFFFFFFFFFF;0x10000000000000000; :: IntegerLiteralOutOfRange@19-38
+9223372036854775808+true; :: IntegerLiteralOutOfRange@0-19
+true<1; :: UndefinedOperator@4-5
+1<null; :: ArgumentType@2-6
+1+(true); :: ArgumentType@2-8
+y+null; :: UndefinedName@0-1
+null+y; :: UncheckedNullableUse@4-5 UndefinedName@5-6
+1!=y; :: UndefinedName@3-4
+true!=1;null!=null; ::
+int x=1<2; :: InvalidAssignment@6-9
+bool x=1+2; :: InvalidAssignment@7-10
+bool x=1<2;if(x){}while(x){x=2<1;} ::
+int x=1;if(x){}while(x){} :: ConditionNotBool@11-12 ConditionNotBool@21-22
+if(null){} :: ConditionNotBool@3-7
+if(y){} :: UndefinedName@3-4
+if(1+2){} :: ConditionNotBool@3-6
+while((1)){} :: ConditionNotBool@6-9
+print(null);print(1<true); :: ArgumentType@20-24";
+
+// Locals that may be null, branches and loops.
+const PROMOTIONS: &str = "\
+int? x;if(x!=null){x+1;}else{x+1;}x+1; :: UncheckedNullableUse@30-31 UncheckedNullableUse@35-36
+int? x;if(((x)!=null)){x+1;}else{x+1;}x+1; :: UncheckedNullableUse@34-35 UncheckedNullableUse@39-40
+int? x;if((x)!=null){x+1;} ::
+int? x;if(null!=(x)){x+1;} ::
+int? x;if(x!=(null)){x+1;}else{x+1;} :: UncheckedNullableUse@22-23 UncheckedNullableUse@32-33
+int? x;if((null)!=x){x+1;} :: UncheckedNullableUse@22-23
+int? x;int? y;if(x!=y){x+1;} :: UncheckedNullableUse@24-25
+int? x=1;x+1;while(1){x+1;x=null;}x+1; :: ConditionNotBool@19-20 UncheckedNullableUse@23-24 UncheckedNullableUse@35-36
+int? x=1;while(x!=null){x+1;x=null;}x+1; :: UncheckedNullableUse@37-38
+int? x=1;while(1<2){x+1;x=null;} :: UncheckedNullableUse@21-22
+int? x=1;while(1<2){x+1;}x+1; ::
+int? x=1;while(1<2){x+1;{int x=2;x=3;x;}} ::
+int? x=1;if(1<2){x=null;}x+1; :: UncheckedNullableUse@26-27
+int? x;if(1<2){x=1;}else{x=2;}x+1; ::
+int? x;if(x!=null){}else{x=1;}x+1; ::
+int? x;if(x!=null){}else{while(true){}}x+1; ::
+int x;if(1<2){while(true){}}else{x=1;}x; ::
+int x;while(true){}x; :: UnassignedRead@19-20
+int? x=1;while(true){x=null;x+1;} :: UncheckedNullableUse@29-30";
+
+// A diagnostic, behind a blank.
+fn fault_told(alloc: Global, fault: &Fault) -> Result<String, AllocError> {
+    let before = MAIN.len() as u32;
+    let start = fault.span.start.saturating_sub(before);
+    let end = fault.span.end.saturating_sub(before);
+    format!(in alloc; " {:?}@{start}-{end}", fault.code)
+}
+
+// The diagnostics of a body, in their order.
+fn diagnostics(alloc: Global, body: &str) -> Result<String, Fail> {
+    let checked = check(alloc, "/a.dart", &library_of(alloc, body)?)?;
+    let mut told = String::new(alloc);
+    for fault in checked.diagnostics.as_slice() {
+        told.push_str(&fault_told(alloc, fault)?)?;
+    }
+    Ok(told)
+}
 
 #[test]
-fn units_have_the_diagnostics_of_their_rows(rt: HostRuntime) -> Result<(), Fail> {
-    let alloc = rt.alloc();
-    let rows: [(&[(u8, Step)], &[(u16, DiagnosticCode)]); 15] = [
-        (
-            &[
-                (10, Step::Read(Side::X)),
-                (20, Step::Declare),
-                (30, Step::Read(Side::X)),
-                (40, Step::Declare),
-                (50, Step::Read(Side::Y)),
-            ],
-            &[
-                (10, ReferencedBeforeDeclaration),
-                (30, UnassignedRead),
-                (40, DuplicateDefinition),
-                (50, UndefinedName),
-            ],
-        ),
-        (
-            &[
-                (10, Step::DeclareNullable),
-                (20, Step::InitializeBool),
-                (30, Step::Operate(Side::X, PLUS, Side::One)),
-            ],
-            &[
-                (21, InvalidAssignment),
-                (20, DuplicateDefinition),
-                (31, UncheckedNullableUse),
-            ],
-        ),
-        (
-            &[(10, Step::Operate(Side::True, LESS, Side::One))],
-            &[(11, UndefinedOperator)],
-        ),
-        (
-            &[(10, Step::Operate(Side::One, LESS, Side::Null))],
-            &[(12, ArgumentType)],
-        ),
-        (
-            &[(10, Step::Operate(Side::Y, PLUS, Side::Null))],
-            &[(10, UndefinedName)],
-        ),
-        (
-            &[(10, Step::Operate(Side::Null, PLUS, Side::Y))],
-            &[(12, UndefinedName), (11, UncheckedNullableUse)],
-        ),
-        (
-            &[(10, Step::Operate(Side::One, NOT_EQUAL, Side::Y))],
-            &[(12, UndefinedName)],
-        ),
-        (
-            &[(10, Step::Operate(Side::True, NOT_EQUAL, Side::One))],
-            &[],
-        ),
-        (
-            &[
-                (10, Step::DeclareNullable),
-                (20, Step::TestForNull),
-                (50, Step::Operate(Side::X, PLUS, Side::One)),
-            ],
-            &[(41, UncheckedNullableUse), (51, UncheckedNullableUse)],
-        ),
-        (
-            &[
-                (10, Step::InitializeNullable),
-                (20, Step::Operate(Side::X, PLUS, Side::One)),
-                (30, Step::LoopWithAWrite),
-                (60, Step::Operate(Side::X, PLUS, Side::One)),
-            ],
-            &[
-                (30, ConditionNotBool),
-                (41, UncheckedNullableUse),
-                (61, UncheckedNullableUse),
-            ],
-        ),
-        (
-            &[
-                (10, Step::InitializeNullable),
-                (20, Step::BlockWithAnX),
-                (60, Step::Read(Side::X)),
-            ],
-            &[(30, ReferencedBeforeDeclaration), (50, UnassignedRead)],
-        ),
-        (
-            &[
-                (10, Step::InitializeNullable),
-                (20, Step::Write(Side::True)),
-                (30, Step::Read(Side::X)),
-            ],
-            &[(21, InvalidAssignment)],
-        ),
-        (
-            &[
-                (10, Step::DeclareNullable),
-                (20, Step::TestInParentheses),
-                (50, Step::Operate(Side::X, PLUS, Side::One)),
-            ],
-            &[(41, UncheckedNullableUse), (51, UncheckedNullableUse)],
-        ),
-        (
-            &[
-                (10, Step::DeclareNullable),
-                (20, Step::CompareWithParentheses),
-            ],
-            &[(31, UncheckedNullableUse), (41, UncheckedNullableUse)],
-        ),
-        (
-            &[
-                (10, Step::InitializeBoolInParentheses),
-                (20, Step::ReadInParentheses(Side::Y)),
-            ],
-            &[(11, InvalidAssignment), (21, UndefinedName)],
-        ),
-    ];
-    for (steps, expected) in rows {
-        let found = judged(alloc, steps)?;
-        assert!(rt; are_found(&found.faults, expected));
+fn bodies_have_the_diagnostics_of_their_lines(rt: HostRuntime) -> Result<(), Fail> {
+    for table in [NAMES, VALUES, PROMOTIONS] {
+        for line in table.lines() {
+            let (body, answer) = line.split_once(" ::").ok_or("no answer")?;
+            assert_eq!(rt; diagnostics(rt.alloc(), body)?.as_str(), answer, "{body}");
+        }
     }
     Ok(())
 }
 
-/// A type that an expression or a local has in these units.
-#[derive(Clone, Copy, Debug, PartialEq, Eq)]
-enum Kind {
-    Invalid,
-    Never,
-    Null,
-    Int,
-    Bool,
-    MaybeInt,
+// Two words of a text.
+const X: u32 = 7;
+
+const Y: u32 = 3;
+
+// A word that is declared, with a number.
+fn name(number: u32, word: u32) -> Name {
+    let span = Span { start: 0, end: 1 };
+    let at = Place {
+        node: NodeId(number),
+        span,
+    };
+    Name { at, word }
 }
 
-fn kind_of(ty: &DartType) -> Kind {
-    match &ty.node {
-        TypeNode::Invalid => Kind::Invalid,
-        TypeNode::Never => Kind::Never,
-        TypeNode::Null => Kind::Null,
-        TypeNode::Int => Kind::Int,
-        TypeNode::Bool => Kind::Bool,
-        TypeNode::Nullable(_) => Kind::MaybeInt,
-    }
-}
-
-/// The local of a declaration at 10.
-const X: LocalId = LocalId(10);
-
-/// What is looked at of a node: its number, its type and its local, the current type of x before it
-/// and after it, and what is known more where it is true and where it is false.
-#[derive(Clone, Copy, Debug, PartialEq, Eq)]
-struct Row {
-    node: u32,
-    ty: Option<Kind>,
-    element: Option<LocalId>,
-    before: Option<Kind>,
-    after: Option<Kind>,
-    branches: (Branch, Branch),
-}
-
-fn row_of(node: &TypedNode) -> Row {
-    Row {
-        node: node.node.0,
-        ty: node.ty.as_ref().map(|ty| kind_of(ty)),
-        element: node.element,
-        before: node.before.current(X).map(|ty| kind_of(ty)),
-        after: node.after.current(X).map(|ty| kind_of(ty)),
-        branches: (node.when_true, node.when_false),
-    }
-}
-
-/// A node that leaves what is known as it was.
-fn same(node: u32, ty: Option<Kind>, element: Option<LocalId>, known: Option<Kind>) -> Row {
-    Row {
-        node,
-        ty,
-        element,
-        before: known,
-        after: known,
-        branches: (Branch::Same, Branch::Same),
-    }
-}
-
-/// `int? x; if (x != null) { x + 1; } else { x + 1; } x = 1; true; (x);`
-#[test]
-fn nodes_say_what_is_known(rt: HostRuntime) -> Result<(), Fail> {
-    let alloc = rt.alloc();
-    let steps = [
-        (10, Step::DeclareNullable),
-        (20, Step::TestForNull),
-        (50, Step::Write(Side::One)),
-        (60, Step::Read(Side::True)),
-        (70, Step::ReadInParentheses(Side::X)),
-    ];
-    let int = Some(Kind::Int);
-    let maybe = Some(Kind::MaybeInt);
-    let bool = Some(Kind::Bool);
-    let expected = [
-        Row {
-            before: None,
-            ..same(10, None, Some(X), maybe)
-        },
-        same(20, maybe, Some(X), maybe),
-        same(22, Some(Kind::Null), None, maybe),
-        Row {
-            branches: (Branch::NotNull(X), Branch::Same),
-            ..same(20, bool, None, maybe)
-        },
-        same(30, int, Some(X), int),
-        same(32, int, None, int),
-        same(30, int, None, int),
-        same(30, None, None, int),
-        same(30, None, None, int),
-        same(40, maybe, Some(X), maybe),
-        same(42, int, None, maybe),
-        same(40, int, None, maybe),
-        same(40, None, None, maybe),
-        same(40, None, None, maybe),
-        same(20, None, None, maybe),
-        same(51, int, None, maybe),
-        Row {
-            after: int,
-            ..same(50, None, Some(X), maybe)
-        },
-        Row {
-            branches: (Branch::Same, Branch::Unreached),
-            ..same(60, bool, None, int)
-        },
-        same(60, None, None, int),
-        same(71, int, Some(X), int),
-        same(70, int, Some(X), int),
-        same(70, None, None, int),
-        same(0, None, None, None),
-    ];
-    let found = judged(alloc, &steps)?;
-    assert_eq!(rt; found.nodes.len(), expected.len());
-    for (node, row) in found.nodes.iter().zip(expected.iter()) {
-        assert_eq!(rt; row_of(node), *row);
-    }
-    Ok(())
-}
-
-/// Around a block that declares a name twice, and in it.
+// Around a scope that declares a name twice, and in it.
 #[test]
 fn names_mean_again_what_they_meant_before(rt: HostRuntime) -> Result<(), Fail> {
     let alloc = rt.alloc();
     let mut names = NamesInScope::new(alloc);
-    let outer = names.enter(alloc, &[int_x(10, false, None)])?;
-    let inner = names.enter(alloc, &[int_x(20, false, None), int_x(30, false, None)])?;
-    assert_eq!(rt; names.meaning(WORD_X), Some(LocalId(20)));
-    assert_eq!(rt; names.meaning(WORD_Y), None);
+    let outer = names.enter(alloc, &[name(10, X)])?;
+    let inner = names.enter(alloc, &[name(20, X), name(30, X)])?;
+    assert_eq!(rt; names.local(X), Some(LocalId(20)));
+    assert_eq!(rt; names.local(Y), None);
     names.leave(inner)?;
-    assert_eq!(rt; names.meaning(WORD_X), Some(LocalId(10)));
+    assert_eq!(rt; names.local(X), Some(LocalId(10)));
     names.leave(outer)?;
-    assert_eq!(rt; names.meaning(WORD_X), None);
+    assert_eq!(rt; names.local(X), None);
     Ok(())
 }

@@ -2,9 +2,9 @@
 //! without a text has a line too.
 
 use dart_text::Text;
+use dart_tree::Span;
 use diagnostics::{lines_of, render};
 use judgement::{DiagnosticCode, Fault};
-use small_tree::Span;
 use std::test::Fail;
 
 fn fault(start: u32, end: u32, code: DiagnosticCode) -> Fault {

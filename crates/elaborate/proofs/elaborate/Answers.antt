@@ -1,40 +1,27 @@
-use Rattle.std.proofs.Common.{◌≤◌, ◌*◌, ◌∙◌, length, arith}
-use Rattle.dart_scan.specs.Scanned.{tokens_of}
-use Rattle.check_library.specs.Faultless.{tree_faultless}
-use Rattle.elaborate.proofs.Accepted.{program_accepted, program_well_formed}
-use Rattle.elaborate.proofs.Faultless.{unit_is, unit_few, unit_typed, tree_distinct}
+use Rattle.std.proofs.Common.{◌≡◌, refl, sym, ap, ◌∙◌}
+use Rattle.dart_tree.specs.Tree.{empty_body, expression_body, native_body}
+use Rattle.dart_tree.specs.View.{body_of}
+use Rattle.elaborate.proofs.Sources.{is_block_of, no_block}
+use Rattle.check_library.specs.Units.{outside_of}
 use Rattle.elaborate.proofs.elaborate.Goals as goal
 
--- a text has fewer nodes than there are numbers
-pub elaborate_unit-requires-clause-small : goal.elaborate_unit-requires-clause-small
-elaborate_unit-requires-clause-small c =
-    let f = c.requires.faultless in
-    omega (arith, f.check.short, unit_few f.text _ _ f.check c.requires.unit)
+pub unreachable-requires : goal.unreachable-requires
+unreachable-requires c =
+    let faultless = c.requires.faultless in
+    no_block (outside_of faultless.text) c.args.body.now (expression_body c.in-Expression.at c.in-Expression.value)
+    (is_block_of faultless.text c.args.checked.now faultless.check c.args.body.now c.requires.body c.built_bodies_are_blocks.ensures.blocks)
+    (ap body_of (sym c.in-Expression.is) ∙ c.body.view_is) (λ at statements is. cc)
 
--- of whose nodes something is said
-pub elaborate_unit-requires-clause-typed : goal.elaborate_unit-requires-clause-typed
-elaborate_unit-requires-clause-typed c =
-    let f = c.requires.faultless in c.deref.ensures.value ∙ unit_typed f.text _ _ f.check c.requires.unit
+pub unreachable-requires-in-Empty : goal.unreachable-requires-in-Empty
+unreachable-requires-in-Empty c =
+    let faultless = c.requires.faultless in
+    no_block (outside_of faultless.text) c.args.body.now (empty_body c.in-Empty.at)
+    (is_block_of faultless.text c.args.checked.now faultless.check c.args.body.now c.requires.body c.built_bodies_are_blocks.ensures.blocks)
+    (ap body_of (sym c.in-Empty.is) ∙ c.body.view_is) (λ at statements is. cc)
 
--- the program of a text in which nothing is wrong names what it has
-pub returns-clause-well_formed : goal.returns-clause-well_formed
-returns-clause-well_formed c =
-    let f = c.requires.faultless in
-    let found = c.in_ok-program.ensures in
-    let is = unit_is f.text _ _ f.check c.requires.unit in
-    program_well_formed c.args.unit.now c.in_ok-program.program found.form (tree_distinct f.text _ is) (tree_faultless f.text _ f.none is) found.program found.built
-    (omega (arith, f.check.short, unit_few f.text _ _ f.check c.requires.unit))
-
--- and is accepted
-pub returns-clause-accepted : goal.returns-clause-accepted
-returns-clause-accepted c =
-    let f = c.requires.faultless in
-    let found = c.in_ok-program.ensures in
-    let is = unit_is f.text _ _ f.check c.requires.unit in
-    program_accepted c.args.unit.now c.in_ok-program.program found.form (tree_distinct f.text _ is) (tree_faultless f.text _ f.none is) found.program
-
--- and has at most 64 points for each token of the text
-pub returns-clause-few : goal.returns-clause-few
-returns-clause-few c = λ text check.
-    let built = c.in_ok-program.ensures.built in
-    omega (arith, unit_few text _ _ check c.requires.unit, built.few)
+pub unreachable-requires-in-Native : goal.unreachable-requires-in-Native
+unreachable-requires-in-Native c =
+    let faultless = c.requires.faultless in
+    no_block (outside_of faultless.text) c.args.body.now (native_body c.in-Native.at)
+    (is_block_of faultless.text c.args.checked.now faultless.check c.args.body.now c.requires.body c.built_bodies_are_blocks.ensures.blocks)
+    (ap body_of (sym c.in-Native.is) ∙ c.body.view_is) (λ at statements is. cc)

@@ -1,149 +1,375 @@
 //! What expressions give.
 
-ghost use Rattle.std.specs.Prelude.{◌≡◌, IfOk};
-ghost use Rattle.small_tree.specs.Places.{place_of};
-ghost use Rattle.small_flow.specs.Flow.{facts_of};
-ghost use Rattle.judgement.specs.Rows as row;
+ghost use Rattle.std.specs.Prelude.{◌≡◌, ◌++◌, ◌∷◌, [], is_some, None, IfOk, OnOk};
+ghost use Rattle.std.specs.Option.{option_copied};
+ghost use Rattle.dart_tree.specs.Tree.{Part, assignment, binary_expression, call, trees_of};
+ghost use Rattle.dart_tree.specs.Places.{place_of};
+ghost use Rattle.flow_model.specs.Flow.{facts_of};
+ghost use Rattle.dart_tree.specs.declared.operators.AssignmentOperator.{AssignmentOperator};
+ghost use Rattle.dart_types.specs.Ty.{invalid};
+ghost use Rattle.judgement.specs.Given.{exits_if_never, faulty, of_type, said_of_expression};
+ghost use Rattle.judgement.specs.ExpressionRows as row;
+ghost use Rattle.judgement.specs.Judgement as judgement;
 ghost use Rattle.judgement.specs.Judgement.{evaluate, form_row};
-ghost use Rattle.judgement.specs.Names.{named_by};
-ghost use Rattle.judgement.specs.Typed.{said_of_value, typed_expression};
-ghost use Rattle.resolve.specs.Judged.{Evaluates, Exited, RowEvaluates, as_condition, reported, typed_operands};
+ghost use Rattle.judgement.specs.Literals.{integer_of};
+ghost use Rattle.judgement.specs.Surroundings.{Names, lexeme_of, meaning_of};
+ghost use Rattle.judgement.specs.Written.{named_by};
+ghost use Rattle.resolve.specs.Around.{around};
+ghost use Rattle.resolve.specs.Judged.{Evaluates, Has, RowEvaluates, typed_of};
 
 use super::models::behind_exit;
-use super::operators::{compared_local, judge_operator};
-use super::types::{bool_type, fits, int_type, invalid_type, is_never, null_type};
-use super::{Context, Judged, Typed, report};
+use super::operators::{check_fit, differ, operate, parameter_of};
+use super::types::{invalid_type, is_never, operation_of};
+use super::writes::{assign, wanted_by};
+use super::{Context, Found, Typed, of_type, report};
 use crate::names::NamesInScope;
-use judgement::{Branch, DiagnosticCode, Fault, TypedNode};
-use small_flow::{Flow, LocalId};
-use small_tree::{Expr, ExprNode, IntegerLiteral, Place, Radix};
-use std::alloc::{AllocError, Global};
+use dart_tree::{
+    Argument, ArgumentList, BinaryOperator, BinaryOperatorKind, Expr, ExprNode, Place,
+};
+use dart_types::{DartType, TypeNode};
+use flow_model::{Flow, LocalId};
+use judgement::{DiagnosticCode, Fault, Meaning, TypedNode, integer_of};
+use std::alloc::AllocError;
 use std::rc::Rc;
 
-// The type of an expression, what is known after it, and what it says where it is true and false; its
-// diagnostics, and what is said of its nodes.
+// What an expression gives, where a type is wanted of it or none, and what is said of its nodes.
 #[cycle(expression)]
 pub(super) fn judge_expression(
     context: Context,
     names: &NamesInScope,
     expression: &Expr,
+    wanted: Option<&DartType>,
     before: &Rc<Flow>,
-    found: &mut Judged,
+    found: &mut Found,
 ) -> Result<Typed, AllocError>
-    ensures { IfOk result (λ typed. Evaluates found.old found.new typed (place_of expression.now) (evaluate context.entry.rows.now names.now expression.now before.now.value) (typed_expression context.entry.rows.now names.now expression.now before.now.value)) }
+    ensures { IfOk result (λ typed. Evaluates found.old found.new typed (place_of expression.now) (evaluate (around context.entry.rows.now.table context.entry.words.now context.entry.outside.now names.now) expression.now (option_copied wanted.entry) before.now.value)) }
 {
-    let typed = judge_value(context, names, expression, before, found)?;
-    let said = said_of_expression(context.alloc, names, expression, before, &typed)?;
-    found.nodes.push(said)?;
+    let row = judge_form(context, names, expression, wanted, before, found)?;
+    let typed = exit_if_never(context, row)?;
+    let element = element_of(context, names, expression);
+    say(context, element, before, &typed, found)?;
     Ok(typed)
 }
 
-// The same, but of its nodes only those in it.
-#[cycle(expression)]
-fn judge_value(
-    context: Context,
-    names: &NamesInScope,
-    expression: &Expr,
-    before: &Rc<Flow>,
-    found: &mut Judged,
-) -> Result<Typed, AllocError>
-    ensures { IfOk result (λ typed. Evaluates found.old found.new typed (place_of expression.now) (evaluate context.entry.rows.now names.now expression.now before.now.value) (typed_operands context.entry.rows.now names.now expression.now before.now.value)) }
-{
-    let formed = judge_form(context, names, expression, before, found)?;
-    let typed = exit_if_never(context.alloc, formed)?;
-    Ok(typed)
-}
-
-// What its form gives, before it is seen whether it exits.
+// What its form gives.
 #[cycle(expression)]
 fn judge_form(
     context: Context,
     names: &NamesInScope,
     expression: &Expr,
+    wanted: Option<&DartType>,
     before: &Rc<Flow>,
-    found: &mut Judged,
+    found: &mut Found,
 ) -> Result<Typed, AllocError>
-    ensures { IfOk result (λ typed. Evaluates found.old found.new typed (place_of expression.now) (form_row context.entry.rows.now names.now expression.now before.now.value) (typed_operands context.entry.rows.now names.now expression.now before.now.value)) }
+    ensures { IfOk result (λ typed. Evaluates found.old found.new typed (place_of expression.now) (form_row (around context.entry.rows.now.table context.entry.words.now context.entry.outside.now names.now) expression.now (option_copied wanted.entry) before.now.value)) }
 {
-    match &expression.node {
-        ExprNode::Name { at, word } => {
-            read_name(context.alloc, names, *at, *word, before, &mut found.faults)
+    match &*expression.node {
+        ExprNode::Identifier { at, word } => {
+            let meaning = meaning_of(context, names, *word);
+            read_name(context, meaning, *at, before, &mut found.faults)
         }
-        ExprNode::Integer { at, literal } => {
-            judge_integer(*at, *literal, before, &mut found.faults)
+        ExprNode::Integer { at, word } => {
+            judge_integer(context, *at, *word, before, &mut found.faults)
         }
-        ExprNode::Boolean { at, value } => judge_boolean(*at, *value, before),
-        ExprNode::Null { at } => Ok(Typed::of(*at, null_type(), before.clone()?)),
+        ExprNode::Boolean { at, value } => judge_boolean(context, *at, *value, before),
+        ExprNode::Null { at } => {
+            let ty = context.core.null().copy(context.alloc)?;
+            of_type(*at, ty, before.clone()?)
+        }
+        ExprNode::Parenthesis { at, inner } => {
+            let typed = judge_expression(context, names, inner, wanted, before, found)?;
+            Ok(Typed { at: *at, ..typed })
+        }
         ExprNode::Binary {
             at,
             operator,
             left,
             right,
-        } => {
-            let first = judge_expression(context, names, left, before, found)?;
-            let second = judge_expression(context, names, right, &first.after, found)?;
-            let compared = compared_local(names, left, right);
-            let typed = judge_operator(
-                context.rows,
-                *at,
-                *operator,
-                compared,
-                &first,
-                &second,
-                &mut found.faults,
-            )?;
-            Ok(typed)
-        }
-        ExprNode::Parenthesis { at, inner } => {
-            let typed = judge_expression(context, names, inner, before, found)?;
-            Ok(Typed { at: *at, ..typed })
-        }
+        } => judge_operator(context, names, *at, *operator, left, right, before, found),
+        ExprNode::Assignment {
+            at,
+            target,
+            value,
+            ..
+        } => judge_assignment(context, names, *at, target, value, before, found),
+        ExprNode::Call {
+            at,
+            callee,
+            arguments,
+            ..
+        } => judge_call(context, names, *at, callee, arguments, before, found),
+        _ => of_type(expression.place(), invalid_type(), before.clone()?),
     }
 }
 
+// An operator: the left side is judged before the right one, of which what the operator takes is
+// wanted.
+#[cycle(expression)]
+fn judge_operator(
+    context: Context,
+    names: &NamesInScope,
+    at: Place,
+    operator: BinaryOperator,
+    left: &Expr,
+    right: &Expr,
+    before: &Rc<Flow>,
+    found: &mut Found,
+) -> Result<Typed, AllocError>
+    ensures { IfOk result (λ typed. Evaluates found.old found.new typed at (form_row (around context.entry.rows.now.table context.entry.words.now context.entry.outside.now names.now) (binary_expression at operator left.now right.now) None before.now.value)) }
+{
+    let first = judge_expression(context, names, left, None, before, found)?;
+    if operator.kind == BinaryOperatorKind::NotEqual {
+        let compared = compared_local(context, names, left, right);
+        let second = judge_expression(context, names, right, None, &first.after, found)?;
+        return differ(context, at, compared, &second);
+    }
+    let operation = operation_of(context.alloc, context.core, &first.ty, operator.kind)?;
+    let wanted = parameter_of(&operation);
+    let second = judge_expression(context, names, right, wanted, &first.after, found)?;
+    operate(
+        context,
+        at,
+        operator,
+        &operation,
+        &first,
+        &second,
+        &mut found.faults,
+    )
+}
+
+// An assignment: its value is judged, of which the local's type is wanted, before the local is
+// written.
+#[cycle(expression)]
+fn judge_assignment(
+    context: Context,
+    names: &NamesInScope,
+    at: Place,
+    target: &Expr,
+    value: &Expr,
+    before: &Rc<Flow>,
+    found: &mut Found,
+) -> Result<Typed, AllocError>
+    ensures { (operator : AssignmentOperator) → IfOk result (λ typed. Evaluates found.old found.new typed at (form_row (around context.entry.rows.now.table context.entry.words.now context.entry.outside.now names.now) (assignment at operator target.now value.now) None before.now.value)) }
+{
+    let meaning = named_by(context, names, target);
+    let wanted = wanted_by(meaning, before);
+    let written = judge_expression(context, names, value, wanted, before, found)?;
+    assign(
+        context,
+        at,
+        meaning,
+        target.place(),
+        &written,
+        &mut found.faults,
+    )
+}
+
+// A call, of which only those of `print` are judged so far.
+#[cycle(expression)]
+fn judge_call(
+    context: Context,
+    names: &NamesInScope,
+    at: Place,
+    callee: &Expr,
+    arguments: &ArgumentList,
+    before: &Rc<Flow>,
+    found: &mut Found,
+) -> Result<Typed, AllocError>
+    ensures { (types : Part) → IfOk result (λ typed. Evaluates found.old found.new typed at (form_row (around context.entry.rows.now.table context.entry.words.now context.entry.outside.now names.now) (call at callee.now types arguments.now) None before.now.value)) }
+{
+    match named_by(context, names, callee) {
+        Meaning::Print => { judge_printed(context, names, at, &arguments.arguments, before, found) }
+        Meaning::Nothing => of_type(at, invalid_type(), before.clone()?),
+        Meaning::Local(_) => of_type(at, invalid_type(), before.clone()?),
+        Meaning::Class(_) => of_type(at, invalid_type(), before.clone()?),
+        Meaning::Other => of_type(at, invalid_type(), before.clone()?),
+    }
+}
+
+// A call of `print` with these arguments: one.
+#[cycle(expression)]
+fn judge_printed(
+    context: Context,
+    names: &NamesInScope,
+    at: Place,
+    arguments: &[Argument],
+    before: &Rc<Flow>,
+    found: &mut Found,
+) -> Result<Typed, AllocError>
+    ensures { IfOk result (λ typed. Evaluates found.old found.new typed at (judgement.printed (around context.entry.rows.now.table context.entry.words.now context.entry.outside.now names.now) (trees_of arguments.now) before.now.value)) }
+{
+    if arguments.len() == 1 {
+        return judge_argument(context, names, at, &arguments[0], before, found);
+    }
+    unjudged(at, before)
+}
+
+// What isn't judged yet says nothing.
+fn unjudged(at: Place, before: &Rc<Flow>) -> Result<Typed, AllocError>
+    ensures row { IfOk result (λ typed. typed_of typed ≡ of_type invalid before.now.value) }
+    ensures place { IfOk result (λ typed. typed.at ≡ at) }
+{
+    of_type(at, invalid_type(), before.clone()?)
+}
+
+// A call of `print` with this argument.
+#[cycle(expression)]
+fn judge_argument(
+    context: Context,
+    names: &NamesInScope,
+    at: Place,
+    argument: &Argument,
+    before: &Rc<Flow>,
+    found: &mut Found,
+) -> Result<Typed, AllocError>
+    ensures { IfOk result (λ typed. Evaluates found.old found.new typed at (judgement.printed_value (around context.entry.rows.now.table context.entry.words.now context.entry.outside.now names.now) argument.now before.now.value)) }
+{
+    judge_print(context, names, at, &argument.value, before, found)
+}
+
+// A call of `print`, which takes any value and gives none.
+#[cycle(expression)]
+fn judge_print(
+    context: Context,
+    names: &NamesInScope,
+    at: Place,
+    value: &Expr,
+    before: &Rc<Flow>,
+    found: &mut Found,
+) -> Result<Typed, AllocError>
+    ensures { IfOk result (λ typed. Evaluates found.old found.new typed at (row.print_row context.entry.rows.now.table (place_of value.now) (evaluate (around context.entry.rows.now.table context.entry.words.now context.entry.outside.now names.now) value.now None before.now.value))) }
+{
+    let printed = judge_expression(context, names, value, None, before, found)?;
+    check_fit(
+        context.rows,
+        DiagnosticCode::ArgumentType,
+        &printed,
+        context.core.any(),
+        &mut found.faults,
+    )?;
+    let ty = DartType {
+        node: TypeNode::Void,
+    };
+    of_type(at, ty, printed.after.clone()?)
+}
+
 // An expression of type Never exits: nothing is reached behind it.
-fn exit_if_never(alloc: Global, typed: Typed) -> Result<Typed, AllocError>
-    ensures { IfOk result (λ exited. Exited typed exited) }
+fn exit_if_never(context: Context, typed: Typed) -> Result<Typed, AllocError>
+    ensures place { IfOk result (λ exited. exited.at ≡ typed.at) }
+    ensures row { IfOk result (λ exited. typed_of exited ≡ exits_if_never (typed_of typed)) }
 {
     if !is_never(&typed.ty) {
         return Ok(typed);
     }
-    let after = behind_exit(alloc, &typed.after)?;
-    Ok(Typed { after, ..typed })
-}
-
-// What is said of an expression that was judged from the model before it.
-fn said_of_expression(
-    alloc: Global,
-    names: &NamesInScope,
-    expression: &Expr,
-    before: &Rc<Flow>,
-    typed: &Typed,
-) -> Result<TypedNode, AllocError>
-    ensures { IfOk result (λ said. said ≡ said_of_value expression.now (named_by names.now expression.now) before.now.value (reported typed.now)) }
-{
-    Ok(TypedNode {
-        node: expression.place().node,
-        ty: Some(typed.ty.copy(alloc)?),
-        element: named_local(names, expression),
-        before: before.clone()?,
-        after: typed.after.clone()?,
-        when_true: typed.when_true,
-        when_false: typed.when_false,
+    let after = behind_exit(context.alloc, &typed.after)?;
+    let when_true = behind_exit(context.alloc, &typed.when_true)?;
+    let when_false = behind_exit(context.alloc, &typed.when_false)?;
+    Ok(Typed {
+        after,
+        when_true,
+        when_false,
+        ..typed
     })
 }
 
-// The local that an expression names, in parentheses too.
-pub(super) fn named_local(names: &NamesInScope, expression: &Expr) -> Option<LocalId>
-    ensures { result ≡ named_by names.now expression.now }
+// Adds what is said of an expression that was judged from the model before it.
+fn say(
+    context: Context,
+    element: Option<Meaning>,
+    before: &Rc<Flow>,
+    typed: &Typed,
+    found: &mut Found,
+) -> Result<(), AllocError>
+    ensures faults { OnOk result (found.new.faults.items ≡ found.old.faults.items) }
+    ensures nodes { OnOk result (found.new.nodes.items ≡ found.old.nodes.items ++ said_of_expression typed.now.at.node element before.now.value (typed_of typed.now) ∷ []) }
 {
-    match &expression.node {
-        ExprNode::Name { word, .. } => names.meaning(*word),
-        ExprNode::Integer { .. } => None,
-        ExprNode::Boolean { .. } => None,
-        ExprNode::Null { .. } => None,
-        ExprNode::Binary { .. } => None,
-        ExprNode::Parenthesis { inner, .. } => named_local(names, inner),
+    found.nodes.push(TypedNode {
+        node: typed.at.node,
+        ty: Some(typed.ty.copy(context.alloc)?),
+        element,
+        before: before.clone()?,
+        after: typed.after.clone()?,
+        when_true: typed.when_true.clone()?,
+        when_false: typed.when_false.clone()?,
+    })?;
+    Ok(())
+}
+
+// What a word means: the local of that name, and else what it means outside of the body.
+pub(super) fn meaning_of(context: Context, names: &NamesInScope, word: u32) -> Meaning
+    ensures { result ≡ meaning_of (around context.entry.rows.now.table context.entry.words.now context.entry.outside.now names.now) word }
+{
+    match names.local(word) {
+        Some(var) => Meaning::Local(var),
+        None => match context.outside.get(word as usize) {
+            Some(meaning) => *meaning,
+            None => Meaning::Nothing,
+        },
+    }
+}
+
+// What an expression names, in parentheses too.
+pub(super) fn named_by(context: Context, names: &NamesInScope, expression: &Expr) -> Meaning
+    ensures { result ≡ named_by (around context.entry.rows.now.table context.entry.words.now context.entry.outside.now names.now) expression.now }
+{
+    match &*expression.node {
+        ExprNode::Identifier { word, .. } => meaning_of(context, names, *word),
+        ExprNode::Parenthesis { inner, .. } => named_by(context, names, inner),
+        _ => Meaning::Nothing,
+    }
+}
+
+// What the node of an expression names, or writes.
+fn element_of(context: Context, names: &NamesInScope, expression: &Expr) -> Option<Meaning>
+    ensures { result ≡ judgement.element_of (around context.entry.rows.now.table context.entry.words.now context.entry.outside.now names.now) expression.now }
+{
+    match &*expression.node {
+        ExprNode::Identifier { word, .. } => Some(meaning_of(context, names, *word)),
+        ExprNode::Parenthesis { inner, .. } => element_of(context, names, inner),
+        ExprNode::Assignment { target, .. } => Some(named_by(context, names, target)),
+        ExprNode::Call { callee, .. } => Some(named_by(context, names, callee)),
+        _ => None,
+    }
+}
+
+// The local that a comparison of these sides compares with the literal `null`.
+fn compared_local(
+    context: Context,
+    names: &NamesInScope,
+    left: &Expr,
+    right: &Expr,
+) -> Option<LocalId>
+    ensures { result ≡ judgement.compared_local (around context.entry.rows.now.table context.entry.words.now context.entry.outside.now names.now) left.now right.now }
+{
+    if is_null_literal(right) {
+        return as_local(named_by(context, names, left));
+    }
+    if is_null_literal(left) {
+        return as_local(named_by(context, names, right));
+    }
+    None
+}
+
+// Whether an expression is the literal `null`.
+fn is_null_literal(expression: &Expr) -> bool
+    ensures { result ≡ judgement.is_null_literal expression.now }
+{
+    match &*expression.node {
+        ExprNode::Null { .. } => true,
+        _ => false,
+    }
+}
+
+// The local that a name means, if it means one.
+fn as_local(meaning: Meaning) -> Option<LocalId>
+    ensures { result ≡ judgement.as_local meaning }
+{
+    match meaning {
+        Meaning::Local(var) => Some(var),
+        Meaning::Nothing => None,
+        Meaning::Print => None,
+        Meaning::Class(_) => None,
+        Meaning::Other => None,
     }
 }
 
@@ -153,17 +379,17 @@ pub(super) fn judge_condition(
     names: &NamesInScope,
     condition: &Expr,
     before: &Rc<Flow>,
-    found: &mut Judged,
+    found: &mut Found,
 ) -> Result<Typed, AllocError>
-    ensures { IfOk result (λ typed. Evaluates found.old found.new typed (place_of condition.now) (as_condition context.entry.rows.now (place_of condition.now) (evaluate context.entry.rows.now names.now condition.now before.now.value)) (typed_expression context.entry.rows.now names.now condition.now before.now.value)) }
+    ensures { IfOk result (λ typed. Evaluates found.old found.new typed (place_of condition.now) (judgement.condition_of (around context.entry.rows.now.table context.entry.words.now context.entry.outside.now names.now) condition.now before.now.value)) }
 {
-    let typed = judge_expression(context, names, condition, before, found)?;
-    if fits(context.rows, &typed.ty, &bool_type()) {
-        return Ok(typed);
-    }
-    report(
-        typed.at.span,
+    let wanted = Some(context.core.bool());
+    let typed = judge_expression(context, names, condition, wanted, before, found)?;
+    check_fit(
+        context.rows,
         DiagnosticCode::ConditionNotBool,
+        &typed,
+        context.core.bool(),
         &mut found.faults,
     )?;
     Ok(typed)
@@ -171,76 +397,83 @@ pub(super) fn judge_condition(
 
 // An integer literal is an int, if its value is in range.
 fn judge_integer(
-    at: Place,
-    literal: IntegerLiteral,
-    before: &Rc<Flow>,
-    faults: &mut Vec<Fault>,
-) -> Result<Typed, AllocError>
-    ensures { IfOk result (λ typed. RowEvaluates faults.old.items faults.new.items typed at (row.integer_row at literal before.now.value)) }
-{
-    if is_in_range(literal) {
-        return Ok(Typed::of(at, int_type(), before.clone()?));
-    }
-    faulty(at, DiagnosticCode::IntegerLiteralOutOfRange, before, faults)
-}
-
-// Whether a literal has a value: a hexadecimal one has 64 bits, and a decimal one 63.
-fn is_in_range(literal: IntegerLiteral) -> bool
-    ensures { result ≡ row.is_in_range literal }
-{
-    match literal.magnitude {
-        None => false,
-        Some(magnitude) => match literal.radix {
-            Radix::Decimal => magnitude < 1 << 63,
-            Radix::Hexadecimal => true,
-        },
-    }
-}
-
-// `true` and `false` are bools, and nothing is reached where one would be the other.
-fn judge_boolean(at: Place, value: bool, before: &Rc<Flow>) -> Result<Typed, AllocError>
-    ensures place { IfOk result (λ typed. typed.at ≡ at) }
-    ensures row { IfOk result (λ typed. reported typed ≡ row.boolean_row value before.now.value) }
-{
-    let after = before.clone()?;
-    if value {
-        return Ok(Typed {
-            at,
-            ty: bool_type(),
-            after,
-            when_true: Branch::Same,
-            when_false: Branch::Unreached,
-        });
-    }
-    Ok(Typed {
-        at,
-        ty: bool_type(),
-        after,
-        when_true: Branch::Unreached,
-        when_false: Branch::Same,
-    })
-}
-
-// A name is read as the local that it means.
-fn read_name(
-    alloc: Global,
-    names: &NamesInScope,
+    context: Context,
     at: Place,
     word: u32,
     before: &Rc<Flow>,
     faults: &mut Vec<Fault>,
 ) -> Result<Typed, AllocError>
-    ensures { IfOk result (λ typed. RowEvaluates faults.old.items faults.new.items typed at (row.name_row names.now at word before.now.value)) }
+    ensures { (names : Names) → IfOk result (λ typed. RowEvaluates faults.old.items faults.new.items typed at (row.integer_row (around context.entry.rows.now.table context.entry.words.now context.entry.outside.now names) at word before.now.value)) }
 {
-    match names.meaning(word) {
-        Some(var) => read_local(alloc, at, var, before, faults),
-        None => faulty(at, DiagnosticCode::UndefinedName, before, faults),
+    if has_value(context, word) {
+        let ty = context.core.int().copy(context.alloc)?;
+        return of_type(at, ty, before.clone()?);
+    }
+    faulty(at, DiagnosticCode::IntegerLiteralOutOfRange, before, faults)
+}
+
+// Whether the lexeme of a word is that of an integer literal that is in range.
+fn has_value(context: Context, word: u32) -> bool
+    ensures { (names : Names) → result ≡ is_some (integer_of (lexeme_of (around context.entry.rows.now.table context.entry.words.now context.entry.outside.now names) word)) }
+{
+    match context.words.get(word as usize) {
+        Some(lexeme) => integer_of(lexeme.as_str().as_bytes()).is_some(),
+        None => integer_of(&[]).is_some(),
+    }
+}
+
+// `true` and `false` are bools, and nothing is reached where one would be the other.
+fn judge_boolean(
+    context: Context,
+    at: Place,
+    value: bool,
+    before: &Rc<Flow>,
+) -> Result<Typed, AllocError>
+    ensures { IfOk result (λ typed. Has typed at (row.boolean_row value before.now.value)) }
+{
+    let ty = context.core.bool().copy(context.alloc)?;
+    let after = before.clone()?;
+    let unreached = behind_exit(context.alloc, before)?;
+    if value {
+        return Ok(Typed {
+            at,
+            ty,
+            after,
+            when_true: before.clone()?,
+            when_false: unreached,
+        });
+    }
+    Ok(Typed {
+        at,
+        ty,
+        after,
+        when_true: unreached,
+        when_false: before.clone()?,
+    })
+}
+
+// A name is read as the local that it means.
+fn read_name(
+    context: Context,
+    meaning: Meaning,
+    at: Place,
+    before: &Rc<Flow>,
+    faults: &mut Vec<Fault>,
+) -> Result<Typed, AllocError>
+    ensures { IfOk result (λ typed. RowEvaluates faults.old.items faults.new.items typed at (row.name_row meaning at before.now.value)) }
+{
+    match meaning {
+        Meaning::Local(var) => read_local(context, at, var, before, faults),
+        Meaning::Nothing => faulty(at, DiagnosticCode::UndefinedName, before, faults),
+        Meaning::Class(_) => faulty(at, DiagnosticCode::UndefinedName, before, faults),
+        Meaning::Print => of_type(at, invalid_type(), before.clone()?),
+        Meaning::Other => of_type(at, invalid_type(), before.clone()?),
     }
 }
 
 // A local is read with its current type, if it is declared before and assigned.
 fn read_local(
-    alloc: Global,
+    context: Context,
     at: Place,
     var: LocalId,
     before: &Rc<Flow>,
@@ -251,7 +484,8 @@ fn read_local(
     match before.current(var) {
         Some(ty) => {
             if before.is_assigned(var) {
-                return Ok(Typed::of(at, ty.copy(alloc)?, before.clone()?));
+                let ty = ty.copy(context.alloc)?;
+                return of_type(at, ty, before.clone()?);
             }
             faulty(at, DiagnosticCode::UnassignedRead, before, faults)
         }
@@ -271,8 +505,8 @@ fn faulty(
     before: &Rc<Flow>,
     faults: &mut Vec<Fault>,
 ) -> Result<Typed, AllocError>
-    ensures { IfOk result (λ typed. RowEvaluates faults.old.items faults.new.items typed at (row.faulty at code before.now.value)) }
+    ensures { IfOk result (λ typed. RowEvaluates faults.old.items faults.new.items typed at (faulty at.span code before.now.value)) }
 {
     report(at.span, code, faults)?;
-    Ok(Typed::of(at, invalid_type(), before.clone()?))
+    of_type(at, invalid_type(), before.clone()?)
 }

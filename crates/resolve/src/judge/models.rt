@@ -1,19 +1,16 @@
 //! Models that are shared where nothing changed.
 
-ghost use Rattle.std.specs.Prelude.{◌≡◌, IfOk, OnOk};
-ghost use Rattle.small_tree.specs.Tree.{trees_of};
-ghost use Rattle.small_flow.specs.Flow.{end_of};
-ghost use Rattle.small_flow.specs.Steps.{exit_of};
-ghost use Rattle.judgement.specs.Names.{locals_of};
-ghost use Rattle.judgement.specs.NodeFacts.{at_branch};
-ghost use Rattle.judgement.specs.Rows.{loop_head};
-ghost use Rattle.judgement.specs.Written.{written_in};
+ghost use Rattle.std.specs.Prelude.{◌≡◌, [], IfOk, OnOk};
+ghost use Rattle.flow_model.specs.Flow.{end_of};
+ghost use Rattle.flow_model.specs.Steps.{exit_of};
+ghost use Rattle.judgement.specs.DeclaredNames.{locals_of};
+ghost use Rattle.judgement.specs.ExpressionRows.{where_not_null};
+ghost use Rattle.judgement.specs.StatementRows.{loop_head};
 
-use super::written::add_written_in_block;
-use crate::names::{NamesInScope, declared_locals};
-use judgement::Branch;
-use small_flow::Flow;
-use small_tree::{Block, Stmt};
+use super::Context;
+use crate::names::locals_of;
+use dart_tree::Name;
+use flow_model::{Flow, LocalId};
 use std::alloc::{AllocError, Global};
 use std::rc::Rc;
 
@@ -36,53 +33,48 @@ pub(super) fn behind_exit(alloc: Global, before: &Rc<Flow>) -> Result<Rc<Flow>, 
     shared(alloc, before, unreached)
 }
 
-// The model where a branch begins, from the one after its condition.
-pub(super) fn branch_start(
-    alloc: Global,
-    after: &Rc<Flow>,
-    branch: Branch,
+// The model where a local isn't null, if there is one.
+pub(super) fn where_not_null(
+    context: Context,
+    compared: Option<LocalId>,
+    before: &Rc<Flow>,
 ) -> Result<Rc<Flow>, AllocError>
-    ensures { IfOk result (λ model. model.value ≡ at_branch after.now.value branch) }
+    ensures { IfOk result (λ model. model.value ≡ where_not_null context.entry.rows.now.table compared before.now.value) }
 {
-    match branch {
-        Branch::Same => after.clone(),
-        Branch::Unreached => behind_exit(alloc, after),
-        Branch::NotNull(var) => {
-            let mut narrowed = after.copy(alloc)?;
-            narrowed.non_null(alloc, var)?;
-            shared(alloc, after, narrowed)
+    match compared {
+        None => before.clone(),
+        Some(var) => {
+            let mut narrowed = before.copy(context.alloc)?;
+            narrowed.non_null(context.alloc, context.rows, var)?;
+            shared(context.alloc, before, narrowed)
         }
     }
 }
 
-// The model at the head of a loop, from the one before the loop: what the body writes is forgotten.
+// The model at the head of a loop that writes these locals, from the one before the loop.
 pub(super) fn head_of_loop(
     alloc: Global,
-    names: &mut NamesInScope,
-    body: &Block,
+    written: &[LocalId],
     before: &Rc<Flow>,
 ) -> Result<Rc<Flow>, AllocError>
-    ensures model { IfOk result (λ model. model.value ≡ loop_head before.now.value (written_in names.old body.now)) }
-    ensures names { OnOk result (names.new ≡ names.old) }
+    ensures { IfOk result (λ model. model.value ≡ loop_head before.now.value written.now []) }
 {
-    let mut written = Vec::new(alloc);
-    add_written_in_block(alloc, names, &body.statements, &mut written)?;
     let mut head = before.copy(alloc)?;
-    head.conservative_join(alloc, &written, &[])?;
+    head.conservative_join(alloc, written, &[])?;
     shared(alloc, before, head)
 }
 
-// The model behind a block of these statements, from the one at its end: their locals end with it.
-// Where they declare none it is the same model.
-pub(super) fn behind_block(
+// The model behind a scope that declares these names, from the one at its end: their locals end with
+// it. Where it declares none it is the same model.
+pub(super) fn behind_scope(
     alloc: Global,
-    statements: &[Stmt],
+    declared: &[Name],
     before: &Rc<Flow>,
     inside: &Rc<Flow>,
 ) -> Result<Rc<Flow>, AllocError>
-    ensures { IfOk result (λ model. model.value ≡ end_of inside.now.value (locals_of (trees_of statements.now))) }
+    ensures { IfOk result (λ model. model.value ≡ end_of inside.now.value (locals_of declared.now)) }
 {
-    let locals = declared_locals(alloc, statements)?;
+    let locals = locals_of(alloc, declared)?;
     if locals.is_empty() {
         return inside.clone();
     }

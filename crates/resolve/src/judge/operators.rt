@@ -1,150 +1,150 @@
 //! What operators give, once their sides are judged.
 
 ghost use Rattle.std.specs.Prelude.{◌≡◌, ◌++◌, IfOk, OnOk};
-ghost use Rattle.small_flow.specs.Flow.{FlowModel};
-ghost use Rattle.judgement.specs.Rows as row;
-ghost use Rattle.judgement.specs.Judgement as judgement;
-ghost use Rattle.judgement.specs.NodeFacts.{at_branch};
-ghost use Rattle.resolve.specs.Judged.{RowEvaluates, reported};
+ghost use Rattle.std.specs.Option.{option_copied};
+ghost use Rattle.judgement.specs.ExpressionRows as row;
+ghost use Rattle.judgement.specs.Given.{fit_faults};
+ghost use Rattle.resolve.specs.Judged.{Has, RowEvaluates, typed_of};
 
-use super::expressions::named_local;
-use super::types::{
-    bool_type, fits, has_operators, int_type, invalid_type, is_invalid, is_never, is_null,
-    never_type,
-};
-use super::{Typed, report};
-use crate::names::NamesInScope;
-use judgement::{Branch, DiagnosticCode, Fault};
-use small_flow::{DartType, LocalId, Rows, is_subtype};
-use small_tree::{Expr, ExprNode, Operator, OperatorKind, Place, Span};
+use super::models::where_not_null;
+use super::types::{fits, invalid_type, is_never, is_null, operation_in, operation_of};
+use super::{Context, Typed, of_type, report};
+use dart_tree::{BinaryOperator, Place};
+use dart_types::{DartType, Rows, is_subtype};
+use flow_model::LocalId;
+use judgement::{DiagnosticCode, Fault, Operation};
 use std::alloc::AllocError;
 
-// An operator, from its sides and from the local that it compares with `null`.
-pub(super) fn judge_operator(
-    rows: &Rows,
+// An operator of a class, from its sides and what it takes and gives.
+pub(super) fn operate(
+    context: Context,
     at: Place,
-    operator: Operator,
-    compared: Option<LocalId>,
+    operator: BinaryOperator,
+    operation: &Option<Operation>,
     left: &Typed,
     right: &Typed,
     faults: &mut Vec<Fault>,
 ) -> Result<Typed, AllocError>
-    ensures { IfOk result (λ typed. RowEvaluates faults.old.items faults.new.items typed at (row.operator_row rows.now operator.kind operator.span right.now.at compared (reported left.now) (reported right.now))) }
+    requires { operation.now ≡ row.operation_of left.now.ty operator.kind }
+    ensures { IfOk result (λ typed. RowEvaluates faults.old.items faults.new.items typed at (row.operated_row context.entry.rows.now.table operator right.now.at (typed_of left.now) (typed_of right.now))) }
 {
-    match operator.kind {
-        OperatorKind::Plus => {
-            let ty = judge_int_operator(rows, operator.span, int_type(), left, right, faults)?;
-            Ok(Typed::of(at, ty, right.after.clone()?))
-        }
-        OperatorKind::Less => {
-            let ty = judge_int_operator(rows, operator.span, bool_type(), left, right, faults)?;
-            Ok(Typed::of(at, ty, right.after.clone()?))
-        }
-        OperatorKind::NotEqual => {
-            let when_true = where_not_null(compared);
-            Ok(Typed {
-                at,
-                ty: bool_type(),
-                after: right.after.clone()?,
-                when_true,
-                when_false: Branch::Same,
-            })
-        }
-    }
+    check_receiver(context, operator, operation, &left.ty, faults)?;
+    check_argument(context.rows, operation, right, faults)?;
+    let ty = result_type(context, &left.ty, operation, &right.ty)?;
+    of_type(at, ty, right.after.clone()?)
 }
 
-// The type that an operator of int gives, whose result has the type `whole`: the left side must
-// have the operator, and the right side must be an int.
-fn judge_int_operator(
-    rows: &Rows,
-    span: Span,
-    whole: DartType,
-    left: &Typed,
-    right: &Typed,
-    faults: &mut Vec<Fault>,
-) -> Result<DartType, AllocError>
-    ensures ty { IfOk result (λ ty. ty ≡ row.result_type rows.now whole left.now.ty right.now.ty) }
-    ensures faults { OnOk result (faults.new.items ≡ faults.old.items ++ (row.receiver_faults span left.now.ty ++ row.argument_faults rows.now right.now.at left.now.ty right.now.ty)) }
+// The type that is wanted of the right side: what the operator takes.
+pub(super) fn parameter_of(operation: &Option<Operation>) -> Option<&DartType>
+    ensures { option_copied result ≡ row.parameter_of operation.now }
 {
-    check_receiver(span, &left.ty, faults)?;
-    check_argument(rows, &left.ty, right, faults)?;
-    Ok(result_type(rows, whole, &left.ty, &right.ty))
+    match operation {
+        None => None,
+        Some(operation) => Some(&operation.parameter),
+    }
 }
 
 // The type on the left must have the operator, and may not be one that has it null aside.
-fn check_receiver(span: Span, ty: &DartType, faults: &mut Vec<Fault>) -> Result<(), AllocError>
-    ensures { OnOk result (faults.new.items ≡ faults.old.items ++ row.receiver_faults span ty.now) }
+fn check_receiver(
+    context: Context,
+    operator: BinaryOperator,
+    operation: &Option<Operation>,
+    ty: &DartType,
+    faults: &mut Vec<Fault>,
+) -> Result<(), AllocError>
+    requires { operation.now ≡ row.operation_of ty.now operator.kind }
+    ensures { OnOk result (faults.new.items ≡ faults.old.items ++ row.receiver_faults context.entry.rows.now.table operator.span ty.now operator.kind) }
 {
-    if ty.admits_null() && (has_operators(ty) || is_null(ty)) {
-        return report(span, DiagnosticCode::UncheckedNullableUse, faults);
-    }
-    if has_operators(ty) || is_invalid(ty) || is_never(ty) {
+    let own = operation_in(context.alloc, context.core, ty, operator.kind)?;
+    if own.is_some() || ty.holds_invalid() || is_never(ty) {
         return Ok(());
     }
-    report(span, DiagnosticCode::UndefinedOperator, faults)
+    if !is_subtype(context.rows, ty, context.core.object())
+        && (operation.is_some() || is_null(ty))
+    {
+        return report(operator.span, DiagnosticCode::UncheckedNullableUse, faults);
+    }
+    report(operator.span, DiagnosticCode::UndefinedOperator, faults)
 }
 
-// The right side of an operator that the type on the left has must be an int.
+// The right side of an operator must fit what it takes.
 fn check_argument(
     rows: &Rows,
-    ty: &DartType,
+    operation: &Option<Operation>,
     argument: &Typed,
     faults: &mut Vec<Fault>,
 ) -> Result<(), AllocError>
-    ensures { OnOk result (faults.new.items ≡ faults.old.items ++ row.argument_faults rows.now argument.now.at ty.now argument.now.ty) }
+    ensures { OnOk result (faults.new.items ≡ faults.old.items ++ row.argument_faults rows.now.table argument.now.at operation.now argument.now.ty) }
 {
-    if !has_operators(ty) || fits(rows, &argument.ty, &int_type()) {
+    match operation {
+        None => Ok(()),
+        Some(operation) => check_fit(
+            rows,
+            DiagnosticCode::ArgumentType,
+            argument,
+            &operation.parameter,
+            faults,
+        ),
+    }
+}
+
+// A value must fit where a type is wanted.
+pub(super) fn check_fit(
+    rows: &Rows,
+    code: DiagnosticCode,
+    value: &Typed,
+    wanted: &DartType,
+    faults: &mut Vec<Fault>,
+) -> Result<(), AllocError>
+    ensures { OnOk result (faults.new.items ≡ faults.old.items ++ fit_faults rows.now.table code value.now.at value.now.ty wanted.now) }
+{
+    if fits(rows, &value.ty, wanted) {
         return Ok(());
     }
-    report(argument.at.span, DiagnosticCode::ArgumentType, faults)
+    report(value.at.span, code, faults)
 }
 
-// The type of an operator's result: `whole` where both sides are right.
-fn result_type(rows: &Rows, whole: DartType, ty: &DartType, argument: &DartType) -> DartType
-    ensures { result ≡ row.result_type rows.now whole ty.now argument.now }
+// The type of an operator's result: its own where the right side fits.
+fn result_type(
+    context: Context,
+    receiver: &DartType,
+    operation: &Option<Operation>,
+    argument: &DartType,
+) -> Result<DartType, AllocError>
+    ensures { IfOk result (λ ty. ty ≡ row.result_type context.entry.rows.now.table receiver.now operation.now argument.now) }
 {
-    if has_operators(ty) && is_subtype(rows, argument, &int_type()) {
-        return whole;
+    match operation {
+        None => {
+            if is_never(receiver) {
+                return receiver.copy(context.alloc);
+            }
+            Ok(invalid_type())
+        }
+        Some(operation) => {
+            if is_subtype(context.rows, argument, &operation.parameter) {
+                return operation.result.copy(context.alloc);
+            }
+            Ok(invalid_type())
+        }
     }
-    if is_never(ty) {
-        return never_type();
-    }
-    invalid_type()
 }
 
-// Where a local isn't null: what is known more there, if there is one.
-fn where_not_null(compared: Option<LocalId>) -> Branch
-    ensures { (m : FlowModel) → at_branch m result ≡ row.where_not_null compared m }
+// `!=`: where it compares a local with `null` and is true, the local isn't null.
+pub(super) fn differ(
+    context: Context,
+    at: Place,
+    compared: Option<LocalId>,
+    right: &Typed,
+) -> Result<Typed, AllocError>
+    ensures { IfOk result (λ typed. Has typed at (row.not_equal_row context.entry.rows.now.table compared (typed_of right.now) (typed_of right.now))) }
 {
-    match compared {
-        None => Branch::Same,
-        Some(var) => Branch::NotNull(var),
-    }
-}
-
-// The local that a comparison of these sides compares with the literal `null`.
-pub(super) fn compared_local(names: &NamesInScope, left: &Expr, right: &Expr) -> Option<LocalId>
-    ensures { result ≡ judgement.compared_local names.now left.now right.now }
-{
-    if is_null_literal(right) {
-        return named_local(names, left);
-    }
-    if is_null_literal(left) {
-        return named_local(names, right);
-    }
-    None
-}
-
-// Whether an expression is the literal `null`.
-fn is_null_literal(expression: &Expr) -> bool
-    ensures { result ≡ judgement.is_null_literal expression.now }
-{
-    match &expression.node {
-        ExprNode::Null { .. } => true,
-        ExprNode::Name { .. } => false,
-        ExprNode::Integer { .. } => false,
-        ExprNode::Boolean { .. } => false,
-        ExprNode::Binary { .. } => false,
-        ExprNode::Parenthesis { .. } => false,
-    }
+    let ty = context.core.bool().copy(context.alloc)?;
+    let when_true = where_not_null(context, compared, &right.after)?;
+    Ok(Typed {
+        at,
+        ty,
+        after: right.after.clone()?,
+        when_true,
+        when_false: right.after.clone()?,
+    })
 }

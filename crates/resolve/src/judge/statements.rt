@@ -1,26 +1,77 @@
 //! What statements give.
 
 ghost use Rattle.std.specs.Prelude.{◌≡◌, ◌++◌, ◌∷◌, [], IfOk, OnOk};
-ghost use Rattle.small_tree.specs.Tree.{assign, block, declare, eval, if_statement, part_of, print, trees_of, while_statement};
-ghost use Rattle.small_tree.specs.declared.places.Place.{Place};
-ghost use Rattle.judgement.specs.Judgement.{declare_local, run, run_all, run_part, type_of};
-ghost use Rattle.judgement.specs.Typed.{typed_initializer, typed_part, typed_statement, typed_statements};
-ghost use Rattle.resolve.specs.Judged.{Gives, said_at};
+ghost use Rattle.dart_tree.specs.Tree.{block, expression_statement, if_statement, part_of, trees_of, variable_statement, while_statement};
+ghost use Rattle.judgement.specs.Given.{said_of_statement};
+ghost use Rattle.judgement.specs.DeclaredNames.{names_declared, names_in as all_declared};
+ghost use Rattle.judgement.specs.StatementRows.{scope_row};
+ghost use Rattle.judgement.specs.Judgement.{declare, declare_all, declare_list, evaluate_part, run, run_all, run_branch, type_of, type_row, written_type};
+ghost use Rattle.resolve.specs.Around.{around};
+ghost use Rattle.resolve.specs.Judged.{Gives};
 
-use super::expressions::{judge_condition, judge_expression};
-use super::models::{behind_block, branch_start, head_of_loop, shared};
-use super::types::{bool_type, int_type};
-use super::writes::{assign, declare, initialize};
-use super::{Context, Judged};
-use crate::names::NamesInScope;
-use judgement::{Branch, TypedNode};
-use small_flow::{DartType, Flow, LocalId};
-use small_tree::{Block, Expr, Name, Place, Stmt, StmtNode, WrittenType, WrittenTypeNode};
-use std::alloc::{AllocError, Global};
+use super::expressions::{judge_condition, judge_expression, meaning_of};
+use super::models::{behind_scope, head_of_loop, shared};
+use super::types::invalid_type;
+use super::writes::{declare, initialize};
+use super::written::written_in_loop;
+use super::{Context, Found};
+use crate::names::{NamesInScope, declared_local, names_declared, names_in};
+use dart_tree::{
+    Expr, Place, Stmt, StmtNode, Variable, VariableList, WrittenType, WrittenTypeNode,
+};
+use dart_types::DartType;
+use flow_model::Flow;
+use judgement::{Meaning, TypedNode};
+use std::alloc::AllocError;
 use std::rc::Rc;
 
-// A block: its names mean what it declares, and its locals end with it. As with each of these
-// functions, the names are afterwards what they were.
+// What a statement gives. As with each of these functions, the names are afterwards what they were.
+#[cycle(judge)]
+fn judge_statement(
+    context: Context,
+    names: &mut NamesInScope,
+    statement: &Stmt,
+    before: &Rc<Flow>,
+    found: &mut Found,
+) -> Result<Rc<Flow>, AllocError>
+    ensures gives { IfOk result (λ after. Gives found.old found.new after.value (run (around context.entry.rows.now.table context.entry.words.now context.entry.outside.now names.old) statement.now before.now.value)) }
+    ensures names { OnOk result (names.new ≡ names.old) }
+{
+    match &*statement.node {
+        StmtNode::Variables { at, variables } => {
+            judge_variables(context, names, *at, variables, before, found)
+        }
+        StmtNode::Expression { at, value } => {
+            judge_effect(context, names, *at, value, before, found)
+        }
+        StmtNode::If {
+            at,
+            condition,
+            then_branch,
+            else_branch,
+        } => judge_if(
+            context,
+            names,
+            *at,
+            condition,
+            then_branch,
+            else_branch,
+            before,
+            found,
+        ),
+        StmtNode::While {
+            at,
+            condition,
+            body,
+        } => judge_while(context, names, *at, condition, body, before, found),
+        StmtNode::Block { at, statements } => {
+            judge_block(context, names, *at, statements, before, found)
+        }
+        _ => before.clone(),
+    }
+}
+
+// A block: a scope of what its statements declare.
 #[cycle(judge)]
 pub(super) fn judge_block(
     context: Context,
@@ -28,15 +79,16 @@ pub(super) fn judge_block(
     at: Place,
     statements: &[Stmt],
     before: &Rc<Flow>,
-    found: &mut Judged,
+    found: &mut Found,
 ) -> Result<Rc<Flow>, AllocError>
-    ensures gives { IfOk result (λ after. Gives found.old found.new after.value (run context.entry.rows.now names.old (block at (trees_of statements.now)) before.now.value) (typed_statement context.entry.rows.now names.old (block at (trees_of statements.now)) before.now.value)) }
+    ensures gives { IfOk result (λ after. Gives found.old found.new after.value (run (around context.entry.rows.now.table context.entry.words.now context.entry.outside.now names.old) (block at (trees_of statements.now)) before.now.value)) }
     ensures names { OnOk result (names.new ≡ names.old) }
 {
-    let shadowed = names.enter(context.alloc, statements)?;
+    let declared = names_in(context.alloc, statements)?;
+    let shadowed = names.enter(context.alloc, &declared)?;
     let inside = judge_statements(context, names, statements, before, found)?;
     names.leave(shadowed)?;
-    let after = behind_block(context.alloc, statements, before, &inside)?;
+    let after = behind_scope(context.alloc, &declared, before, &inside)?;
     say(at, None, before, &after, found)?;
     Ok(after)
 }
@@ -48,9 +100,9 @@ fn judge_statements(
     names: &mut NamesInScope,
     statements: &[Stmt],
     before: &Rc<Flow>,
-    found: &mut Judged,
+    found: &mut Found,
 ) -> Result<Rc<Flow>, AllocError>
-    ensures gives { IfOk result (λ after. Gives found.old found.new after.value (run_all context.entry.rows.now names.old (trees_of statements.now) before.now.value) (typed_statements context.entry.rows.now names.old (trees_of statements.now) before.now.value)) }
+    ensures gives { IfOk result (λ after. Gives found.old found.new after.value (run_all (around context.entry.rows.now.table context.entry.words.now context.entry.outside.now names.old) (trees_of statements.now) before.now.value)) }
     ensures names { OnOk result (names.new ≡ names.old) }
 {
     let mut after = before.clone()?;
@@ -60,50 +112,26 @@ fn judge_statements(
     Ok(after)
 }
 
-// What is known after a statement, its diagnostics, and what is said of its nodes.
+// A statement that is a branch or the body of a loop, and so a scope of what it declares.
 #[cycle(judge)]
-fn judge_statement(
+fn judge_scope(
     context: Context,
     names: &mut NamesInScope,
     statement: &Stmt,
     before: &Rc<Flow>,
-    found: &mut Judged,
+    found: &mut Found,
 ) -> Result<Rc<Flow>, AllocError>
-    ensures gives { IfOk result (λ after. Gives found.old found.new after.value (run context.entry.rows.now names.old statement.now before.now.value) (typed_statement context.entry.rows.now names.old statement.now before.now.value)) }
+    ensures gives { IfOk result (λ after. Gives found.old found.new after.value (scope_row (around context.entry.rows.now.table context.entry.words.now context.entry.outside.now names.old) (names_declared statement.now) (λ inner. run inner statement.now) before.now.value)) }
     ensures names { OnOk result (names.new ≡ names.old) }
 {
-    match &statement.node {
-        StmtNode::Declare {
-            at,
-            declared,
-            name,
-            initial,
-        } => judge_declaration(context, names, *at, declared, name, initial, before, found),
-        StmtNode::Assign { at, target, value } => {
-            judge_assignment(context, names, *at, target, value, before, found)
-        }
-        StmtNode::Eval { at, value } => judge_value(context, names, *at, value, before, found),
-        StmtNode::Print { at, value } => judge_value(context, names, *at, value, before, found),
-        StmtNode::If {
-            at,
-            condition,
-            then_block,
-            else_block,
-        } => judge_if(
-            context, names, *at, condition, then_block, else_block, before, found,
-        ),
-        StmtNode::While {
-            at,
-            condition,
-            body,
-        } => judge_while(context, names, *at, condition, body, before, found),
-        StmtNode::Block { at, statements } => {
-            judge_block(context, names, *at, statements, before, found)
-        }
-    }
+    let declared = names_declared(context.alloc, statement)?;
+    let shadowed = names.enter(context.alloc, &declared)?;
+    let inside = judge_statement(context, names, statement, before, found)?;
+    names.leave(shadowed)?;
+    behind_scope(context.alloc, &declared, before, &inside)
 }
 
-// A branch: one block from where the condition is true, the other, or nothing, from where it is
+// A branch: one statement from where the condition is true, the other, or nothing, from where it is
 // false.
 #[cycle(judge)]
 fn judge_if(
@@ -111,161 +139,185 @@ fn judge_if(
     names: &mut NamesInScope,
     at: Place,
     condition: &Expr,
-    then_block: &Block,
-    else_block: &Option<Block>,
+    then_branch: &Stmt,
+    else_branch: &Option<Stmt>,
     before: &Rc<Flow>,
-    found: &mut Judged,
+    found: &mut Found,
 ) -> Result<Rc<Flow>, AllocError>
-    ensures gives { IfOk result (λ after. Gives found.old found.new after.value (run context.entry.rows.now names.old (if_statement at condition.now then_block.now (part_of else_block.now)) before.now.value) (typed_statement context.entry.rows.now names.old (if_statement at condition.now then_block.now (part_of else_block.now)) before.now.value)) }
+    ensures gives { IfOk result (λ after. Gives found.old found.new after.value (run (around context.entry.rows.now.table context.entry.words.now context.entry.outside.now names.old) (if_statement at condition.now then_branch.now (part_of else_branch.now)) before.now.value)) }
     ensures names { OnOk result (names.new ≡ names.old) }
 {
-    let alloc = context.alloc;
     let tested = judge_condition(context, names, condition, before, found)?;
-    let holds = branch_start(alloc, &tested.after, tested.when_true)?;
-    let then_block = judge_block(
-        context,
-        names,
-        then_block.at,
-        &then_block.statements,
-        &holds,
-        found,
-    )?;
-    let fails = branch_start(alloc, &tested.after, tested.when_false)?;
-    let else_block = judge_else(context, names, else_block, &fails, found)?;
-    let joined = Flow::join(alloc, &then_block, &else_block)?;
-    let after = shared(alloc, before, joined)?;
+    let one = judge_scope(context, names, then_branch, &tested.when_true, found)?;
+    let other = judge_else(context, names, else_branch, &tested.when_false, found)?;
+    let joined = Flow::join(context.alloc, &one, &other)?;
+    let after = shared(context.alloc, before, joined)?;
     say(at, None, before, &after, found)?;
     Ok(after)
 }
 
-// The block of an `else`, if there is one.
+// What stands behind an `else`, if there is one.
 #[cycle(judge)]
 fn judge_else(
     context: Context,
     names: &mut NamesInScope,
-    else_block: &Option<Block>,
+    else_branch: &Option<Stmt>,
     before: &Rc<Flow>,
-    found: &mut Judged,
+    found: &mut Found,
 ) -> Result<Rc<Flow>, AllocError>
-    ensures gives { IfOk result (λ after. Gives found.old found.new after.value (run_part context.entry.rows.now names.old (part_of else_block.now) before.now.value) (typed_part context.entry.rows.now names.old (part_of else_block.now) before.now.value)) }
+    ensures gives { IfOk result (λ after. Gives found.old found.new after.value (run_branch (around context.entry.rows.now.table context.entry.words.now context.entry.outside.now names.old) (part_of else_branch.now) before.now.value)) }
     ensures names { OnOk result (names.new ≡ names.old) }
 {
-    match else_block {
+    match else_branch {
         None => before.clone(),
-        Some(block) => judge_block(context, names, block.at, &block.statements, before, found),
+        Some(branch) => judge_scope(context, names, branch, before, found),
     }
 }
 
-// A loop: the condition is judged from what is known each time that it is come to, the body from
-// where it is true, and the loop ends where it is false.
+// A loop: the condition is judged from what is known each time that it is come to, the body from where
+// it is true, and the loop ends where it is false.
 #[cycle(judge)]
 fn judge_while(
     context: Context,
     names: &mut NamesInScope,
     at: Place,
     condition: &Expr,
-    body: &Block,
+    body: &Stmt,
     before: &Rc<Flow>,
-    found: &mut Judged,
+    found: &mut Found,
 ) -> Result<Rc<Flow>, AllocError>
-    ensures gives { IfOk result (λ after. Gives found.old found.new after.value (run context.entry.rows.now names.old (while_statement at condition.now body.now) before.now.value) (typed_statement context.entry.rows.now names.old (while_statement at condition.now body.now) before.now.value)) }
+    ensures gives { IfOk result (λ after. Gives found.old found.new after.value (run (around context.entry.rows.now.table context.entry.words.now context.entry.outside.now names.old) (while_statement at condition.now body.now) before.now.value)) }
     ensures names { OnOk result (names.new ≡ names.old) }
 {
-    let alloc = context.alloc;
-    let head = head_of_loop(alloc, names, body, before)?;
+    let written = written_in_loop(context, names, condition, body)?;
+    let head = head_of_loop(context.alloc, &written, before)?;
     let tested = judge_condition(context, names, condition, &head, found)?;
-    let holds = branch_start(alloc, &tested.after, tested.when_true)?;
-    judge_block(context, names, body.at, &body.statements, &holds, found)?;
-    let after = branch_start(alloc, &tested.after, tested.when_false)?;
+    judge_scope(context, names, body, &tested.when_true, found)?;
+    let after = tested.when_false.clone()?;
     say(at, None, before, &after, found)?;
     Ok(after)
 }
 
-// A declaration: its initializer is judged before the local comes into scope.
-fn judge_declaration(
+// Variables that are declared together, as a statement.
+fn judge_variables(
     context: Context,
     names: &NamesInScope,
     at: Place,
-    declared: &WrittenType,
-    name: &Name,
-    initial: &Option<Expr>,
+    list: &VariableList,
     before: &Rc<Flow>,
-    found: &mut Judged,
+    found: &mut Found,
 ) -> Result<Rc<Flow>, AllocError>
-    ensures { IfOk result (λ after. Gives found.old found.new after.value (run context.entry.rows.now names.now (declare at declared.now name.now (part_of initial.now)) before.now.value) (typed_statement context.entry.rows.now names.now (declare at declared.now name.now (part_of initial.now)) before.now.value)) }
+    ensures { IfOk result (λ after. Gives found.old found.new after.value (run (around context.entry.rows.now.table context.entry.words.now context.entry.outside.now names.now) (variable_statement at list.now) before.now.value)) }
 {
-    let ty = declared_type(context.alloc, declared)?;
-    let after = declare_local(context, names, name, ty, initial, before, found)?;
-    say(at, names.meaning(name.word), before, &after, found)?;
+    let after = declare_list(context, names, list, before, found)?;
+    say(at, None, before, &after, found)?;
     Ok(after)
 }
 
-// A local of the type comes into scope, once its initializer is judged.
-fn declare_local(
+// Variables that are declared together.
+fn declare_list(
     context: Context,
     names: &NamesInScope,
-    name: &Name,
-    ty: DartType,
-    initial: &Option<Expr>,
+    list: &VariableList,
     before: &Rc<Flow>,
-    found: &mut Judged,
+    found: &mut Found,
 ) -> Result<Rc<Flow>, AllocError>
-    ensures { IfOk result (λ after. Gives found.old found.new after.value (declare_local context.entry.rows.now names.now name.now ty (part_of initial.now) before.now.value) (typed_initializer context.entry.rows.now names.now (part_of initial.now) before.now.value)) }
+    ensures { IfOk result (λ after. Gives found.old found.new after.value (declare_list (around context.entry.rows.now.table context.entry.words.now context.entry.outside.now names.now) list.now before.now.value)) }
 {
-    match initial {
-        None => declare(context, names, name, ty, before, &mut found.faults),
-        Some(initializer) => {
-            let value = judge_expression(context, names, initializer, before, found)?;
-            initialize(context, names, name, ty, &value, &mut found.faults)
+    let ty = written_type(context, names, &list.written)?;
+    declare_variables(context, names, &ty, &list.variables, before, found)
+}
+
+// Variables of a type, one after another.
+fn declare_variables(
+    context: Context,
+    names: &NamesInScope,
+    ty: &DartType,
+    variables: &[Variable],
+    before: &Rc<Flow>,
+    found: &mut Found,
+) -> Result<Rc<Flow>, AllocError>
+    ensures { IfOk result (λ after. Gives found.old found.new after.value (declare_all (around context.entry.rows.now.table context.entry.words.now context.entry.outside.now names.now) ty.now (trees_of variables.now) before.now.value)) }
+{
+    let mut after = before.clone()?;
+    for variable in variables {
+        after = declare_variable(context, names, ty, variable, &after, found)?;
+    }
+    Ok(after)
+}
+
+// A variable: its initializer is judged before the local comes into scope.
+fn declare_variable(
+    context: Context,
+    names: &NamesInScope,
+    ty: &DartType,
+    variable: &Variable,
+    before: &Rc<Flow>,
+    found: &mut Found,
+) -> Result<Rc<Flow>, AllocError>
+    ensures { IfOk result (λ after. Gives found.old found.new after.value (declare (around context.entry.rows.now.table context.entry.words.now context.entry.outside.now names.now) ty.now variable.now before.now.value)) }
+{
+    let element = Some(Meaning::Local(declared_local(variable.name)));
+    match &variable.initializer {
+        None => {
+            let after = declare(context, names, variable.name, ty, before, &mut found.faults)?;
+            say(variable.at, element, before, &after, found)?;
+            Ok(after)
+        }
+        Some(value) => {
+            let value = judge_expression(context, names, value, Some(ty), before, found)?;
+            let after = initialize(context, names, variable.name, ty, &value, &mut found.faults)?;
+            say(variable.at, element, before, &after, found)?;
+            Ok(after)
         }
     }
 }
 
-// An assignment: its value is judged before the local is written.
-fn judge_assignment(
+// An expression that stands as a statement.
+fn judge_effect(
     context: Context,
     names: &NamesInScope,
     at: Place,
-    target: &Name,
-    value: &Expr,
+    value: &Option<Expr>,
     before: &Rc<Flow>,
-    found: &mut Judged,
+    found: &mut Found,
 ) -> Result<Rc<Flow>, AllocError>
-    ensures { IfOk result (λ after. Gives found.old found.new after.value (run context.entry.rows.now names.now (assign at target.now value.now) before.now.value) (typed_statement context.entry.rows.now names.now (assign at target.now value.now) before.now.value)) }
+    ensures { IfOk result (λ after. Gives found.old found.new after.value (run (around context.entry.rows.now.table context.entry.words.now context.entry.outside.now names.now) (expression_statement at (part_of value.now)) before.now.value)) }
 {
-    let written = judge_expression(context, names, value, before, found)?;
-    let after = assign(context, names, target, &written, &mut found.faults)?;
-    say(at, names.meaning(target.word), before, &after, found)?;
+    let after = judge_value(context, names, value, before, found)?;
+    say(at, None, before, &after, found)?;
     Ok(after)
 }
 
-// A value that is only evaluated, or printed.
+// An expression that stands as a statement, or nothing.
 fn judge_value(
     context: Context,
     names: &NamesInScope,
-    at: Place,
-    value: &Expr,
+    value: &Option<Expr>,
     before: &Rc<Flow>,
-    found: &mut Judged,
+    found: &mut Found,
 ) -> Result<Rc<Flow>, AllocError>
-    ensures evaluated { IfOk result (λ after. Gives found.old found.new after.value (run context.entry.rows.now names.now (eval at value.now) before.now.value) (typed_statement context.entry.rows.now names.now (eval at value.now) before.now.value)) }
-    ensures printed { IfOk result (λ after. Gives found.old found.new after.value (run context.entry.rows.now names.now (print at value.now) before.now.value) (typed_statement context.entry.rows.now names.now (print at value.now) before.now.value)) }
+    ensures { IfOk result (λ after. Gives found.old found.new after.value (evaluate_part (around context.entry.rows.now.table context.entry.words.now context.entry.outside.now names.now) (part_of value.now) before.now.value)) }
 {
-    let judged = judge_expression(context, names, value, before, found)?;
-    say(at, None, before, &judged.after, found)?;
-    Ok(judged.after)
+    match value {
+        None => before.clone(),
+        Some(value) => {
+            let typed = judge_expression(context, names, value, None, before, found)?;
+            Ok(typed.after)
+        }
+    }
 }
 
-// Adds what is said of a statement or a block to what is said of the nodes before it.
+// Adds what is said of a statement, or of a variable that is declared.
 fn say(
     at: Place,
-    element: Option<LocalId>,
+    element: Option<Meaning>,
     before: &Rc<Flow>,
     after: &Rc<Flow>,
-    found: &mut Judged,
+    found: &mut Found,
 ) -> Result<(), AllocError>
     ensures faults { OnOk result (found.new.faults.items ≡ found.old.faults.items) }
-    ensures nodes { OnOk result (found.new.nodes.items ≡ found.old.nodes.items ++ said_at at element before.now.value after.now.value ∷ []) }
+    ensures nodes { OnOk result (found.new.nodes.items ≡ found.old.nodes.items ++ said_of_statement at.node element before.now.value after.now.value ∷ []) }
 {
     found.nodes.push(TypedNode {
         node: at.node,
@@ -273,23 +325,66 @@ fn say(
         element,
         before: before.clone()?,
         after: after.clone()?,
-        when_true: Branch::Same,
-        when_false: Branch::Same,
+        when_true: after.clone()?,
+        when_false: after.clone()?,
     })?;
     Ok(())
 }
 
-// The type that a written type is.
-fn declared_type(alloc: Global, written: &WrittenType) -> Result<DartType, AllocError>
-    ensures { IfOk result (λ ty. ty ≡ type_of written.now) }
+// The type that is written.
+fn written_type(
+    context: Context,
+    names: &NamesInScope,
+    written: &Option<WrittenType>,
+) -> Result<DartType, AllocError>
+    ensures { IfOk result (λ ty. ty ≡ written_type (around context.entry.rows.now.table context.entry.words.now context.entry.outside.now names.now) (part_of written.now)) }
 {
-    match &written.node {
-        WrittenTypeNode::Int { nullable, .. } => {
-            if *nullable {
-                return DartType::nullable(alloc, int_type());
+    match written {
+        None => Ok(invalid_type()),
+        Some(written) => type_of(context, names, written),
+    }
+}
+
+// The type that a written type is.
+fn type_of(
+    context: Context,
+    names: &NamesInScope,
+    written: &WrittenType,
+) -> Result<DartType, AllocError>
+    ensures { IfOk result (λ ty. ty ≡ type_of (around context.entry.rows.now.table context.entry.words.now context.entry.outside.now names.now) written.now) }
+{
+    match &*written.node {
+        WrittenTypeNode::Named {
+            prefix,
+            name,
+            arguments,
+            nullable,
+            ..
+        } => {
+            if prefix.is_some() || arguments.is_some() {
+                return Ok(invalid_type());
             }
-            Ok(int_type())
+            named_type(context, meaning_of(context, names, name.word), *nullable)
         }
-        WrittenTypeNode::Bool { .. } => Ok(bool_type()),
+        _ => Ok(invalid_type()),
+    }
+}
+
+// The type that a name is, with `?` behind it or without.
+fn named_type(context: Context, meaning: Meaning, nullable: bool) -> Result<DartType, AllocError>
+    ensures { IfOk result (λ ty. ty ≡ type_row meaning nullable) }
+{
+    match meaning {
+        Meaning::Class(class) => {
+            let ty = DartType::class(context.alloc, class)?;
+            if nullable {
+                return DartType::nullable(context.alloc, ty);
+            }
+            Ok(ty)
+        }
+        Meaning::Nothing => Ok(invalid_type()),
+        Meaning::Local(_) => Ok(invalid_type()),
+        Meaning::Print => Ok(invalid_type()),
+        Meaning::Other => Ok(invalid_type()),
     }
 }

@@ -1,41 +1,25 @@
-//! Types, and what the rows ask of them.
+//! What the rows ask of types.
 
-ghost use Rattle.std.specs.Prelude.{◌≡◌};
-ghost use Rattle.small_flow.specs.Ty.{bool, int, invalid, never, null, same_type};
-ghost use Rattle.judgement.specs.Rows as row;
+ghost use Rattle.std.specs.Prelude.{◌≡◌, IfOk};
+ghost use Rattle.std.specs.Option.{option_copied};
+ghost use Rattle.dart_types.specs.Ty.{invalid, never, null};
+ghost use Rattle.dart_types.specs.Same.{same_type};
+ghost use Rattle.dart_types.specs.SubTest.{sub};
+ghost use Rattle.judgement.specs.Given as given;
+ghost use Rattle.judgement.specs.ExpressionRows as row;
 
-use small_flow::{DartType, Rows, TypeNode, is_subtype};
+use super::core_types::CoreTypes;
+use dart_tree::BinaryOperatorKind;
+use dart_types::{DartType, INT, Rows, TypeNode, is_subtype};
+use judgement::Operation;
+use std::alloc::{AllocError, Global};
 
-pub(super) fn int_type() -> DartType
-    ensures { result ≡ int }
+// Whether a value of the type s may stand where t is wanted. Of a type that has a diagnostic no more
+// is said.
+pub(super) fn fits(rows: &Rows, s: &DartType, t: &DartType) -> bool
+    ensures { result ≡ given.fits rows.now.table s.now t.now }
 {
-    DartType {
-        node: TypeNode::Int,
-    }
-}
-
-pub(super) fn bool_type() -> DartType
-    ensures { result ≡ bool }
-{
-    DartType {
-        node: TypeNode::Bool,
-    }
-}
-
-pub(super) fn null_type() -> DartType
-    ensures { result ≡ null }
-{
-    DartType {
-        node: TypeNode::Null,
-    }
-}
-
-pub(super) fn never_type() -> DartType
-    ensures { result ≡ never }
-{
-    DartType {
-        node: TypeNode::Never,
-    }
+    s.holds_invalid() || t.holds_invalid() || is_subtype(rows, s, t)
 }
 
 // The type of what has a diagnostic.
@@ -45,19 +29,6 @@ pub(super) fn invalid_type() -> DartType
     DartType {
         node: TypeNode::Invalid,
     }
-}
-
-// Whether s may stand where t is wanted. Of a type that has a diagnostic no more is said.
-pub(super) fn fits(rows: &Rows, s: &DartType, t: &DartType) -> bool
-    ensures { result ≡ row.fits rows.now s.now t.now }
-{
-    is_invalid(s) || is_invalid(t) || is_subtype(rows, s, t)
-}
-
-pub(super) fn is_invalid(t: &DartType) -> bool
-    ensures { result ≡ row.is_invalid t.now }
-{
-    matches!(&t.bare().node, TypeNode::Invalid)
 }
 
 pub(super) fn is_null(t: &DartType) -> bool
@@ -72,9 +43,69 @@ pub(super) fn is_never(t: &DartType) -> bool
     matches!(&t.node, TypeNode::Never)
 }
 
-// Whether the type, null aside, has the operators `+` and `<`.
-pub(super) fn has_operators(t: &DartType) -> bool
-    ensures { result ≡ row.has_operators t.now }
+// What is left of a type without its `?`.
+fn bare(t: &DartType) -> &DartType
+    ensures { result.now ≡ row.bare_of t.now }
 {
-    matches!(&t.bare().node, TypeNode::Int)
+    match &t.node {
+        TypeNode::Nullable(bare) => bare,
+        _ => t,
+    }
+}
+
+// The operators of int.
+fn int_operation(
+    alloc: Global,
+    core: &CoreTypes,
+    kind: BinaryOperatorKind,
+) -> Result<Option<Operation>, AllocError>
+    ensures { IfOk result (λ operation. operation ≡ row.int_operation kind) }
+{
+    match kind {
+        BinaryOperatorKind::Add => Ok(Some(Operation {
+            parameter: core.int().copy(alloc)?,
+            result: core.int().copy(alloc)?,
+        })),
+        BinaryOperatorKind::Less => Ok(Some(Operation {
+            parameter: core.int().copy(alloc)?,
+            result: core.bool().copy(alloc)?,
+        })),
+        _ => Ok(None),
+    }
+}
+
+// The operator that a type has.
+pub(super) fn operation_in(
+    alloc: Global,
+    core: &CoreTypes,
+    t: &DartType,
+    kind: BinaryOperatorKind,
+) -> Result<Option<Operation>, AllocError>
+    ensures { IfOk result (λ operation. operation ≡ row.operation_in t.now kind) }
+{
+    match &t.node {
+        TypeNode::Interface { class, .. } => {
+            if *class == INT {
+                return int_operation(alloc, core, kind);
+            }
+            Ok(None)
+        }
+        _ => Ok(None),
+    }
+}
+
+// The operator that is used of a value of this type: its own, and else that of the type without its
+// `?`.
+pub(super) fn operation_of(
+    alloc: Global,
+    core: &CoreTypes,
+    t: &DartType,
+    kind: BinaryOperatorKind,
+) -> Result<Option<Operation>, AllocError>
+    ensures { IfOk result (λ operation. operation ≡ row.operation_of t.now kind) }
+{
+    if let Some(own) = operation_in(alloc, core, t, kind)? {
+        return Ok(Some(own));
+    }
+    operation_in(alloc, core, bare(t), kind)
 }

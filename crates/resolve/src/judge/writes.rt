@@ -1,56 +1,98 @@
 //! What declarations and assignments do with a local.
 
-ghost use Rattle.std.specs.Prelude.{◌≡◌, ◌++◌, IfOk, IsNone, OnOk};
-ghost use Rattle.small_flow.specs.Flow.{at_local, declare_of, facts_of};
-ghost use Rattle.small_flow.specs.Assign.{assign_facts};
-ghost use Rattle.judgement.specs.Rows as row;
-ghost use Rattle.resolve.specs.Judged.{RowGives};
+ghost use Rattle.std.specs.Prelude.{◌≡◌, ◌++◌, ℕ, List, if◌then◌else◌, IfOk, IsNone, OnOk};
+ghost use Rattle.dart_types.specs.Tables.{Table};
+ghost use Rattle.judgement.specs.declared.meaning.Meaning.{Meaning};
+ghost use Rattle.dart_types.specs.Ty.{invalid};
+ghost use Rattle.dart_types.specs.SubTest.{sub};
+ghost use Rattle.std.specs.Option.{option_copied};
+ghost use Rattle.flow_model.specs.Flow.{at_local, declare_of, facts_of};
+ghost use Rattle.flow_model.specs.Assign.{assign_facts};
+ghost use Rattle.judgement.specs.ExpressionRows as row;
+ghost use Rattle.judgement.specs.StatementRows as statement;
+ghost use Rattle.resolve.specs.Around.{around};
+ghost use Rattle.resolve.specs.Judged.{Has, RowEvaluates, RowGives, typed_of};
 
 use super::models::shared;
-use super::types::fits;
-use super::{Context, Typed, report};
-use crate::names::NamesInScope;
-use judgement::{DiagnosticCode, Fault};
-use small_flow::{DartType, Flow, LocalDecl, LocalId, Rows, declare_adds_one_local};
-use small_tree::{Name, Place};
+use super::operators::check_fit;
+use super::types::invalid_type;
+use super::{Context, Typed, of_type, report};
+use crate::names::{NamesInScope, declared_local};
+use dart_tree::{Name, Place};
+use dart_types::{DartType, is_subtype};
+use flow_model::{Flow, LocalDecl, LocalId};
+use judgement::{DiagnosticCode, Fault, Meaning};
 use std::alloc::AllocError;
 use std::rc::Rc;
 
-// An assignment writes the local that the name means.
+// The type that is wanted of a value that is assigned: that of the local.
+pub(super) fn wanted_by(meaning: Meaning, before: &Flow) -> Option<&DartType>
+    ensures { option_copied result ≡ row.wanted_by meaning before.now }
+{
+    match meaning {
+        Meaning::Local(var) => before.declared(var),
+        Meaning::Nothing => None,
+        Meaning::Print => None,
+        Meaning::Class(_) => None,
+        Meaning::Other => None,
+    }
+}
+
+// An assignment, which stands at the place, writes the local that the name means.
 pub(super) fn assign(
     context: Context,
-    names: &NamesInScope,
-    target: &Name,
+    at: Place,
+    meaning: Meaning,
+    target: Place,
     value: &Typed,
     faults: &mut Vec<Fault>,
-) -> Result<Rc<Flow>, AllocError>
-    ensures { IfOk result (λ after. RowGives faults.old.items faults.new.items after.value (row.assign_row context.entry.rows.now names.now target.now value.now.at value.now.ty value.now.after.value)) }
+) -> Result<Typed, AllocError>
+    ensures { IfOk result (λ typed. RowEvaluates faults.old.items faults.new.items typed at (row.assigned_row context.entry.rows.now.table meaning target value.now.at (typed_of value.now))) }
 {
-    match names.meaning(target.word) {
-        Some(var) => write(context, target.at, var, value, faults),
-        None => {
-            report(target.at.span, DiagnosticCode::UndefinedName, faults)?;
-            value.after.clone()
+    match meaning {
+        Meaning::Local(var) => write(context, at, target, var, value, faults),
+        Meaning::Nothing => {
+            report(target.span, DiagnosticCode::UndefinedName, faults)?;
+            unwritten(at, value)
         }
+        Meaning::Print => unwritten(at, value),
+        Meaning::Class(_) => unwritten(at, value),
+        Meaning::Other => unwritten(at, value),
     }
+}
+
+// An assignment that writes nothing.
+fn unwritten(at: Place, value: &Typed) -> Result<Typed, AllocError>
+    ensures { IfOk result (λ typed. Has typed at (record (typed_of value.now) { ty = invalid; when_true = value.now.after.value; when_false = value.now.after.value })) }
+{
+    of_type(at, invalid_type(), value.after.clone()?)
 }
 
 // A local is written, if it is declared before.
 fn write(
     context: Context,
+    at: Place,
     target: Place,
     var: LocalId,
     value: &Typed,
     faults: &mut Vec<Fault>,
-) -> Result<Rc<Flow>, AllocError>
-    ensures { IfOk result (λ after. RowGives faults.old.items faults.new.items after.value (row.write_row context.entry.rows.now target value.now.at value.now.ty var (facts_of value.now.after.value var) value.now.after.value)) }
+) -> Result<Typed, AllocError>
+    ensures { IfOk result (λ typed. RowEvaluates faults.old.items faults.new.items typed at (row.write_row context.entry.rows.now.table target value.now.at var (facts_of value.now.after.value var) (typed_of value.now))) }
 {
     match value.after.declared(var) {
         Some(declared) => {
-            check_fit(context.rows, value, declared, faults)?;
+            check_fit(
+                context.rows,
+                DiagnosticCode::InvalidAssignment,
+                value,
+                declared,
+                faults,
+            )?;
+            let ty = assigned_type(context, &value.ty, declared)?;
             let mut written = value.after.copy(context.alloc)?;
             written.assign(context.alloc, context.rows, var, &value.ty)?;
-            shared(context.alloc, &value.after, written)
+            let after = shared(context.alloc, &value.after, written)?;
+            of_type(at, ty, after)
         }
         None => {
             report(
@@ -58,61 +100,84 @@ fn write(
                 DiagnosticCode::ReferencedBeforeDeclaration,
                 faults,
             )?;
-            value.after.clone()
+            unwritten(at, value)
         }
     }
 }
 
-// A declaration without initializer: the local comes into scope, unless it is there already.
+// The type of an assignment: that of the value, where it fits.
+fn assigned_type(
+    context: Context,
+    value: &DartType,
+    declared: &DartType,
+) -> Result<DartType, AllocError>
+    ensures { IfOk result (λ ty. ty ≡ (if sub context.entry.rows.now.table value.now declared.now then value.now else invalid)) }
+{
+    if is_subtype(context.rows, value, declared) {
+        return value.copy(context.alloc);
+    }
+    Ok(invalid_type())
+}
+
+// Whether the block has declared a name before: its word means another local, or its own is in scope.
+fn is_declared_before(names: &NamesInScope, name: Name, before: &Flow) -> bool
+    ensures { (table : Table) (words : List (List ℕ)) (outside : List Meaning) → result ≡ statement.is_declared_before (around table words outside names.now) name before.now }
+{
+    let own = declared_local(name);
+    match names.local(name.word) {
+        Some(var) => var.0 != own.0 || before.is_in_scope(own),
+        None => true,
+    }
+}
+
+// A variable without initializer: the local comes into scope, unless its name was declared before.
 pub(super) fn declare(
     context: Context,
     names: &NamesInScope,
-    name: &Name,
-    ty: DartType,
+    name: Name,
+    ty: &DartType,
     before: &Rc<Flow>,
     faults: &mut Vec<Fault>,
 ) -> Result<Rc<Flow>, AllocError>
-    ensures { IfOk result (λ after. RowGives faults.old.items faults.new.items after.value (row.declare_row names.now name.now ty before.now.value)) }
+    ensures { IfOk result (λ after. RowGives faults.old.items faults.new.items after.value (statement.declare_row (around context.entry.rows.now.table context.entry.words.now context.entry.outside.now names.now) name ty.now before.now.value)) }
 {
-    match names.meaning(name.word) {
-        Some(var) => {
-            if before.is_in_scope(var) {
-                report(name.at.span, DiagnosticCode::DuplicateDefinition, faults)?;
-                return before.clone();
-            }
-            let mut declared = before.copy(context.alloc)?;
-            declared.declare(context.alloc, &local(var, ty, false))?;
-            Ok(Rc::new(context.alloc, declared)?)
-        }
-        None => before.clone(),
+    if is_declared_before(names, name, before) {
+        report(name.at.span, DiagnosticCode::DuplicateDefinition, faults)?;
+        return before.clone();
     }
+    let mut declared = before.copy(context.alloc)?;
+    let local = local(context, declared_local(name), ty, false)?;
+    declared.declare(context.alloc, &local)?;
+    Ok(Rc::new(context.alloc, declared)?)
 }
 
-// A declaration with an initializer, once that is judged: it must have the declared type, and the
-// local comes into scope with its value, unless it is there already.
+// What follows an initializer, once that is judged: it must have the declared type, and the local
+// comes into scope with its value, unless its name was declared before.
 pub(super) fn initialize(
     context: Context,
     names: &NamesInScope,
-    name: &Name,
-    ty: DartType,
+    name: Name,
+    ty: &DartType,
     value: &Typed,
     faults: &mut Vec<Fault>,
 ) -> Result<Rc<Flow>, AllocError>
-    ensures { IfOk result (λ after. RowGives faults.old.items faults.new.items after.value (row.initialize_row context.entry.rows.now names.now name.now ty value.now.at value.now.ty value.now.after.value)) }
+    ensures { IfOk result (λ after. RowGives faults.old.items faults.new.items after.value (statement.initialized_row (around context.entry.rows.now.table context.entry.words.now context.entry.outside.now names.now) name ty.now value.now.at value.now.ty value.now.after.value)) }
 {
-    match names.meaning(name.word) {
-        Some(var) => {
-            check_fit(context.rows, value, &ty, faults)?;
-            if value.after.is_in_scope(var) {
-                report(name.at.span, DiagnosticCode::DuplicateDefinition, faults)?;
-                return value.after.clone();
-            }
-            let mut declared = value.after.copy(context.alloc)?;
-            declare_with_value(context, &local(var, ty, true), &value.ty, &mut declared)?;
-            Ok(Rc::new(context.alloc, declared)?)
-        }
-        None => value.after.clone(),
+    check_fit(
+        context.rows,
+        DiagnosticCode::InvalidAssignment,
+        value,
+        ty,
+        faults,
+    )?;
+    if is_declared_before(names, name, &value.after) {
+        report(name.at.span, DiagnosticCode::DuplicateDefinition, faults)?;
+        return value.after.clone();
     }
+    let mut declared = value.after.copy(context.alloc)?;
+    let local = local(context, declared_local(name), ty, true)?;
+    declare_with_value(context, &local, &value.ty, &mut declared)?;
+    Ok(Rc::new(context.alloc, declared)?)
 }
 
 // A local comes into scope and is written with a value of the type.
@@ -123,38 +188,26 @@ fn declare_with_value(
     flow: &mut Flow,
 ) -> Result<(), AllocError>
     requires { IsNone (facts_of flow.old local.now.var) }
-    ensures { OnOk result (flow.new ≡ at_local (declare_of flow.old local.now) local.now.var (assign_facts context.entry.rows.now written.now)) }
+    ensures { OnOk result (flow.new ≡ at_local (declare_of flow.old local.now) local.now.var (assign_facts context.entry.rows.now.table written.now)) }
 {
-    // Shows that the local is in scope for the write.
-    declare_adds_one_local(flow, local, local.var);
     flow.declare(context.alloc, local)?;
     flow.assign(context.alloc, context.rows, local.var, written)
 }
 
 // A local as it comes into scope: one that admits null and has no initializer starts as null.
-fn local(var: LocalId, ty: DartType, initialized: bool) -> LocalDecl
-    ensures { result ≡ row.declared_local ty var initialized }
+fn local(
+    context: Context,
+    var: LocalId,
+    ty: &DartType,
+    initialized: bool,
+) -> Result<LocalDecl, AllocError>
+    ensures { IfOk result (λ local. local ≡ statement.declared_local context.entry.rows.now.table ty.now var initialized) }
 {
-    let null = ty.admits_null() && !initialized;
-    LocalDecl {
+    let null = is_subtype(context.rows, context.core.null(), ty) && !initialized;
+    Ok(LocalDecl {
         var,
-        ty,
+        ty: ty.copy(context.alloc)?,
         assigned: null,
         unassigned: !null,
-    }
-}
-
-// A value must have the type of the variable that it is written to.
-fn check_fit(
-    rows: &Rows,
-    value: &Typed,
-    declared: &DartType,
-    faults: &mut Vec<Fault>,
-) -> Result<(), AllocError>
-    ensures { OnOk result (faults.new.items ≡ faults.old.items ++ row.fit_faults rows.now value.now.at value.now.ty declared.now) }
-{
-    if fits(rows, &value.ty, declared) {
-        return Ok(());
-    }
-    report(value.at.span, DiagnosticCode::InvalidAssignment, faults)
+    })
 }

@@ -6,43 +6,43 @@ use std::test::Fail;
 
 // `TEXT|STEPS|OUTPUT`: a program with its steps, the last of which ends it, and what it prints.
 const PROGRAMS: &str = "
-void main(){}|1|
-void main(){1+2;3;}|2|
-void main(){print(1+2);}|3|3¶
-void main(){print(9223372036854775807+1);}|3|-9223372036854775808¶
-void main(){print((1)+(2));}|3|3¶
-void main(){print((1+2)+3);}|4|6¶
-void main(){print(1+2<4);}|4|true¶
-void main(){int? x=5;if(((x)!=null)){print(x+x);}}|5|10¶
-void main(){int? x;if(x!=null){print(x+1);}else{x=4;print(x+1);}print(x);}|7|5¶4¶
-void main(){print(null);print(true);print(false);print(0);print(7);}|6|null¶true¶false¶0¶7¶
-void main(){print(1<2);print(2<1);print(2<2);print(1!=1);print(1!=2);}|11|true¶false¶false¶false¶true¶
-void main(){print(true!=false);print(null!=null);print(1!=null);}|7|true¶false¶true¶
-void main(){int x=1;x=x+1;print(x);}|5|2¶
-void main(){if(true){print(1);}else{print(2);}}|3|1¶
-void main(){if(1<0){print(1);}print(3);}|4|3¶
-void main(){int i=0;while(i<3){print(i);i=i+1;}}|23|0¶1¶2¶
-void main(){int x=1;{int x=2;print(x);}print(x);}|5|2¶1¶
-void main(){bool b=1!=2;print(b);}|4|true¶
-void main(){int? x=5;if(x!=null){print(x+x);}}|5|10¶
-void main(){int? x=5;print(x!=null);}|4|true¶
-void main(){int x=0x7fffffffffffffff;int y=x+x;print(y);}|5|-2¶
-void main(){int x=0xffffffffffffffff;print(x);}|3|-1¶
-void main(){int i=0;while(i!=2){int? x;if(x!=null){print(9);}print(x);x=i;i=i+1;}}|23|null¶null¶
-void main(){int x;if(1<2){x=1;}else{x=2;}print(x);}|6|1¶
-void main(){while(false){print(1);}print(2);}|4|2¶
-void main(){int i=0;while(i<2){int j=0;while(j<2){print(i+j);j=j+1;}i=i+1;}}|51|0¶1¶1¶2¶
+void main(){}|2|
+void main(){1+2;3;}|3|
+void main(){print(1+2);}|4|3¶
+void main(){print(9223372036854775807+1);}|4|-9223372036854775808¶
+void main(){print((1)+(2));}|4|3¶
+void main(){print((1+2)+3);}|5|6¶
+void main(){print(1+2<4);}|5|true¶
+void main(){int? x=5;if(((x)!=null)){print(x+x);}}|8|10¶
+void main(){int? x;if(x!=null){print(x+1);}else{x=4;print(x+1);}print(x);}|10|5¶4¶
+void main(){print(null);print(true);print(false);print(0);print(7);}|7|null¶true¶false¶0¶7¶
+void main(){print(1<2);print(2<1);print(2<2);print(1!=1);print(1!=2);}|12|true¶false¶false¶false¶true¶
+void main(){print(true!=false);print(null!=null);print(1!=null);}|8|true¶false¶true¶
+void main(){int x=1;x=x+1;print(x);}|8|2¶
+void main(){if(true){print(1);}else{print(2);}}|4|1¶
+void main(){if(1<0){print(1);}print(3);}|5|3¶
+void main(){int i=0;while(i<3){print(i);i=i+1;}}|34|0¶1¶2¶
+void main(){int x=1;{int x=2;print(x);}print(x);}|8|2¶1¶
+void main(){bool b=1!=2;print(b);}|6|true¶
+void main(){int? x=5;if(x!=null){print(x+x);}}|8|10¶
+void main(){int? x=5;print(x!=null);}|6|true¶
+void main(){int x=0x7fffffffffffffff;int y=x+x;print(y);}|9|-2¶
+void main(){int x=0xffffffffffffffff;print(x);}|5|-1¶
+void main(){int i=0;while(i!=2){int? x;if(x!=null){print(9);}print(x);x=i;i=i+1;}}|33|null¶null¶
+void main(){int x;if(1<2){x=1;}else{x=2;}print(x);}|8|1¶
+void main(){while(false){print(1);}print(2);}|5|2¶
+void main(){int i=0;while(i<2){int j=0;while(j<2){print(i+j);j=j+1;}i=i+1;}}|75|0¶1¶1¶2¶
 ";
 
 // `TEXT|STEPS|STATUS|OUTPUT`: a file, the steps that it is run for, and the status and the output.
 const RUNS: &str = "
 void main(){print(1);while(true){print(2);}}|0|StepsSpent|steps spent¶
-void main(){print(1);while(true){print(2);}}|7|StepsSpent|1¶2¶2¶steps spent¶
+void main(){print(1);while(true){print(2);}}|9|StepsSpent|1¶2¶2¶steps spent¶
 void main(){while(true){}}|1000|StepsSpent|steps spent¶
 void main(){}|999999999999999|Done|
--- An output is written in pieces of 65,536 bytes: this is one of 80,000 bytes, in 240,005 steps.
-void main(){int i=0;while(i<40000){print(1);i=i+1;}}|240005|Done|«40000:1¶»
-void main(){int i=0;while(i<40000){print(1);i=i+1;}}|240004|StepsSpent|«40000:1¶»steps spent¶
+-- An output is written in pieces of 65,536 bytes: this is one of 80,000 bytes, in 320,007 steps.
+void main(){int i=0;while(i<40000){print(1);i=i+1;}}|320007|Done|«40000:1¶»
+void main(){int i=0;while(i<40000){print(1);i=i+1;}}|320006|StepsSpent|«40000:1¶»steps spent¶
 -- Where there are diagnostics, no step is taken.
 void main(){¶/*😀*/x;¶int y=true;}|9|Errors|/a.dart:2:7: undefined_name: Undefined name.¶/a.dart:3:7: invalid_assignment: Invalid assignment.¶
 void main(){¶/*😀*/x;¶int y=true;}|0|Errors|/a.dart:2:7: undefined_name: Undefined name.¶/a.dart:3:7: invalid_assignment: Invalid assignment.¶

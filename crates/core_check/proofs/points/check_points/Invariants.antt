@@ -3,4 +3,4 @@ use Rattle.core_check.specs.Faults.{faults_at}
 use Rattle.core_check.proofs.points.check_points.Given as goal
 
 abbrev pub invariant-loop-number : goal.invariant-loop-number
-invariant-loop-number l = (k : ℕ) → k < l.number → faults_at l.context.program.now k ≡ []
+invariant-loop-number l = (k : ℕ) → k < l.number → faults_at l.program k ≡ []

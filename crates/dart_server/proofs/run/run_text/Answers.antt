@@ -1,7 +1,8 @@
-use Rattle.std.proofs.Common.{◌≡◌, ◌≢◌, ◌∙◌, List, [], None, Some, sym, subst}
-use Rattle.judgement.specs.declared.Fault.{Fault}
+use Rattle.std.proofs.Common.{◌≡◌, ◌≢◌, ◌∙◌, List, [], None, Some, option_map, sym, ap, subst}
+use Rattle.std.specs.Option.{option_copied}
+use Rattle.judgement.specs.declared.fault.Fault.{Fault}
 use Rattle.check_library.specs.Diagnostics.{diagnostics}
-use Rattle.check_library.specs.Checked.{IsCheckOf}
+use Rattle.check_library.specs.Checked.{IsCheckOf, main_of_checked}
 use Rattle.diagnostics.specs.Rendering.{rows_of, lines_of_rows}
 use Rattle.core_machine.specs.State.{run_of}
 use Rattle.dart_server.specs.declared.status.Status.TheVariants.{Errors, Refused}
@@ -27,15 +28,17 @@ pub returns-in-Some-clause-writes : goal.returns-in-Some-clause-writes
 returns-in-Some-clause-writes g c =
     let none : c.as_slice-faults.result.now ≡ [] = none_of_length c.as_slice-faults.result.now (sym c.is_empty.ensures ∙ c.if-not-is_empty.false) in
     let check : IsCheckOf c.args.text.now c.in_ok-checked.checked = c.in_ok-checked.ensures.check in
+    let body : option_map (λ main. main.1) (main_of_checked c.in_ok-checked.checked) ≡ Some c.in-Some.body.now = sym c.main.ensures ∙ ap option_copied c.in-Some.is in
     writes_map (Prints (run_of c.in_ok-program-in-Some.program c.args.steps)) _ _ _ _
-    (λ output status prints. given_by_unit c.args.file.now c.args.text.now c.args.steps c.in_ok-checked.checked (Some c.in-Some.unit) check (sym c.as_slice-faults.ensures ∙ none) c.in-Some.is output status
-    (given_by_program c.args.steps c.in-Some.unit c.in_ok-program-in-Some.program c.in_ok-program-in-Some.ensures.program c.in_ok-program-in-Some.ensures.sound output status prints))
+    (λ output status prints. given_by_unit c.args.file.now c.args.text.now c.args.steps c.in_ok-checked.checked (Some c.in-Some.body.now) check (sym c.as_slice-faults.ensures ∙ none) body output status
+    (given_by_program c.args.text.now c.args.steps c.in_ok-checked.checked c.in-Some.body.now c.in_ok-program-in-Some.program check c.in_ok-program-in-Some.ensures.program c.in_ok-program-in-Some.ensures.sound output status prints))
     c.run_program.ensures.writes
 
 pub returns-clause-writes : goal.returns-clause-writes
 returns-clause-writes g c =
     let none : c.as_slice-faults.result.now ≡ [] = none_of_length c.as_slice-faults.result.now (sym c.is_empty.ensures ∙ c.if-not-is_empty.false) in
     let check : IsCheckOf c.args.text.now c.in_ok-checked.checked = c.in_ok-checked.ensures.check in
+    let body : option_map (λ main. main.1) (main_of_checked c.in_ok-checked.checked) ≡ None = sym c.main.ensures ∙ ap option_copied c.in-None.is in
     writes_map (Says no_main_line Refused) _ _ _ _
-    (λ output status says. given_by_unit c.args.file.now c.args.text.now c.args.steps c.in_ok-checked.checked None check (sym c.as_slice-faults.ensures ∙ none) c.in-None.is output status says)
+    (λ output status says. given_by_unit c.args.file.now c.args.text.now c.args.steps c.in_ok-checked.checked None check (sym c.as_slice-faults.ensures ∙ none) body output status says)
     c.say.ensures.writes

@@ -1,5 +1,5 @@
 use Rattle.std.proofs.Common.{List, sym, ap, ◌∙◌}
-use Rattle.judgement.specs.declared.Fault.{Fault}
+use Rattle.judgement.specs.declared.fault.Fault.{Fault}
 use Rattle.diagnostics.specs.Rendering.{rows_of}
 use Rattle.protocol_rules.specs.Files.{text_of}
 use Rattle.request_core.proofs.HoldingLemmas.{analyzed_held, diagnostics_held, errors_are}

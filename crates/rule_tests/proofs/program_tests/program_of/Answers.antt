@@ -1,8 +1,10 @@
-use Rattle.std.proofs.Common.{◌≡◌, ◌∙◌, List, [], sym}
-use Rattle.rule_tests.proofs.Faultless.{none_of_length, faultless}
+use Rattle.std.proofs.Common.{ap, sym, subst}
+use Rattle.dart_types.specs.FormedTable.{FormedTable}
+use Rattle.dart_types.specs.Superinterfaces.{LeavesNothingOut}
+use Rattle.rule_tests.proofs.ElaboratedRows.{rows_of_elaborated}
 use Rattle.rule_tests.proofs.program_tests.program_of.Goals as goal
 
-pub elaborate-requires-clause-faultless : goal.elaborate-requires-clause-faultless
-elaborate-requires-clause-faultless c =
-    let none : c.as_slice.result.now ≡ [] = none_of_length c.as_slice.result.now (sym c.is_empty.ensures ∙ c.if-not-is_empty.false) in
-    faultless _ c.as_bytes.result.now _ (c.as_bytes.ensures.value ∙ c.as_str.ensures.same) c.no_diagnostics_means_no_faults.ensures c.in_ok-checked.ensures.check (sym c.as_slice.ensures ∙ none)
+-- the program has the rows of the library
+pub accept-requires-clause-nothing_out : goal.accept-requires-clause-nothing_out
+accept-requires-clause-nothing_out c =
+    subst (λ (rows : FormedTable). LeavesNothingOut rows.table) (sym (rows_of_elaborated _ _ _ _ c.in_ok-program.program c.in_ok-program.ensures.program)) c.rows_of_no_class_leave_nothing_out.ensures

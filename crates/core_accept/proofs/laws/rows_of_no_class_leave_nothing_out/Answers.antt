@@ -1,5 +1,0 @@
-use Rattle.core_accept.proofs.NoClass.{nothing_out}
-use Rattle.core_accept.proofs.laws.rows_of_no_class_leave_nothing_out.Goals as goal
-
-pub returns : goal.returns
-returns c = nothing_out c.args._rows.now.table c.requires

@@ -1,6 +1,0 @@
-use Rattle.std.proofs.Common.{◌≡◌, take, false}
-use Rattle.core_accept.specs.Types.{is_changed}
-use Rattle.core_accept.proofs.types.is_changed.Given as goal
-
-abbrev pub invariant-loop-change : goal.invariant-loop-change
-invariant-loop-change l = is_changed (take l.change-index l.changes) l.slot ≡ false

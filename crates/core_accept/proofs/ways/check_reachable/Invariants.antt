@@ -1,7 +1,0 @@
-use Rattle.std.proofs.Common.{◌≡◌, drop}
-use Rattle.std.specs.Prelude.{flat_map}
-use Rattle.core_accept.specs.Faults.{reach_faults}
-use Rattle.core_accept.proofs.ways.check_reachable.Given as goal
-
-abbrev pub invariant-loop-way : goal.invariant-loop-way
-invariant-loop-way l = flat_map (reach_faults l.context.program.now) l.ways ≡ flat_map (reach_faults l.context.program.now) (drop l.way-index l.ways)

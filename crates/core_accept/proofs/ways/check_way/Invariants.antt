@@ -1,7 +1,0 @@
-use Rattle.std.proofs.Common.{◌≡◌, []}
-use Rattle.core_accept.specs.Faults.{of_slots, slot_on}
-use Rattle.core_accept.specs.Checks.{part_of}
-use Rattle.core_accept.proofs.ways.check_way.Given as goal
-
-abbrev pub invariant-loop-slot : goal.invariant-loop-slot
-invariant-loop-slot l = of_slots l.slot (slot_on l.context.program.now l.context.function.now l.facts (part_of l.part) l.way) ≡ []

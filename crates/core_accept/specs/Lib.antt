@@ -1,9 +1,0 @@
-pub mod Known
-pub mod Shapes
-pub mod Types
-pub mod WellFormed
-pub mod Accepted
-pub mod Faults
-pub mod Refusals
-pub mod Checks
-pub mod Merge

@@ -1,3 +1,0 @@
-pub mod PointFacts
-pub mod Program
-pub mod Values

@@ -1,5 +1,0 @@
-use Rattle.core_runs.proofs.BadPrograms.{bad_program_wrong}
-use Rattle.core_runs.proofs.laws.each_way_to_go_wrong_is_taken.Goals as goal
-
-pub returns : goal.returns
-returns c = bad_program_wrong c.args._rows.now c.requires

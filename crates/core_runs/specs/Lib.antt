@@ -1,5 +1,0 @@
-pub mod Values
-pub mod Steps
-pub mod State
-pub mod Sound
-pub mod GoingWrong

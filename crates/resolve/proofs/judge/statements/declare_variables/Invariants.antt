@@ -1,0 +1,13 @@
+use Rattle.std.proofs.Common.{drop}
+use Rattle.dart_tree.specs.Tree.{trees_of}
+use Rattle.judgement.specs.Judgement.{declare_all}
+use Rattle.resolve.specs.Around.{around}
+use Rattle.resolve.proofs.Ahead.{Ahead}
+use Rattle.resolve.proofs.judge.statements.declare_variables.Given as goal
+
+-- what all variables give is what was found so far and then what the rest gives
+abbrev pub invariant-loop-variable : goal.invariant-loop-variable
+invariant-loop-variable l =
+    Ahead l.initial.found l.found
+    (declare_all (around l.context.rows.now.table l.context.words.now l.context.outside.now l.names) l.ty (trees_of l.variables) l.before.value)
+    (declare_all (around l.context.rows.now.table l.context.words.now l.context.outside.now l.names) l.ty (trees_of (drop l.variable-index l.variables)) l.after.value)

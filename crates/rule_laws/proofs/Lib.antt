@@ -1,0 +1,16 @@
+pub mod PlainTypes
+pub mod PlainLocals
+pub mod StepLaws
+pub mod StepLists
+pub mod StepModels
+pub mod StepRows
+pub mod StepExpressions
+pub mod ScopeNames
+pub mod StepDeclarations
+pub mod Jumps
+pub mod StepBranches
+pub mod StepStatements
+pub mod KeyCounts
+pub mod KeyForms
+pub mod KeyOnce
+pub mod KeyFound

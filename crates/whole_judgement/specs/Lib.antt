@@ -1,9 +1,0 @@
-pub mod NodeFacts
-pub mod Surroundings
-pub mod DeclaredNames
-pub mod Literals
-pub mod Given
-pub mod ExpressionRows
-pub mod StatementRows
-pub mod Written
-pub mod Judgement

@@ -1,4 +1,0 @@
-pub mod Around
-pub mod CoreTypes
-pub mod Judged
-pub mod Shadows
