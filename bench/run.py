@@ -60,8 +60,15 @@ def changes(statements: int) -> str:
 
 
 def counting(passes: int) -> str:
-    """A loop of so many passes, with five steps each."""
+    """A loop of so many passes, with seven steps each."""
     return body(["int i = 0;", f"while (i < {passes}) {{ i = i + 1; }}"])
+
+
+def steps_of(passes: int) -> int:
+    """How many steps that loop takes. A pass takes seven: the head, the read of i, `<` and its branch, and the
+    read, the sum and the write of the body. Seven more are the beginning, the declaration, the four steps with
+    which the loop ends, and the end."""
+    return 7 * passes + 7
 
 
 MAKING: Tuple[Tuple[str, str, Tuple[int, ...], Callable[[int], str]], ...] = (
@@ -101,7 +108,7 @@ def stepping(binary: str, runs: int) -> bool:
     print(f"\nsteps: a loop that counts\n{'steps':>12} {'seconds':>9} {'a second':>12}")
     points: List[Tuple[int, float]] = []
     for passes in PASSES:
-        steps = 5 * passes + 5
+        steps = steps_of(passes)
         ended = best(binary, counting(passes), steps, runs)
         if ended.status == 0:
             points.append((steps, ended.seconds))
