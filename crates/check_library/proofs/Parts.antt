@@ -9,7 +9,8 @@ use Rattle.judgement.specs.NodeFacts.{NodeFacts}
 use Rattle.judgement.specs.declared.fault.Fault.{Fault}
 use Rattle.judgement.specs.declared.meaning.Meaning.{Meaning}
 use Rattle.built_forms.specs.Units.{built_main, has_other_names, unbuilt}
-use Rattle.check_library.specs.Units.{unit_of_text, outside_of, main_of, core_table, judged_by, judged_body}
+use Rattle.core_rows.specs.CoreTable.{core_table}
+use Rattle.check_library.specs.Units.{unit_of_text, outside_of, main_of, judged_by, judged_body}
 use Rattle.check_library.specs.Diagnostics.{lexical_faults, segment_faults, not_built, settled, judged_faults, diagnostics}
 use Rattle.check_library.specs.Order.{sorted_faults}
 use Rattle.check_library.specs.Checked.{typed_tree}

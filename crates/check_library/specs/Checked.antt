@@ -8,7 +8,8 @@ use Rattle.dart_scan.specs.Scanned.{tokens_of, words_of}
 use Rattle.dart_text.specs.Edits.{max_text}
 use Rattle.judgement.specs.NodeFacts.{NodeFacts}
 use Rattle.built_forms.specs.Units.{function_in, has_main, items_of}
-use Rattle.check_library.specs.Units.{unit_of_text, outside_of, body_of, core_table, judged_body}
+use Rattle.core_rows.specs.CoreTable.{core_table}
+use Rattle.check_library.specs.Units.{unit_of_text, outside_of, body_of, judged_body}
 use Rattle.check_library.specs.Diagnostics.{faults_in, diagnostics}
 use Rattle.check_library.specs.declared.library.Checked.{Checked}
 

@@ -8,6 +8,7 @@ use Rattle.dart_tree.specs.Numbers.{numbered}
 use Rattle.dart_tree.specs.declared.places.Span.{Span}
 use Rattle.dart_types.specs.Tables.{Table}
 use Rattle.flow_model.specs.Flow.{start_of}
+use Rattle.core_rows.specs.CoreTable.{core_table}
 use Rattle.judgement.specs.declared.meaning.Meaning.{Meaning}
 use Rattle.judgement.specs.Given.{Outcome}
 use Rattle.judgement.specs.Judgement.{run}
@@ -30,14 +31,10 @@ main_of text = built_main (words_of text) (unit_of_text text)
 abbrev pub body_of : List ℕ → Option Tree
 body_of text = option_map (λ main. main.1) (main_of text)
 
--- the classes that bodies are judged with: none has a row so far
-abbrev pub core_table : Table
-core_table = record { classes = []; vars = [] }
-
 -- what the rules say of the body of a function without parameters, before which nothing is known
 abbrev pub judged_by : Table → (words : List (List ℕ)) → (outside : List Meaning) → (body : Tree) → Outcome
 judged_by table words outside body = run (of_body table words outside) body (start_of [])
 
--- what they say of a body that stands in a text
+-- what they say of a body that stands in a text, over the classes of `dart:core`
 abbrev pub judged_body : (text : List ℕ) → (body : Tree) → Outcome
 judged_body text body = judged_by core_table (words_of text) (outside_of text) body

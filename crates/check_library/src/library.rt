@@ -18,6 +18,7 @@ ghost use Rattle.check_library.specs.Units.{unit_of_text, judged_by};
 use crate::faults::{add_groups, add_lexical, add_not_built, add_segments};
 use crate::order::sorted;
 use built_forms::{Forms, built_bodies_are_blocks, built_main, forms_of};
+use core_rows::core_rows;
 use dart_parse::{parse_unit, tree_faults};
 use dart_scan::tokens_rise;
 use dart_text::Text;
@@ -231,7 +232,7 @@ pub fn check(alloc: Global, path: &str, text: &Text) -> Result<Checked, AllocErr
     let forms = forms_of(alloc, unit.words.as_slice(), &unit.tree)?;
     let mut faults = tree_diagnostics(alloc, text, &unit)?;
     add_not_built(forms.unbuilt.as_slice(), &mut faults)?;
-    let rows = Rows::none(alloc);
+    let rows = core_rows(alloc)?;
     let typed = judged(alloc, &rows, &unit, &forms, &mut faults)?;
     let faults = sorted(alloc, faults)?;
     let path = PlainText::new(alloc, path)?;

@@ -3,10 +3,10 @@
 ghost use Rattle.std.specs.Prelude.{◌≡◌, ◌<◌, IfOk, IsTrue, length};
 ghost use Rattle.core_ir.specs.Values.{declared_at};
 ghost use Rattle.core_check.specs.WellFormed.{IsOperand};
-ghost use Rattle.core_check.specs.Known.{known_in, known_of, held_type, is_shared, is_assigned, operand_type};
+ghost use Rattle.core_check.specs.Known.{known_of, held_type, is_shared, is_assigned, operand_type};
 
 use crate::context::Context;
-use core_ir::{CoreFunction, Facts, Held, Known, Operand, SharedFact};
+use core_ir::{CoreFunction, Facts, Held, Known, Operand};
 use dart_types::DartType;
 use std::alloc::{AllocError, Global};
 
@@ -18,12 +18,12 @@ pub(crate) fn declared(function: &CoreFunction, slot: usize) -> &DartType
     &function.slots[slot]
 }
 
-/// What a list of facts says of a slot.
-pub(crate) fn known_by<'a>(context: Context<'a>, listed: &'a [SharedFact], slot: usize) -> &'a Known
-    ensures { result.now ≡ known_in listed.now slot }
+/// What facts say of a slot.
+pub(crate) fn known_by<'a>(context: Context<'a>, facts: &'a Facts, slot: usize) -> &'a Known
+    ensures { result.now ≡ known_of facts.now slot }
 {
-    for shared in listed {
-        let fact = shared.fact();
+    for place in 0..facts.len() {
+        let fact = facts.at(place);
         if fact.slot.0 as usize == slot {
             return &fact.known;
         }
@@ -58,7 +58,7 @@ pub(crate) fn is_readable(context: Context<'_>, facts: &Facts, operand: Operand)
     ensures { result ≡ is_assigned facts.now operand }
 {
     match operand {
-        Operand::Slot(slot) => known_by(context, facts.listed(), slot.0 as usize).assigned,
+        Operand::Slot(slot) => known_by(context, facts, slot.0 as usize).assigned,
         Operand::Constant(_) => true,
     }
 }
@@ -70,7 +70,7 @@ pub(crate) fn type_of<'a>(context: Context<'a>, facts: &'a Facts, operand: Opera
 {
     match operand {
         Operand::Slot(slot) => {
-            let known = known_by(context, facts.listed(), slot.0 as usize);
+            let known = known_by(context, facts, slot.0 as usize);
             type_held(declared(context.function, slot.0 as usize), &known.held)
         }
         Operand::Constant(value) => context.core.of_value(value),

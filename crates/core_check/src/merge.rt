@@ -1,8 +1,7 @@
 //! Whether facts imply others, by one walk through both lists.
 
-ghost use Rattle.std.specs.Prelude.{◌≡◌, ◌<◌, ◌||◌, not, All, IfOk, IsTrue, IsFalse, length};
+ghost use Rattle.std.specs.Prelude.{◌≡◌, ◌<◌, ◌||◌, not, All, IfOk, IsTrue, IsFalse, drop, length};
 ghost use Rattle.dart_types.specs.SubTest.{sub};
-ghost use Rattle.core_ir.specs.PointFacts.{AreInOrder};
 ghost use Rattle.core_ir.specs.Values.{declared_at};
 ghost use Rattle.core_check.specs.WellFormed.{IsSlot, IsChange};
 ghost use Rattle.core_check.specs.Known.{facts_at, held_type, known_of};
@@ -15,7 +14,7 @@ use crate::known::{declared, is_shared, known_by, type_held};
 use crate::parts::Change;
 use crate::shapes::Way;
 use crate::types::{is_changed, known_on};
-use core_ir::{Facts, Held, Known, SharedFact, SlotId};
+use core_ir::{Facts, Held, Known, SlotId};
 use dart_types::{DartType, is_subtype};
 use std::alloc::AllocError;
 
@@ -74,100 +73,100 @@ fn implies(context: Context<'_>, slot: usize, before: &Known, after: &Known) -> 
     )
 }
 
-// The first slot that either list speaks of.
-fn least_slot(before: &[SharedFact], after: &[SharedFact]) -> Option<u32>
-    ensures { result ≡ least_slot before.now after.now }
+// The first slot that either list speaks of, each from a place on.
+fn least_slot(before: &Facts, place: usize, after: &Facts, place_after: usize) -> Option<u32>
+    ensures { result ≡ least_slot (drop place before.now.listed) (drop place_after after.now.listed) }
 {
-    match (before, after) {
-        ([], []) => None,
-        ([], [after, ..]) => Some(after.fact().slot.0),
-        ([before, ..], []) => Some(before.fact().slot.0),
-        ([before, ..], [after, ..]) => {
-            let first = before.fact().slot.0;
-            let second = after.fact().slot.0;
-            if first <= second {
-                return Some(first);
-            }
-            Some(second)
+    if place >= before.len() {
+        if place_after >= after.len() {
+            return None;
         }
+        return Some(after.at(place_after).slot.0);
     }
+    let first = before.at(place).slot.0;
+    if place_after >= after.len() {
+        return Some(first);
+    }
+    let second = after.at(place_after).slot.0;
+    if first <= second {
+        return Some(first);
+    }
+    Some(second)
 }
 
-// What a list says of a slot, if its first fact is of it.
-fn first_known<'a>(context: Context<'a>, listed: &'a [SharedFact], slot: u32) -> &'a Known
-    ensures { result.now ≡ first_known listed.now slot }
+// What facts say of a slot, if the one at a place is of it.
+fn first_known<'a>(context: Context<'a>, facts: &'a Facts, place: usize, slot: u32) -> &'a Known
+    ensures { result.now ≡ first_known (drop place facts.now.listed) slot }
 {
-    match listed {
-        [first, ..] => {
-            let fact = first.fact();
-            if fact.slot.0 == slot {
-                return &fact.known;
-            }
-            context.core.unlisted()
-        }
-        [] => context.core.unlisted(),
+    if place >= facts.len() {
+        return context.core.unlisted();
     }
+    let fact = facts.at(place);
+    if fact.slot.0 == slot {
+        return &fact.known;
+    }
+    context.core.unlisted()
 }
 
-// The list without its first fact, if that is of the slot.
-fn rest_behind(listed: &[SharedFact], slot: u32) -> &[SharedFact]
-    ensures { result.now ≡ rest_behind listed.now slot }
+// The place behind a fact, if that is of the slot, or the fact's place.
+fn rest_behind(facts: &Facts, place: usize, slot: u32) -> usize
+    ensures { drop result facts.now.listed ≡ rest_behind (drop place facts.now.listed) slot }
 {
-    match listed {
-        [first, rest @ ..] => {
-            if first.fact().slot.0 == slot {
-                return rest;
-            }
-            listed
-        }
-        [] => listed,
+    if place >= facts.len() {
+        return place;
     }
+    if facts.at(place).slot.0 == slot {
+        return place + 1;
+    }
+    place
 }
 
-// Whether a slot is changed, or what the first fact of the one list says of it surely implies what that
-// of the other says.
+// Whether a slot is changed, or what the fact at the one place says of it surely implies what that at
+// the other says.
 fn is_shown(
     context: Context<'_>,
     changes: &[Change],
     slot: u32,
-    before: &[SharedFact],
-    after: &[SharedFact],
+    before: &Facts,
+    place: usize,
+    after: &Facts,
+    place_after: usize,
 ) -> bool
     requires { slot < length context.function.now.slots }
     ensures { IsTrue result → IsFalse (is_changed changes.now slot)
-        → SlotImplies context.entry.program.now.rows.table (declared_at context.entry.function.now slot) (first_known before.now slot) (first_known after.now slot) }
+        → SlotImplies context.entry.program.now.rows.table (declared_at context.entry.function.now slot) (first_known (drop place before.now.listed) slot) (first_known (drop place_after after.now.listed) slot) }
 {
     let number = slot as usize;
     if is_changed(changes, number) {
         return true;
     }
-    let known = first_known(context, before, slot);
-    implies(context, number, known, first_known(context, after, slot))
+    let known = first_known(context, before, place, slot);
+    implies(
+        context,
+        number,
+        known,
+        first_known(context, after, place_after, slot),
+    )
 }
 
 // Whether what the one list says of each slot surely implies what the other says, but for the slots
 // that are changed.
-fn lists_imply(
-    context: Context<'_>,
-    changes: &[Change],
-    before: &[SharedFact],
-    after: &[SharedFact],
-) -> bool
-    requires before_in_order { AreInOrder before.now }
-    requires after_in_order { AreInOrder after.now }
-    requires before_in { All (λ fact. IsSlot context.function.now fact.slot) before.now }
-    requires after_in { All (λ fact. IsSlot context.function.now fact.slot) after.now }
-    ensures { IsTrue result → AreImplied context.entry.program.now context.entry.function.now changes.now before.now after.now }
+fn lists_imply(context: Context<'_>, changes: &[Change], before: &Facts, after: &Facts) -> bool
+    requires before_in { All (λ fact. IsSlot context.function.now fact.slot) before.now.listed }
+    requires after_in { All (λ fact. IsSlot context.function.now fact.slot) after.now.listed }
+    ensures { IsTrue result → AreImplied context.entry.program.now context.entry.function.now changes.now before.now.listed after.now.listed }
 {
     know_rows(context.program);
-    let mut before = before;
-    let mut after = after;
-    while let Some(slot) = least_slot(before, after) {
-        if !is_shown(context, changes, slot, before, after) {
+    before.are_in_order();
+    after.are_in_order();
+    let mut place = 0;
+    let mut place_after = 0;
+    while let Some(slot) = least_slot(before, place, after, place_after) {
+        if !is_shown(context, changes, slot, before, place, after, place_after) {
             return false;
         }
-        before = rest_behind(before, slot);
-        after = rest_behind(after, slot);
+        place = rest_behind(before, place, slot);
+        place_after = rest_behind(after, place_after, slot);
     }
     true
 }
@@ -187,12 +186,7 @@ fn slot_implies(
 {
     let number = slot.0 as usize;
     let known = known_on(context, facts, changes, number)?;
-    let sure = implies(
-        context,
-        number,
-        &known,
-        known_by(context, after.listed(), number),
-    );
+    let sure = implies(context, number, &known, known_by(context, after, number));
     Ok(sure)
 }
 
@@ -233,7 +227,7 @@ pub(crate) fn surely_leads(
         return Ok(false);
     }
     let changes = &way.changes;
-    if !lists_imply(context, changes, facts.listed(), after.listed()) {
+    if !lists_imply(context, changes, facts, after) {
         return Ok(false);
     }
     let sure = changes_imply(context, facts, changes, after)?;

@@ -22,7 +22,7 @@ fn check_entry(facts: &Facts) -> Result<(), Miss>
     ensures { Tells result (entry_faults facts.now) }
 {
     ask(facts.is_reachable())?;
-    ask(facts.listed().len() == 0)
+    ask(facts.len() == 0)
 }
 
 // Whether no clause fails at a term, if a run may come to it.

@@ -110,7 +110,7 @@ pub(crate) fn known_on(
     requires { All (IsChange context.function.now) changes.now }
     ensures { IfOk result (λ k. k ≡ known_on context.entry.program.now context.entry.function.now facts.now changes.now slot) }
 {
-    let mut known = copy_of(context.alloc, known_by(context, facts.listed(), slot))?;
+    let mut known = copy_of(context.alloc, known_by(context, facts, slot))?;
     for change in changes {
         if change.slot.0 as usize == slot {
             known = changed(context, facts, change.how, &known)?;

@@ -55,7 +55,7 @@ fn check_slot(
     ensures { Tells result (slot_on context.entry.program.now context.entry.function.now facts.now (part_of part) way.now slot) }
 {
     let before = known_on(context, facts, &way.changes, slot)?;
-    let after = known_by(context, after.listed(), slot);
+    let after = known_by(context, after, slot);
     let declared = declared(context.function, slot);
     match part {
         Part::Assigned => {

@@ -11,9 +11,7 @@ ghost use Rattle.core_check.specs.WellFormed.{HasPointParts, IsSlot, IsOperand, 
 use crate::context::CoreTypes;
 use crate::parts::{Asked, Change, How, Stored, TypeSource};
 use crate::shapes::{Shape, Way, shape_of};
-use core_ir::{
-    CoreFunction, CoreProgram, Facts, FunctionId, Operand, Point, PointId, SharedFact, SlotId,
-};
+use core_ir::{CoreFunction, CoreProgram, Facts, FunctionId, Operand, Point, PointId, SlotId};
 use dart_types::is_subtype;
 use std::alloc::{AllocError, Global};
 
@@ -123,18 +121,6 @@ fn are_changes(function: &CoreFunction, changes: &[Change]) -> bool
 {
     for change in changes {
         if !is_change(function, *change) {
-            return false;
-        }
-    }
-    true
-}
-
-// Whether the function has all slots that are listed.
-fn are_listed(function: &CoreFunction, listed: &[SharedFact]) -> bool
-    ensures { IsTrue result ↔ All (λ fact. IsSlot function.now fact.slot) listed.now }
-{
-    for shared in listed {
-        if !is_slot(function, shared.fact().slot) {
             return false;
         }
     }
@@ -302,7 +288,12 @@ fn shape_moves_on(shape: &Shape, number: usize) -> bool
 fn listed_are_in(function: &CoreFunction, facts: &Facts) -> bool
     ensures { IsTrue result ↔ All (λ fact. IsSlot function.now fact.slot) facts.now.listed }
 {
-    are_listed(function, facts.listed())
+    for place in 0..facts.len() {
+        if !is_slot(function, facts.at(place).slot) {
+            return false;
+        }
+    }
+    true
 }
 
 // Whether a function has what a point names, whose term has this shape, and the point moves on.

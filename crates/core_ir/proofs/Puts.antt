@@ -77,6 +77,17 @@ put_last (first ∷ rest) fact all =
     put_behind first rest fact (All-head (λ f. f.slot.0 < fact.slot.0) first rest all)
     ∙ ap (λ l. first ∷ l) (put_last rest fact (All-tail (λ f. f.slot.0 < fact.slot.0) first rest all))
 
+-- what was read of a list and of a fact, of the list and the fact themselves
+module _ (items seen : List SlotFact) (fact read : SlotFact) (place : ℕ) (same : seen ≡ items) (of : read ≡ fact) where
+  pub lesser_before : ((k : ℕ) (d : SlotFact) → k < place → (get_or seen k d).slot.0 < read.slot.0) → (k : ℕ) (d : SlotFact) → k < place → (get_or items k d).slot.0 < fact.slot.0
+  lesser_before before k d lt =
+      subst (λ (l : List SlotFact). (get_or l k d).slot.0 < fact.slot.0) same (subst (λ (f : SlotFact). (get_or seen k d).slot.0 < f.slot.0) of (before k d lt))
+
+  pub none_lesser : ((d : SlotFact) → place < length seen → read.slot.0 ≤ (get_or seen place d).slot.0) → (d : SlotFact) → place < length items → fact.slot.0 ≤ (get_or items place d).slot.0
+  none_lesser behind d lt =
+      subst (λ (l : List SlotFact). fact.slot.0 ≤ (get_or l place d).slot.0) same
+      (subst (λ (f : SlotFact). f.slot.0 ≤ (get_or seen place d).slot.0) of (behind d (subst (λ (l : List SlotFact). place < length l) (sym same) lt)))
+
 -- at the place before which the lesser slots are it goes in place of the fact there, or before it
 module _ (fact : SlotFact) where
   pub put_set : (facts : List SlotFact) (place : ℕ) → place < length facts → ((k : ℕ) (d : SlotFact) → k < place → (get_or facts k d).slot.0 < fact.slot.0) → (get_or facts place fact).slot.0 ≡ fact.slot.0 → put facts fact ≡ set facts place fact

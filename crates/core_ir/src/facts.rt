@@ -1,6 +1,6 @@
 //! What is known at a point.
 
-ghost use Rattle.std.specs.Prelude.{◌≡◌, ◌<◌, ◌≤◌, ◌++◌, ◌∷◌, [], ◌↔◌, ℕ, All, IfOk, OnOk, OnErr, IsTrue, length, slice_index_or};
+ghost use Rattle.std.specs.Prelude.{◌≡◌, ◌<◌, ◌≤◌, ◌^◌, ◌++◌, ◌∷◌, [], ◌↔◌, ℕ, All, IfOk, OnOk, OnErr, IsTrue, flat_map, length, slice_index_or};
 ghost use Rattle.core_ir.specs.PointFacts.{AreInOrder, put};
 ghost use Rattle.core_ir.specs.declared.facts.SlotFact.{SlotFact as Fact};
 
@@ -85,25 +85,122 @@ impl SharedFact {
     }
 }
 
+/// How many facts a page has.
+const PAGE: usize = 32;
+
+/// The most pages that facts are kept in.
+const MOST_PAGES: usize = 1 << 27;
+
+// Whether what is known of a slot is the same.
+fn is_same_held(first: &Held, second: &Held) -> bool
+    ensures { IsTrue result → first.now ≡ second.now }
+{
+    match (first, second) {
+        (Held::Declared, Held::Declared) => true,
+        (Held::Own(first), Held::Own(second)) => first.is_same(second),
+        (Held::Shared, Held::Shared) => true,
+        _ => false,
+    }
+}
+
+// Whether two facts are the same.
+fn is_same_fact(first: &SlotFact, second: &SlotFact) -> bool
+    ensures { IsTrue result → first.now ≡ second.now }
+{
+    first.slot == second.slot
+        && first.known.assigned == second.known.assigned
+        && is_same_held(&first.known.held, &second.known.held)
+}
+
+// Whether two lists of facts are the same.
+fn are_same(first: &[SharedFact], second: &[SharedFact]) -> bool
+    ensures { IsTrue result → first.now ≡ second.now }
+{
+    if first.len() != second.len() {
+        return false;
+    }
+    for (place, fact) in first.iter().enumerate() {
+        if !is_same_fact(fact.fact(), second[place].fact()) {
+            return false;
+        }
+    }
+    true
+}
+
+// The same facts once more. It copies pointers.
+fn shared_again(alloc: Global, listed: &[SharedFact]) -> Result<Vec<SharedFact>, AllocError>
+    ensures { IfOk result (λ copied. copied.items ≡ listed.now) }
+{
+    let mut copied = Vec::new(alloc);
+    for fact in listed {
+        copied.push(fact.share()?)?;
+    }
+    Ok(copied)
+}
+
+/// The pages that were last made at each place, which points at which the same is known share.
+#[derive(Drop)]
+pub struct Pages {
+    alloc: Global,
+    kept: Vec<Rc<Vec<SharedFact>>>,
+}
+
+impl Pages {
+    /// No page was made yet.
+    pub fn new(alloc: Global) -> Pages {
+        Pages {
+            alloc,
+            kept: Vec::new(alloc),
+        }
+    }
+
+    // A page with these facts: the one that was last made at the place, if that has the same.
+    fn page(
+        &mut self,
+        place: usize,
+        listed: &[SharedFact],
+    ) -> Result<Rc<Vec<SharedFact>>, AllocError>
+        ensures { IfOk result (λ page. page.value.items ≡ listed.now) }
+    {
+        if let Some(last) = self.kept.get(place) {
+            if are_same(last, listed) {
+                return Ok(last.clone()?);
+            }
+        }
+        let page = Rc::new(self.alloc, shared_again(self.alloc, listed)?)?;
+        let again = page.clone()?;
+        if place < self.kept.len() {
+            self.kept[place] = again;
+        } else {
+            self.kept.push(again)?;
+        }
+        Ok(page)
+    }
+}
+
 /// What is known at a point: whether a run may come here, and what is known of slots, in their order. A
-/// slot that isn't listed has no value for certain, its declared type, and isn't shared. Contracts see it
-/// as its value `PointFacts`, so that facts with equal parts are equal.
+/// slot that isn't listed has no value for certain, its declared type, and isn't shared. The first facts
+/// lie in pages that points share. Contracts see it as its value `PointFacts`, so that facts with equal
+/// parts are equal.
 #[derive(Drop)]
 pub struct Facts {
+    alloc: Global,
     reachable: bool,
-    listed: Vec<SharedFact>,
+    pages: Vec<Rc<Vec<SharedFact>>>,
+    own: Vec<SharedFact>,
 }
 
 impl Model for Facts {
+    ghost use Rattle.std.specs.Prelude.{◌≡◌, ◌≤◌, ◌^◌, ◌++◌, All, flat_map, length};
     ghost use Rattle.core_ir.specs.PointFacts.{PointFacts, facts_code, AreInOrder};
 
     ghost Value = { PointFacts };
 
     ghost coded = { facts_code };
 
-    ghost view = { λ f. record { reachable = f.reachable; listed = f.listed.items } };
+    ghost view = { λ f. record { reachable = f.reachable; listed = flat_map (λ page. page.value.items) f.pages.items ++ f.own.items } };
 
-    ghost invariant = { λ f. AreInOrder f.listed.items };
+    ghost invariant = { λ f. AreInOrder (flat_map (λ page. page.value.items) f.pages.items ++ f.own.items) × All (λ page. length page.value.items ≡ 32) f.pages.items × (length f.pages.items ≤ 2 ^ 27) };
 }
 
 impl Facts {
@@ -112,8 +209,10 @@ impl Facts {
         ensures { result ≡ record { reachable = reachable; listed = [] } }
     {
         Facts {
+            alloc,
             reachable,
-            listed: Vec::new(alloc),
+            pages: Vec::new(alloc),
+            own: Vec::new(alloc),
         }
     }
 
@@ -124,22 +223,50 @@ impl Facts {
         self.reachable
     }
 
-    /// What is known of slots, in their order.
-    pub fn listed(&self) -> &[SharedFact]
-        ensures same { result.now ≡ self.now.listed }
-        ensures in_order { AreInOrder result.now }
+    /// How many slots are listed.
+    pub fn len(&self) -> usize
+        ensures { result ≡ length self.now.listed }
     {
-        &self.listed
+        self.pages.len() * PAGE + self.own.len()
+    }
+
+    /// Slots are listed in their order.
+    pub fn are_in_order(&self)
+        ensures { AreInOrder self.now.listed }
+    {
+        // Opens the invariant for the contract.
+        let _ = &self.own;
+    }
+
+    /// What is known of a slot that is listed.
+    pub fn at(&self, place: usize) -> &SlotFact
+        requires { place < length self.now.listed }
+        ensures { result.now ≡ slice_index_or self.now.listed place result.now }
+    {
+        self.shared_at(place).fact()
+    }
+
+    // The same, to be shared.
+    fn shared_at(&self, place: usize) -> &SharedFact
+        requires { place < length self.now.listed }
+        ensures { result.now ≡ slice_index_or self.now.listed place result.now }
+    {
+        match self.pages.get(place / PAGE) {
+            Some(page) => &page[place % PAGE],
+            None => &self.own[place - self.pages.len() * PAGE],
+        }
     }
 
     /// Whether what is known of a slot may be put at the end: it comes behind those that are listed.
     pub fn takes(&self, slot: SlotId) -> bool
         ensures { IsTrue result ↔ All (λ fact. fact.slot.0 < slot.0) self.now.listed }
     {
-        match self.listed.last() {
-            Some(last) => last.fact().slot.0 < slot.0,
-            None => true,
+        self.are_in_order();
+        let count = self.len();
+        if count == 0 {
+            return true;
         }
+        self.at(count - 1).slot.0 < slot.0
     }
 
     /// Puts what is known of a slot at the end. After an `Err` the facts are as before.
@@ -148,7 +275,7 @@ impl Facts {
         ensures ok { OnOk result (self.new ≡ record self.old { listed = self.old.listed ++ fact ∷ [] }) }
         ensures err { OnErr result (self.new ≡ self.old) }
     {
-        self.listed.push(fact)?;
+        self.own.push(fact)?;
         Ok(())
     }
 
@@ -158,42 +285,77 @@ impl Facts {
         ensures ok { OnOk result (self.new ≡ record self.old { listed = put self.old.listed fact }) }
         ensures err { OnErr result (self.new ≡ self.old) }
     {
-        let slot = fact.fact().slot;
-        if self.takes(slot) {
+        if self.takes(fact.fact().slot) {
             self.push(fact)
         } else {
-            let place = self.place_of(slot);
-            self.put_at(place, fact)
+            self.put_before(fact)
         }
     }
 
-    // How many slots are listed that come before a slot.
-    fn place_of(&self, slot: SlotId) -> usize
-        ensures within { result ≤ length self.now.listed }
-        ensures before { (k : ℕ) (none : Fact) → k < result → (slice_index_or self.now.listed k none).slot.0 < slot.0 }
-        ensures behind { (none : Fact) → result < length self.now.listed → slot.0 ≤ (slice_index_or self.now.listed result none).slot.0 }
-    {
-        for (place, fact) in self.listed.iter().enumerate() {
-            if slot.0 <= fact.fact().slot.0 {
-                return place;
-            }
-        }
-        self.listed.len()
-    }
-
-    // Puts what is known of a slot at the place before which those of lesser slots are.
-    fn put_at(&mut self, place: usize, fact: SharedFact) -> Result<(), AllocError>
-        requires within { place < length self.old.listed }
-        requires before { (k : ℕ) (none : Fact) → k < place → (slice_index_or self.old.listed k none).slot.0 < fact.slot.0 }
-        requires behind { (none : Fact) → place < length self.old.listed → fact.slot.0 ≤ (slice_index_or self.old.listed place none).slot.0 }
+    // Puts what is known of a slot at its place in a list of its own.
+    fn put_before(&mut self, fact: SharedFact) -> Result<(), AllocError>
         ensures ok { OnOk result (self.new ≡ record self.old { listed = put self.old.listed fact }) }
         ensures err { OnErr result (self.new ≡ self.old) }
     {
-        if self.listed[place].fact().slot == fact.fact().slot {
-            self.listed[place] = fact;
-        } else {
-            self.listed.insert(place, fact)?;
+        let mut listed = self.listed()?;
+        put_in(&mut listed, fact)?;
+        self.pages.clear();
+        self.own = listed;
+        Ok(())
+    }
+
+    // All that is listed, in a list of its own.
+    fn listed(&self) -> Result<Vec<SharedFact>, AllocError>
+        ensures { IfOk result (λ listed. listed.items ≡ self.now.listed) }
+    {
+        let mut listed = Vec::new(self.alloc);
+        for place in 0..self.len() {
+            listed.push(self.shared_at(place).share()?)?;
+        }
+        Ok(listed)
+    }
+
+    /// Lets other points share what was put since the last page, as soon as it fills one: the page that
+    /// was last made there is taken, if it says the same. What is known stays as it is.
+    pub fn settle(&mut self, pages: &mut Pages) -> Result<(), AllocError>
+        ensures { self.new ≡ self.old }
+    {
+        let place = self.pages.len();
+        if self.own.len() == PAGE && place < MOST_PAGES {
+            let page = pages.page(place, &self.own)?;
+            self.pages.push(page)?;
+            self.own = Vec::new(self.alloc);
         }
         Ok(())
     }
+}
+
+// How many slots are listed that come before a slot.
+fn place_of(listed: &[SharedFact], slot: SlotId) -> usize
+    ensures within { result ≤ length listed.now }
+    ensures before { (k : ℕ) (none : Fact) → k < result → (slice_index_or listed.now k none).slot.0 < slot.0 }
+    ensures behind { (none : Fact) → result < length listed.now → slot.0 ≤ (slice_index_or listed.now result none).slot.0 }
+{
+    for (place, fact) in listed.iter().enumerate() {
+        if slot.0 <= fact.fact().slot.0 {
+            return place;
+        }
+    }
+    listed.len()
+}
+
+// Puts what is known of a slot at its place, instead of what was known of it.
+fn put_in(listed: &mut Vec<SharedFact>, fact: SharedFact) -> Result<(), AllocError>
+    ensures { OnOk result (listed.new.items ≡ put listed.old.items fact) }
+{
+    let slot = fact.fact().slot;
+    let place = place_of(listed, slot);
+    if place == listed.len() {
+        listed.push(fact)?;
+    } else if listed[place].fact().slot == slot {
+        listed[place] = fact;
+    } else {
+        listed.insert(place, fact)?;
+    }
+    Ok(())
 }

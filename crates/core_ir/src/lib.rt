@@ -14,7 +14,7 @@ mod points;
 mod program;
 mod values;
 
-pub use facts::{Facts, Held, Known, SharedFact, SlotFact};
+pub use facts::{Facts, Held, Known, Pages, SharedFact, SlotFact};
 pub use laws::{put_keeps, put_keeps_order};
 pub use points::{FunctionId, Operand, Point, PointId, SlotId, Span, Term};
 pub use program::{CoreFunction, CoreProgram};

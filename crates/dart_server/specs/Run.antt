@@ -12,7 +12,8 @@ use Rattle.proto_json.specs.declared.reply.ErrorRow.{ErrorRow}
 use Rattle.judgement.specs.declared.code.DiagnosticCode.TheVariants.{FileNotUtf8, ProfileFileLength}
 use Rattle.dart_scan.specs.Scanned.{words_of}
 use Rattle.dart_tree.specs.Tree.{Tree}
-use Rattle.check_library.specs.Units.{outside_of, body_of, core_table}
+use Rattle.core_rows.specs.CoreTable.{core_table}
+use Rattle.check_library.specs.Units.{outside_of, body_of}
 use Rattle.check_library.specs.Diagnostics.{diagnostics}
 use Rattle.diagnostics.specs.Rendering.{rows_of, lines_of_rows}
 use Rattle.core_ir.specs.Program.{Program}

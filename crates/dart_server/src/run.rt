@@ -17,13 +17,11 @@ ghost use Rattle.dart_server.specs.Run.{no_library_line, rows_of_file, Prints, S
 
 use crate::status::Status;
 use check_library::{Checked, check};
-use core_check::{
-    AcceptRefusal, Accepted, accept, faults_are_clauses_that_fail,
-    rows_of_no_class_leave_nothing_out,
-};
+use core_check::{AcceptRefusal, Accepted, accept, faults_are_clauses_that_fail};
 use core_machine::{
     Machine, Turn, a_run_that_is_over_stays, never_wrong, steps_add_to_what_was_printed,
 };
+use core_rows::core_row_laws;
 use dart_text::{Text, TextRefusal};
 use dart_tree::{Body, Span};
 use diagnostics::{lines_of, render};
@@ -104,7 +102,7 @@ fn program_of(alloc: Global, checked: &Checked, body: &Body) -> Result<Accepted,
 {
     let program = elaborate(alloc, checked, body)?;
     faults_are_clauses_that_fail(&program);
-    rows_of_no_class_leave_nothing_out(&checked.rows);
+    core_row_laws(&checked.rows);
     match accept(alloc, program) {
         Ok(accepted) => {
             never_wrong(&accepted);

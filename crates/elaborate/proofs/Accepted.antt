@@ -1,19 +1,15 @@
 -- The program of a body in which nothing is wrong is well formed and accepted.
-use Rattle.std.proofs.Common.{◌≡◌, ℕ, zero, suc, ◌+◌, ◌-◌, ◌*◌, ◌^◌, ◌<◌, ◌≤◌, Bool, true, false, List, [], ◌∷◌, ◌++◌, length, get_or, Option, Some, None, refl, sym, ap, ◌∙◌, subst, arith, IsTrue}
+use Rattle.std.proofs.Common.{◌≡◌, ℕ, zero, suc, ◌+◌, ◌-◌, ◌*◌, ◌^◌, ◌<◌, ◌≤◌, true, List, [], ◌∷◌, ◌++◌, length, get_or, Some, None, refl, sym, ap, ◌∙◌, subst, arith, IsTrue}
 use Rattle.std.specs.FinMap.{empty}
-use Rattle.std.specs.Prelude.{All, IsFalse, slice_get}
+use Rattle.std.specs.Prelude.{IsFalse, slice_get}
 use Rattle.std.proofs.lemmas.List.Elements.{All-nil}
 use Rattle.std.proofs.lemmas.Option.{slice_get_within}
 use Rattle.dart_tree.specs.Tree.{Tree, Trees, block}
-use Rattle.dart_tree.specs.Places.{place_of}
 use Rattle.dart_tree.specs.declared.places.Place.{Place}
 use Rattle.dart_types.specs.FormedTable.{FormedTable}
 use Rattle.dart_types.specs.SubTest.{sub}
-use Rattle.flow_model.specs.Flow.{FlowModel, end_of, start_of}
-use Rattle.flow_model.specs.declared.locals.LocalId.{LocalId}
-use Rattle.flow_model.specs.Join.{scope_of}
-use Rattle.judgement.specs.NodeFacts.{NodeFacts}
-use Rattle.judgement.specs.DeclaredNames.{locals_of, names_in, within}
+use Rattle.flow_model.specs.Flow.{FlowModel, start_of}
+use Rattle.judgement.specs.DeclaredNames.{names_in, within}
 use Rattle.judgement.specs.Given.{Outcome, said_of_statement}
 use Rattle.judgement.specs.declared.meaning.Meaning.{Meaning}
 use Rattle.judgement.specs.Judgement.{run, run_all}
@@ -22,27 +18,22 @@ use Rattle.rule_laws.specs.Plain.{HidesNothing, IsPlainLocal}
 use Rattle.core_ir.specs.PointFacts.{PointFacts}
 use Rattle.core_ir.specs.Program.{Function, Program}
 use Rattle.core_ir.specs.Values.{int, bool}
-use Rattle.core_ir.specs.declared.facts.SlotFact.{SlotFact}
-use Rattle.core_ir.specs.declared.points.FunctionId.{FunctionId}
-use Rattle.core_ir.specs.declared.points.Operand.{Operand}
 use Rattle.core_ir.specs.declared.points.Point.{Point}
 use Rattle.core_ir.specs.declared.points.PointId.{PointId}
 use Rattle.core_ir.specs.declared.points.SlotId.{SlotId}
 use Rattle.core_ir.specs.declared.points.Term.TheVariants.{End}
-use Rattle.core_check.specs.Accepted.{FitsAsked, FitsDeclared, IsAccepted, IsEntry, IsFine, IsFineAt, IsReadable, Leads}
+use Rattle.core_check.specs.Accepted.{FitsAsked, FitsDeclared, IsAccepted, IsEntry, IsFine, IsReadable, Leads}
 use Rattle.core_check.specs.Known.{facts_at, function_at, function_of, no_point, point_at}
-use Rattle.core_check.specs.Shapes.{WayShape, shape}
-use Rattle.core_check.specs.WellFormed.{IsAsked, IsFunctionOf, IsOperand, IsPointOf, IsShape, IsStored, IsWay, IsWellFormed}
-use Rattle.core_check.specs.declared.parts.Asked.{Asked}
-use Rattle.core_check.specs.declared.parts.Stored.{Stored}
-use Rattle.core_emit.specs.Code.{Code, goes_on, leaf, sequence}
-use Rattle.core_emit.specs.Emitted.{AllFine, AllFormed, AreFactsOf, EmitsFinePoints, EmitsFormedPoints, IsEmitted, emit, size_of, with_points}
+use Rattle.core_check.specs.Shapes.{shape}
+use Rattle.core_check.specs.WellFormed.{IsAsked, IsFunctionOf, IsOperand, IsPointOf, IsStored, IsWay, IsWellFormed}
+use Rattle.core_emit.specs.Code.{Code, goes_on, leaf}
+use Rattle.core_emit.specs.Emitted.{AllFine, AllFormed, AreFactsOf, EmitsFinePoints, EmitsFormedPoints, IsEmitted, with_points}
 use Rattle.elaborate.specs.Sources.{Sources, known_behind}
 use Rattle.elaborate.specs.Known.{facts}
 use Rattle.elaborate.specs.Rows.{statement_code}
 use Rattle.elaborate.specs.Elaborated.{elaborated, end_of_function, entry_facts, function_code, main_function, points_of, program_of, slot_types, sources_of}
 use Rattle.elaborate.proofs.Given.{Setting, Laws, around}
-use Rattle.elaborate.proofs.Standing.{AreValues, IsSlotOf, IsValueSlot, Standing}
+use Rattle.elaborate.proofs.Standing.{AreValues, IsValueSlot, Standing}
 use Rattle.elaborate.proofs.Tells.{tells_itself}
 use Rattle.elaborate.proofs.Claims.{Does, does_both, does_step}
 use Rattle.elaborate.proofs.Inside.{facts_inside}

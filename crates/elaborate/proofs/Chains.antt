@@ -1,5 +1,5 @@
 -- A local's current type is a subtype of its declared one and of each that it is promoted to, so one of which more is said has a narrower type.
-use Rattle.std.proofs.Common.{◌≡◌, Bool, true, false, ◌||◌, List, [], ◌∷◌, refl, sym, ap, subst, ◌∙◌, ◌⊎◌, inl, inr, IsTrue}
+use Rattle.std.proofs.Common.{◌≡◌, true, ◌||◌, List, [], ◌∷◌, refl, sym, ap, subst, ◌∙◌, ◌⊎◌, inl, inr, IsTrue}
 use Rattle.std.proofs.lemmas.Bool.{or_cases, or_right}
 use Rattle.dart_types.specs.Ty.{Ty}
 use Rattle.dart_types.specs.Same.{same_type}
@@ -7,7 +7,7 @@ use Rattle.dart_types.specs.Sub.{Sub, reflexivity}
 use Rattle.dart_types.specs.SubTest.{sub}
 use Rattle.flow_model.specs.Chains.{Descends, HasDescendingChain}
 use Rattle.flow_model.specs.Flow.{current_of, last_or}
-use Rattle.flow_model.specs.Order.{Includes, SaysMore}
+use Rattle.flow_model.specs.Order.{SaysMore}
 use Rattle.flow_model.specs.TypeTests.{is_in}
 use Rattle.flow_model.specs.declared.locals.Facts.{Facts}
 use Rattle.elaborate.proofs.Given.{Setting, Laws}

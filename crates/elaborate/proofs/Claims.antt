@@ -1,17 +1,14 @@
 -- What code does: it passes, from what is known before it to what is known behind it, or less.
-use Rattle.std.proofs.Common.{◌≡◌, ◌≢◌, ℕ, ◌<◌, List, [], ◌∷◌, ◌++◌, length, Option, refl, sym, ap, ◌∙◌, subst, arith, IsTrue}
-use Rattle.std.specs.Prelude.{All}
-use Rattle.std.proofs.lemmas.List.Elements.{All-cons, All-nil}
+use Rattle.std.proofs.Common.{◌≡◌, ◌≢◌, ℕ, ◌<◌, [], ◌∷◌, ◌++◌, length, Option, sym, ◌∙◌, subst, IsTrue}
 use Rattle.core_ir.specs.PointFacts.{PointFacts}
 use Rattle.core_ir.specs.Program.{Program}
 use Rattle.core_ir.specs.Values.{declared_at}
-use Rattle.core_ir.specs.declared.points.PointId.{PointId}
 use Rattle.core_ir.specs.declared.points.Span.{Span}
-use Rattle.core_check.specs.Accepted.{IsFine, Leads, SlotImplies}
+use Rattle.core_check.specs.Accepted.{Leads, SlotImplies}
 use Rattle.core_check.specs.Known.{facts_at, known_of}
-use Rattle.core_check.specs.Shapes.{TermShape, WayShape, shape}
+use Rattle.core_check.specs.Shapes.{WayShape}
 use Rattle.core_check.specs.Types.{known_on}
-use Rattle.core_emit.specs.Code.{Code, Step, Test, nothing, leaf, sequence, choice, loop, goes_on, step_to, test_to}
+use Rattle.core_emit.specs.Code.{Code, Step, Test, nothing, leaf, sequence, choice, loop, goes_on}
 use Rattle.core_emit.specs.Emitted.{AreFactsOf, IsCodeOf, IsStepOf, IsTestOf, Passes, StepLeads, TestLeads, known_first}
 use Rattle.elaborate.proofs.Given.{Setting, Laws}
 use Rattle.elaborate.proofs.Tells.{Tells, tells_itself, tells_through, implies_through}

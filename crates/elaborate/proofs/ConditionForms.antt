@@ -1,12 +1,10 @@
 -- The code of a condition and its test do what the rules say of it.
-use Rattle.std.proofs.Common.{◌≡◌, ◌≢◌, ℕ, ◌-◌, ◌<◌, Bool, true, false, cond, not, ◌&&◌, ◌||◌, List, [], ◌∷◌, ◌++◌, length, Option, Some, None, refl, sym, ap, ◌∙◌, subst, arith, IsTrue}
-use Rattle.std.specs.Option.{option_map, option_map_or}
-use Rattle.std.specs.Prelude.{All}
+use Rattle.std.proofs.Common.{◌≡◌, ◌≢◌, ℕ, ◌-◌, ◌<◌, Bool, true, false, cond, ◌&&◌, ◌||◌, List, [], ◌∷◌, ◌++◌, Option, Some, None, refl, sym, ap, ◌∙◌, subst, IsTrue}
+use Rattle.std.specs.Option.{option_map}
 use Rattle.std.proofs.lemmas.Bool.{and_parts}
 use Rattle.std.proofs.lemmas.List.Elements.{All-nil}
 use Rattle.dart_tree.specs.Tree.{Tree, identifier, null_literal, parenthesis, binary_expression}
 use Rattle.dart_tree.specs.Places.{place_of}
-use Rattle.dart_tree.specs.declared.operators.BinaryOperator.{BinaryOperator}
 use Rattle.dart_tree.specs.declared.operators.BinaryOperatorKind.{BinaryOperatorKind}
 use Rattle.dart_tree.specs.declared.operators.BinaryOperatorKind.TheVariants.{NotEqual}
 use Rattle.dart_tree.specs.declared.places.Place.{Place}
@@ -27,19 +25,17 @@ use Rattle.judgement.specs.Written.{named_by, written_in}
 use Rattle.judgement.specs.Judgement as rules
 use Rattle.judgement.specs.Judgement.{as_local, element_of, evaluate, is_null_literal}
 use Rattle.built_forms.specs.Forms.{is_operator, is_value}
-use Rattle.rule_laws.specs.Steps.{Evaluates, IsStep}
+use Rattle.rule_laws.specs.Steps.{Evaluates}
 use Rattle.core_ir.specs.PointFacts.{PointFacts}
 use Rattle.core_ir.specs.Values.{declared_at}
 use Rattle.core_ir.specs.declared.facts.Held.TheVariants.{Own}
 use Rattle.core_ir.specs.declared.facts.Known.{Known}
 use Rattle.core_ir.specs.declared.points.Operand.{Operand}
-use Rattle.core_ir.specs.declared.points.Operand.TheVariants.{Slot, Constant}
 use Rattle.core_ir.specs.declared.points.SlotId.{SlotId}
-use Rattle.core_ir.specs.declared.values.Value.TheVariants.{Boolean}
 use Rattle.core_check.specs.Accepted.{SlotImplies}
-use Rattle.core_check.specs.Known.{known_of, slot_type, held_type}
+use Rattle.core_check.specs.Known.{slot_type, held_type}
 use Rattle.core_check.specs.Types.{without_null}
-use Rattle.core_emit.specs.Code.{Code, Test, nothing, on_truth, on_not_null}
+use Rattle.core_emit.specs.Code.{Test, nothing, on_not_null}
 use Rattle.core_emit.specs.Emitted.{IsTestOf, TestLeads}
 use Rattle.elaborate.specs.Sources.{known_before, known_behind, slot_of_local}
 use Rattle.elaborate.specs.Known.{facts, holding}
@@ -49,13 +45,11 @@ use Rattle.elaborate.proofs.Chains.{sub_itself}
 use Rattle.elaborate.proofs.Standing.{AreValues, IsValueSlot, Standing, found_of}
 use Rattle.elaborate.proofs.Tells.{Tells, facts_tell}
 use Rattle.elaborate.proofs.Claims.{Does, does_nothing}
-use Rattle.elaborate.proofs.Inside.{facts_inside}
-use Rattle.elaborate.proofs.Leaves.{Has}
-use Rattle.elaborate.proofs.Points.{has_local, known_local, others_stay, unshared}
-use Rattle.elaborate.proofs.Tests.{Reaches, narrowed_current, null_leads, truth_leads}
+use Rattle.elaborate.proofs.Points.{known_local, others_stay, unshared}
+use Rattle.elaborate.proofs.Tests.{narrowed_current, null_leads, truth_leads}
 use Rattle.elaborate.proofs.ValueTypes.{fits_sub, left_none, name_reads, plain_value, right_none}
 use Rattle.elaborate.proofs.Expressions.{AreSaid, Valued, current_plain, has_operand, held_with, operand_inside, plain_row, row_none, said_left, said_right, values_with}
-use Rattle.elaborate.proofs.Judged.{Value, compared_same, effect_of_value, row_said, stands_after, stands_behind, valued}
+use Rattle.elaborate.proofs.Judged.{compared_same, effect_of_value, row_said, stands_after, stands_behind, valued}
 
 -- no values are held
 abbrev pub no_values : List SlotId

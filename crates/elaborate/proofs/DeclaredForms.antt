@@ -1,8 +1,7 @@
 -- The code of a declaration does what the rules say of it.
-use Rattle.std.proofs.Common.{◌≡◌, ◌≢◌, ℕ, ◌-◌, ◌<◌, Bool, true, false, cond, not, ◌&&◌, ◌||◌, nat_lt, map, List, [], ◌∷◌, ◌++◌, length, Option, Some, None, is_some, refl, sym, ap, ◌∙◌, subst, arith, IsTrue}
+use Rattle.std.proofs.Common.{◌≡◌, ◌≢◌, ℕ, ◌-◌, ◌<◌, Bool, true, false, cond, ◌&&◌, ◌||◌, nat_lt, map, List, [], ◌∷◌, ◌++◌, length, Some, refl, sym, ap, ◌∙◌, subst, IsTrue}
 use Rattle.std.specs.Option.{option_map, option_map_or}
 use Rattle.std.specs.Prelude.{All, filter}
-use Rattle.std.proofs.lemmas.Bool.{and_parts, or_parts}
 use Rattle.std.proofs.lemmas.List.Elements.{All-head, All-tail, All-cons, All-nil}
 use Rattle.dart_tree.specs.Tree.{Tree, variable, absent, present}
 use Rattle.dart_tree.specs.Places.{place_of}
@@ -12,41 +11,37 @@ use Rattle.dart_types.specs.Ty.{Ty}
 use Rattle.dart_types.specs.Ty as ty
 use Rattle.dart_types.specs.Invalid.{holds_invalid}
 use Rattle.dart_types.specs.SubTest.{sub}
-use Rattle.flow_model.specs.Flow.{FlowModel, at_local, declare_of, facts_of, fresh_facts, is_known}
+use Rattle.flow_model.specs.Flow.{FlowModel, declare_of, facts_of, fresh_facts, is_known}
 use Rattle.flow_model.specs.Assign.{assign_facts}
 use Rattle.flow_model.specs.Join.{scope_of}
 use Rattle.flow_model.specs.declared.locals.Facts.{Facts}
 use Rattle.flow_model.specs.declared.locals.LocalDecl.{LocalDecl}
 use Rattle.flow_model.specs.declared.locals.LocalId.{LocalId}
-use Rattle.judgement.specs.NodeFacts.{NodeFacts}
 use Rattle.judgement.specs.declared.fault.Fault.{Fault}
 use Rattle.judgement.specs.declared.code.DiagnosticCode.TheVariants.{DuplicateDefinition, InvalidAssignment}
 use Rattle.judgement.specs.declared.meaning.Meaning.TheVariants.{Local}
 use Rattle.judgement.specs.DeclaredNames.{local_of}
 use Rattle.judgement.specs.Given.{Evaluation, Outcome, complains, fault_at, fit_faults, just, said_of_statement, statement_row}
-use Rattle.judgement.specs.StatementRows.{declare_row, declared_local, initialize_row, initialized_row, is_declared_before, means_own, with_value}
+use Rattle.judgement.specs.StatementRows.{declare_row, declared_local, initialized_row, is_declared_before, with_value}
 use Rattle.judgement.specs.Surroundings.{Names}
 use Rattle.judgement.specs.Judgement.{declare, evaluate}
 use Rattle.built_forms.specs.Forms.{is_value}
-use Rattle.core_ir.specs.PointFacts.{PointFacts}
-use Rattle.core_ir.specs.declared.points.Operand.{Operand}
-use Rattle.core_ir.specs.declared.points.Operand.TheVariants.{Slot, Constant}
+use Rattle.core_ir.specs.declared.points.Operand.TheVariants.{Constant}
 use Rattle.core_ir.specs.declared.points.SlotId.{SlotId}
 use Rattle.core_ir.specs.declared.values.Value.TheVariants.{Null}
-use Rattle.core_emit.specs.Code.{Code, Step, declares, initializes, leaf}
+use Rattle.core_emit.specs.Code.{Code, declares, initializes, leaf}
 use Rattle.elaborate.specs.Sources.{known_before, known_behind, slot_of_local}
 use Rattle.elaborate.specs.Known.{facts, holding}
 use Rattle.elaborate.specs.Rows as code
 use Rattle.elaborate.specs.Rows.{declared_code, operand_of, site_of, step_at}
 use Rattle.elaborate.proofs.Given.{Setting, Laws, around}
-use Rattle.elaborate.proofs.SlotFacts.{holds}
 use Rattle.elaborate.proofs.Standing.{AreValues, HasSlots, IsSlotOf, IsValueSlot, Standing, found_of}
 use Rattle.elaborate.proofs.Claims.{Does, does_both, does_step}
 use Rattle.elaborate.proofs.Inside.{facts_inside}
 use Rattle.elaborate.proofs.Leaves.{declare_leads, initialize_leads}
 use Rattle.elaborate.proofs.Points.{gives_local, leaves_unset, others_stay, unshared, written_fits}
 use Rattle.elaborate.proofs.ValueTypes.{fits_sub, left_none, right_none}
-use Rattle.elaborate.proofs.Expressions.{AreSaid, IsSaid, Valued, fewer_held, has_operand, held_with, operand_inside, said_last, said_left, values_with}
+use Rattle.elaborate.proofs.Expressions.{AreSaid, IsSaid, Valued, has_operand, held_with, operand_inside, said_last, said_left, values_with}
 use Rattle.elaborate.proofs.ValueForms.{before_node, behind_node}
 use Rattle.elaborate.proofs.Judged.{stands_after, valued}
 use Rattle.elaborate.proofs.ConditionForms.{no_values}

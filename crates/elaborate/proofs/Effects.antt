@@ -1,59 +1,52 @@
 -- The code of an expression that stands as a statement does what the rules say of it.
-use Rattle.std.proofs.Common.{◌≡◌, ◌≢◌, ℕ, ◌-◌, ◌<◌, Bool, true, false, cond, not, ◌&&◌, ◌||◌, List, [], ◌∷◌, ◌++◌, length, Option, Some, None, is_some, refl, sym, ap, ◌∙◌, subst, arith, IsTrue}
+use Rattle.std.proofs.Common.{◌≡◌, ◌≢◌, ℕ, ◌-◌, ◌<◌, true, false, cond, not, ◌&&◌, ◌||◌, List, [], ◌∷◌, ◌++◌, Option, Some, None, is_some, refl, sym, ap, ◌∙◌, subst, IsTrue}
 use Rattle.std.specs.FinMap.{get}
 use Rattle.std.specs.Option.{option_map, option_map_or}
-use Rattle.std.specs.Prelude.{All, slice_index_or}
+use Rattle.std.specs.Prelude.{slice_index_or}
 use Rattle.std.proofs.lemmas.Bool.{and_parts}
 use Rattle.std.proofs.lemmas.List.Elements.{All-nil}
-use Rattle.dart_tree.specs.Tree.{Tree, Trees, Part, no_more, more, absent, present, identifier, assignment, call, argument_list, argument}
+use Rattle.dart_tree.specs.Tree.{Tree, Part, no_more, more, absent, present, identifier, assignment, call, argument_list, argument}
 use Rattle.dart_tree.specs.Places.{place_of}
-use Rattle.dart_tree.specs.declared.names.Name.{Name}
 use Rattle.dart_tree.specs.declared.operators.AssignmentOperator.{AssignmentOperator}
 use Rattle.dart_tree.specs.declared.places.Place.{Place}
-use Rattle.dart_types.specs.Ty.{Ty, invalid, nullable, void}
+use Rattle.dart_types.specs.Ty.{Ty, invalid, nullable}
 use Rattle.dart_types.specs.Ty as ty
 use Rattle.dart_types.specs.Heads.{object}
 use Rattle.dart_types.specs.Invalid.{holds_invalid}
-use Rattle.dart_types.specs.Same.{same_type}
 use Rattle.dart_types.specs.SubTest.{sub}
 use Rattle.flow_model.specs.Flow.{FlowModel, at_local, facts_of}
 use Rattle.flow_model.specs.Assign.{assign_facts}
 use Rattle.flow_model.specs.declared.locals.Facts.{Facts}
 use Rattle.flow_model.specs.declared.locals.LocalId.{LocalId}
 use Rattle.judgement.specs.NodeFacts.{NodeFacts}
-use Rattle.judgement.specs.declared.fault.Fault.{Fault}
-use Rattle.judgement.specs.declared.code.DiagnosticCode.TheVariants.{ArgumentType, InvalidAssignment, ReferencedBeforeDeclaration}
+use Rattle.judgement.specs.declared.code.DiagnosticCode.TheVariants.{ArgumentType, InvalidAssignment}
 use Rattle.judgement.specs.declared.meaning.Meaning.{Meaning}
 use Rattle.judgement.specs.declared.meaning.Meaning.TheVariants.{Nothing, Local, Print, Class, Other}
-use Rattle.judgement.specs.Given.{Evaluation, exits_if_never, expression_row, fault_at, fit_faults, said_of_expression, with_node}
+use Rattle.judgement.specs.Given.{Evaluation, expression_row, fit_faults, said_of_expression, with_node}
 use Rattle.judgement.specs.ExpressionRows as rows
 use Rattle.judgement.specs.ExpressionRows.{assigned_row, wanted_by, write_row}
 use Rattle.judgement.specs.Surroundings.{Names, meaning_of}
-use Rattle.judgement.specs.Written.{named_by, written_in}
 use Rattle.judgement.specs.Judgement.{called, evaluate}
 use Rattle.built_forms.specs.Forms.{are_arguments, is_absent, is_effect, is_free, is_print, is_printer, is_target, is_value}
 use Rattle.built_forms.specs.Forms as forms
 use Rattle.built_forms.specs.Meanings.{meaning_at}
 use Rattle.rule_laws.specs.Plain.{HidesNothing, is_value_type}
-use Rattle.core_ir.specs.PointFacts.{PointFacts}
-use Rattle.core_ir.specs.declared.points.Operand.{Operand}
 use Rattle.core_ir.specs.declared.points.SlotId.{SlotId}
 use Rattle.core_emit.specs.Code.{Code, leaf, nothing, prints, stores}
-use Rattle.elaborate.specs.Sources.{known_behind, local_meant, nowhere, slot_of_local}
+use Rattle.elaborate.specs.Sources.{known_behind, local_meant, slot_of_local}
 use Rattle.elaborate.specs.Sources as sources
 use Rattle.elaborate.specs.Known.{facts, holding}
 use Rattle.elaborate.specs.Rows.{assignment_row, code_of, operand_of, print_code, print_row, site_of}
 use Rattle.elaborate.proofs.Given.{Setting, Laws, around}
-use Rattle.elaborate.proofs.SlotFacts.{holds}
-use Rattle.elaborate.proofs.Standing.{AreValues, IsSlotOf, IsValueSlot, Standing, found_of}
-use Rattle.elaborate.proofs.Tells.{Tells, facts_tell}
+use Rattle.elaborate.proofs.Standing.{AreValues, IsValueSlot, Standing, found_of}
+use Rattle.elaborate.proofs.Tells.{facts_tell}
 use Rattle.elaborate.proofs.Claims.{Does, does_both, does_less, does_step}
 use Rattle.elaborate.proofs.Inside.{facts_inside}
 use Rattle.elaborate.proofs.Leaves.{print_leads, store_leads}
 use Rattle.elaborate.proofs.Points.{gives_local, unshared, written_fits}
 use Rattle.elaborate.proofs.ValueTypes.{fits_sub, left_none, plain_value, right_none, value_holds}
 use Rattle.elaborate.proofs.Expressions.{AreSaid, IsSaid, Valued, has_operand, held_with, operand_inside, plain_row, row_none, said_last, said_left, values_with}
-use Rattle.elaborate.proofs.Judged.{effect_of_value, row_said, stands_after, stands_behind, valued}
+use Rattle.elaborate.proofs.Judged.{row_said, stands_after, valued}
 use Rattle.elaborate.proofs.ConditionForms.{no_values}
 
 -- what an expression that stands as a statement does

@@ -1,19 +1,13 @@
 -- The code of a value does what the rules say of it.
-use Rattle.std.proofs.Common.{◌≡◌, ◌≢◌, ℕ, ◌+◌, ◌-◌, ◌<◌, Bool, true, false, cond, not, ◌&&◌, ◌||◌, nat_eq, List, [], ◌∷◌, ◌++◌, length, Option, Some, None, is_some, refl, sym, ap, ◌∙◌, subst, IsTrue, inl, inr}
+use Rattle.std.proofs.Common.{◌≡◌, ◌≢◌, ℕ, ◌+◌, ◌-◌, ◌<◌, Bool, true, false, cond, ◌&&◌, ◌||◌, List, [], ◌∷◌, ◌++◌, Option, Some, None, refl, sym, ap, ◌∙◌, subst, inl, inr}
 use Rattle.std.specs.Prelude.{All, find}
 use Rattle.std.specs.Option.{option_map_or}
-use Rattle.std.proofs.lemmas.Bool.{and_parts}
 use Rattle.std.proofs.lemmas.List.Elements.{All-head, All-tail, All-cons, All-nil}
-use Rattle.dart_tree.specs.Tree.{Tree, Trees, Part, identifier, integer_literal, boolean_literal, null_literal, parenthesis, binary_expression}
+use Rattle.dart_tree.specs.Tree.{Tree, identifier}
 use Rattle.dart_tree.specs.Places.{place_of}
-use Rattle.dart_tree.specs.declared.operators.BinaryOperator.{BinaryOperator}
-use Rattle.dart_tree.specs.declared.operators.BinaryOperatorKind.{BinaryOperatorKind}
-use Rattle.dart_tree.specs.declared.operators.BinaryOperatorKind.TheVariants.{Add, Less, NotEqual}
-use Rattle.dart_tree.specs.declared.places.NodeId.{NodeId}
 use Rattle.dart_tree.specs.declared.places.Place.{Place}
 use Rattle.dart_types.specs.Ty.{Ty}
 use Rattle.dart_types.specs.Same.{same_type}
-use Rattle.dart_types.specs.SubTest.{sub}
 use Rattle.dart_types.specs.Ty as ty
 use Rattle.flow_model.specs.Flow.{FlowModel, current_of, facts_of}
 use Rattle.flow_model.specs.Steps.{exit_of}
@@ -22,36 +16,32 @@ use Rattle.flow_model.specs.declared.locals.LocalId.{LocalId}
 use Rattle.judgement.specs.NodeFacts.{NodeFacts}
 use Rattle.judgement.specs.declared.meaning.Meaning.{Meaning}
 use Rattle.judgement.specs.declared.meaning.Meaning.TheVariants.{Local}
-use Rattle.judgement.specs.Given.{Evaluation, exits_if_never, expression_row, of_type, said_of_expression, with_node}
-use Rattle.judgement.specs.ExpressionRows.{int, bool}
+use Rattle.judgement.specs.Given.{Evaluation, expression_row, of_type, said_of_expression, with_node}
 use Rattle.judgement.specs.Surroundings.{Names, meaning_of}
 use Rattle.judgement.specs.Judgement.{evaluate}
 use Rattle.judgement.specs.ExpressionRows as rows
 use Rattle.built_forms.specs.Forms.{is_free}
 use Rattle.built_forms.specs.Meanings.{meaning_at}
 use Rattle.rule_laws.specs.Plain.{IsPlainLocal, IsPlainType, is_plain, is_value_type}
-use Rattle.core_ir.specs.PointFacts.{PointFacts}
 use Rattle.core_ir.specs.Values.{declared_at, no_objects, type_of}
 use Rattle.core_ir.specs.declared.points.Operand.{Operand}
 use Rattle.core_ir.specs.declared.points.Operand.TheVariants.{Slot, Constant}
 use Rattle.core_ir.specs.declared.points.SlotId.{SlotId}
 use Rattle.core_ir.specs.declared.values.Value.TheVariants.{Boolean}
-use Rattle.core_emit.specs.Code.{Code, Step, leaf, sequence, stores}
-use Rattle.core_emit.specs.Emitted.{IsStepOf, StepLeads}
+use Rattle.core_emit.specs.Code.{Code, stores}
 use Rattle.core_check.specs.WellFormed.{IsOperand}
-use Rattle.elaborate.specs.Sources.{is_of_node, nowhere, known_before, known_behind, local_meant, named_at, said_at, slot_at, slot_of, slot_of_local}
+use Rattle.elaborate.specs.Sources.{is_of_node, nowhere, known_before, known_behind, local_meant, slot_at, slot_of, slot_of_local}
 use Rattle.elaborate.specs.Known.{facts, holding}
 use Rattle.elaborate.specs.Rows.{code_of, name_row, operand_of, site_of, step_at, test_of_null}
 use Rattle.elaborate.proofs.Given.{Setting, Laws, around}
 use Rattle.elaborate.proofs.SlotFacts.{holds}
 use Rattle.elaborate.proofs.Chains.{last_among}
 use Rattle.elaborate.proofs.Standing.{AreValues, IsSlotOf, IsValueSlot, Standing, found_of}
-use Rattle.elaborate.proofs.Tells.{Tells}
-use Rattle.elaborate.proofs.Claims.{Does, does_both, does_step}
+use Rattle.elaborate.proofs.Claims.{Does, does_step}
 use Rattle.elaborate.proofs.Inside.{facts_inside}
-use Rattle.elaborate.proofs.Leaves.{Has, IsUnshared, store_leads}
+use Rattle.elaborate.proofs.Leaves.{Has, store_leads}
 use Rattle.elaborate.proofs.Points.{all_in, gives_value, has_local, has_value, held_before, held_last, unshared, values_more}
-use Rattle.elaborate.proofs.ValueTypes.{Reads, name_reads, plain_value, value_not_never, value_stays}
+use Rattle.elaborate.proofs.ValueTypes.{name_reads, plain_value, value_stays}
 
 -- What is said of a node is found by its number. The slot of an expression has its type and is no local's; a local that is declared has a slot of its type.
 pub record IsSaid (c : Setting) (said : NodeFacts) : Type 0 where

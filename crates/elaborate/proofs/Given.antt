@@ -1,6 +1,5 @@
 -- What the proofs of this crate go by: a function with the sources of its code, and the laws of the crates below.
-use Rattle.std.specs.Prelude.{◌≡◌, ◌≢◌, ℕ, Bool, true, false, ◌||◌, nat_eq, List, [], ◌∷◌, All, if◌then◌else◌, Option, Some, IsTrue}
-use Rattle.std.specs.List.{list_any}
+use Rattle.std.specs.Prelude.{◌≡◌, ◌≢◌, ℕ, true, ◌||◌, nat_eq, List, [], ◌∷◌, All, if◌then◌else◌, Some}
 use Rattle.std.specs.Option.{option_map}
 use Rattle.dart_types.specs.FormedTable.{FormedTable}
 use Rattle.dart_types.specs.Ty.{Ty}
@@ -11,7 +10,6 @@ use Rattle.flow_model.specs.Flow.{FlowModel, facts_of, at_local, declare_of, end
 use Rattle.flow_model.specs.Assign.{assign_facts}
 use Rattle.flow_model.specs.Join.{join_of, HaveSameScope}
 use Rattle.flow_model.specs.Order.{Implies}
-use Rattle.flow_model.specs.Steps.{exit_of}
 use Rattle.flow_model.specs.declared.locals.Facts.{Facts}
 use Rattle.flow_model.specs.declared.locals.LocalDecl.{LocalDecl}
 use Rattle.flow_model.specs.declared.locals.LocalId.{LocalId}
@@ -21,14 +19,13 @@ use Rattle.core_ir.specs.declared.facts.SlotFact.{SlotFact}
 use Rattle.core_check.specs.Known.{known_in}
 use Rattle.dart_tree.specs.Tree.{Tree, Trees, Part}
 use Rattle.dart_tree.specs.declared.places.Place.{Place}
-use Rattle.flow_model.specs.Promote.{non_null_facts}
 use Rattle.judgement.specs.declared.meaning.Meaning.{Meaning}
 use Rattle.judgement.specs.Surroundings.{Names, Surroundings}
 use Rattle.judgement.specs.DeclaredNames.{names_declared, names_in, within}
 use Rattle.judgement.specs.Judgement.{run}
 use Rattle.built_forms.specs.Forms.{are_statements, is_block}
 use Rattle.rule_laws.specs.Plain.{HidesNothing}
-use Rattle.rule_laws.specs.Steps.{BlockSteps, BranchSteps, ConditionSteps, LoopTurns, StatementSteps, StatementsStep, ValueSteps}
+use Rattle.rule_laws.specs.Steps.{BlockSteps, BranchSteps, ConditionSteps, LoopTurns, StatementSteps, ValueSteps}
 use Rattle.elaborate.specs.Sources.{Sources}
 
 -- the rows, the function, the sources of its code, and what words mean outside of it

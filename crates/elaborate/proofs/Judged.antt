@@ -1,5 +1,5 @@
 -- The code of every value that is built does what the rules say of it.
-use Rattle.std.proofs.Common.{◌≡◌, ℕ, Bool, true, false, cond, not, ◌&&◌, List, [], ◌∷◌, ◌++◌, Option, Some, None, refl, sym, ap, ◌∙◌, subst}
+use Rattle.std.proofs.Common.{◌≡◌, ℕ, Bool, true, false, cond, ◌&&◌, List, [], ◌∷◌, ◌++◌, Option, Some, None, refl, sym, ap, ◌∙◌, subst}
 use Rattle.std.specs.Option.{option_map_or}
 use Rattle.std.proofs.lemmas.Bool.{and_parts}
 use Rattle.dart_tree.specs.Tree.{Tree, assignment, call, identifier, integer_literal, boolean_literal, null_literal, parenthesis, binary_expression}
@@ -18,24 +18,24 @@ use Rattle.flow_model.specs.declared.locals.LocalId.{LocalId}
 use Rattle.judgement.specs.NodeFacts.{NodeFacts}
 use Rattle.judgement.specs.declared.meaning.Meaning.{Meaning}
 use Rattle.judgement.specs.declared.meaning.Meaning.TheVariants.{Nothing, Local, Print, Class, Other}
-use Rattle.judgement.specs.Given.{Evaluation, exits_if_never, expression_row, said_of_expression, with_node}
-use Rattle.judgement.specs.ExpressionRows.{argument_faults, int, bool, kind_row, name_row, not_equal_row, operated_row, operation_of, parameter_of, receiver_faults, where_not_null}
+use Rattle.judgement.specs.Given.{Evaluation, exits_if_never, expression_row, said_of_expression}
+use Rattle.judgement.specs.ExpressionRows.{argument_faults, bool, name_row, not_equal_row, operated_row, operation_of, parameter_of, receiver_faults, where_not_null}
 use Rattle.judgement.specs.Surroundings.{Names, meaning_of}
 use Rattle.judgement.specs.Written.{named_by, written_in}
 use Rattle.judgement.specs.Judgement as rules
 use Rattle.judgement.specs.Judgement.{as_local, element_of, evaluate, is_null_literal}
 use Rattle.built_forms.specs.Forms.{is_effect, is_operator, is_value}
 use Rattle.rule_laws.specs.Plain.{is_value_type}
-use Rattle.rule_laws.specs.Steps.{Evaluates, IsStep}
+use Rattle.rule_laws.specs.Steps.{IsStep}
 use Rattle.core_ir.specs.declared.points.SlotId.{SlotId}
 use Rattle.core_emit.specs.Code.{adds, compares, differs}
-use Rattle.elaborate.specs.Sources.{is_of_node, local_meant, local_named, named_at, slot_at}
+use Rattle.elaborate.specs.Sources.{local_meant, local_named, slot_at}
 use Rattle.elaborate.specs.Known.{holding}
 use Rattle.elaborate.specs.Rows.{compared_local, null_test, operand_of}
 use Rattle.elaborate.proofs.Given.{Setting, Laws, around}
 use Rattle.elaborate.proofs.Standing.{AreValues, Standing, same_slots}
 use Rattle.elaborate.proofs.ValueTypes.{add_operates, left_none, less_operates, right_none}
-use Rattle.elaborate.proofs.Expressions.{AreSaid, IsSaid, Valued, named, operand_slot, plain_row, row_none, said_last, said_left, said_right, values_with}
+use Rattle.elaborate.proofs.Expressions.{AreSaid, Valued, named, operand_slot, plain_row, row_none, said_last, said_left, said_right, values_with}
 use Rattle.elaborate.proofs.ValueForms.{adds_lead, before_node, behind_node, boolean, compares_lead, differs_lead, in_parentheses, integer, null, operands_inside, operator_does}
 
 -- what a value stands for where a statement may

@@ -1,7 +1,7 @@
 -- What is laid stays.
-use Rattle.std.proofs.Common.{◌≡◌, ℕ, ◌+◌, ◌<◌, ◌≤◌, List, [], ◌∷◌, ◌++◌, length, drop, Option, refl, sym, ap, subst, ◌∙◌, arith, length-append}
+use Rattle.std.proofs.Common.{◌≡◌, ℕ, ◌+◌, ◌<◌, ◌≤◌, List, [], ◌∷◌, ◌++◌, length, drop, Option, ap, subst, ◌∙◌, arith, length-append}
 use Rattle.std.proofs.Math.ListN.{length-set}
-use Rattle.dart_tree.specs.Tree.{Tree, trees_of}
+use Rattle.dart_tree.specs.Tree.{Tree}
 use Rattle.flow_model.specs.Flow.{FlowModel}
 use Rattle.core_ir.specs.PointFacts.{PointFacts}
 use Rattle.core_ir.specs.declared.points.FunctionId.{FunctionId}

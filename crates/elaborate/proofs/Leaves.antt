@@ -1,32 +1,29 @@
 -- What steps lead to: values that are held, locals that are written and declared, output.
-use Rattle.std.proofs.Common.{◌≡◌, ◌≢◌, ℕ, ◌+◌, ◌-◌, ◌<◌, Bool, true, false, cond, ◌||◌, nat_eq, List, [], ◌∷◌, ◌++◌, length, Option, Some, None, refl, sym, ap, ◌∙◌, subst, arith, IsTrue, inl, inr}
+use Rattle.std.proofs.Common.{◌≡◌, ◌≢◌, ℕ, ◌+◌, ◌-◌, ◌<◌, true, false, cond, ◌||◌, [], ◌∷◌, ◌++◌, length, refl, sym, ap, ◌∙◌, subst, IsTrue, inl, inr}
 use Rattle.std.specs.Prelude.{All}
-use Rattle.std.proofs.lemmas.Bool.{cases_eq, or_cases, ne_eqb, eq-eqb}
-use Rattle.std.proofs.lemmas.Bool.Decides.{nat_tests}
+use Rattle.std.proofs.lemmas.Bool.{cases_eq, ne_eqb, eq-eqb}
 use Rattle.std.proofs.lemmas.List.Elements.{All-cons, All-nil}
 use Rattle.dart_types.specs.Ty.{Ty}
 use Rattle.dart_types.specs.SubTest.{sub}
 use Rattle.core_ir.specs.PointFacts.{PointFacts}
 use Rattle.core_ir.specs.Program.{Program}
-use Rattle.core_ir.specs.Values.{declared_at, int, bool, no_objects, type_of}
-use Rattle.core_ir.specs.declared.facts.Held.{Held}
-use Rattle.core_ir.specs.declared.facts.Held.TheVariants.{Declared, Own, Shared}
+use Rattle.core_ir.specs.Values.{declared_at, int, bool}
+use Rattle.core_ir.specs.declared.facts.Held.TheVariants.{Own}
 use Rattle.core_ir.specs.declared.facts.Known.{Known}
 use Rattle.core_ir.specs.declared.points.Operand.{Operand}
-use Rattle.core_ir.specs.declared.points.Operand.TheVariants.{Slot, Constant}
 use Rattle.core_ir.specs.declared.points.PointId.{PointId}
 use Rattle.core_ir.specs.declared.points.SlotId.{SlotId}
-use Rattle.core_check.specs.Accepted.{SlotImplies, IsFine, Leads, IsReadable, FitsDeclared, FitsAsked}
-use Rattle.core_check.specs.Known.{facts_at, known_of, is_shared, is_assigned, held_type, operand_type, slot_type, unlisted}
-use Rattle.core_check.specs.Shapes.{asks_of, holds as now_holds, is_fresh, narrows, puts, way}
+use Rattle.core_check.specs.Accepted.{SlotImplies, Leads, IsReadable, FitsDeclared, FitsAsked}
+use Rattle.core_check.specs.Known.{known_of, is_shared, is_assigned, operand_type, unlisted}
+use Rattle.core_check.specs.Shapes.{asks_of, holds as now_holds, is_fresh, puts, way}
 use Rattle.core_check.specs.Types.{held_as, known_on, type_from, changed}
-use Rattle.core_check.specs.declared.parts.How.TheVariants.{Fresh, Holds, Narrows}
+use Rattle.core_check.specs.declared.parts.How.TheVariants.{Fresh, Holds}
 use Rattle.core_check.specs.declared.parts.TypeSource.{TypeSource}
-use Rattle.core_check.specs.declared.parts.TypeSource.TheVariants.{IntType, BoolType, OperandType, NonNullType}
-use Rattle.core_emit.specs.Code.{Step, stores, declares, initializes, adds, compares, differs, prints, goes_on}
+use Rattle.core_check.specs.declared.parts.TypeSource.TheVariants.{IntType, BoolType, OperandType}
+use Rattle.core_emit.specs.Code.{stores, declares, initializes, adds, compares, differs, prints, goes_on}
 use Rattle.core_emit.specs.Emitted.{StepLeads}
 use Rattle.elaborate.proofs.Given.{Setting, Laws}
-use Rattle.elaborate.proofs.Tells.{Tells, implies_itself}
+use Rattle.elaborate.proofs.Tells.{Tells}
 use Rattle.elaborate.proofs.Claims.{Ways, leads_to}
 
 -- lists of one and of two

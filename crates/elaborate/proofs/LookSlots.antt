@@ -1,5 +1,5 @@
 -- The types of slots, as what is said of nodes is put one after another.
-use Rattle.std.proofs.Common.{◌≡◌, ◌≢◌, ℕ, zero, suc, ◌+◌, ◌-◌, ◌<◌, ◌≤◌, Bool, true, false, cond, nat_eq, nat_le, List, [], ◌∷◌, drop, length, get_or, set, map, Option, Some, None, refl, sym, ap, ◌∙◌, arith, if◌then◌else◌}
+use Rattle.std.proofs.Common.{◌≡◌, ◌≢◌, ℕ, zero, suc, ◌+◌, ◌-◌, ◌<◌, ◌≤◌, Bool, true, false, nat_eq, nat_le, List, [], ◌∷◌, drop, length, get_or, set, map, Option, Some, None, refl, sym, ap, ◌∙◌, arith, if◌then◌else◌}
 use Rattle.std.specs.List.{range_with_len}
 use Rattle.std.specs.Option.{option_map_or}
 use Rattle.std.proofs.lemmas.Bool.Decides.{nat_tests}
@@ -11,7 +11,7 @@ use Rattle.flow_model.specs.Flow.{declared_in}
 use Rattle.flow_model.specs.declared.locals.LocalId.{LocalId}
 use Rattle.judgement.specs.NodeFacts.{NodeFacts}
 use Rattle.elaborate.specs.Sources.{local_meant}
-use Rattle.elaborate.specs.Elaborated.{slot_type, slot_type_by, type_by, type_of_local}
+use Rattle.elaborate.specs.Elaborated.{slot_type, type_by, type_of_local}
 use Rattle.elaborate.specs.Lookups.{with_declared, with_type}
 
 -- the type of the slot of the node with a number, where another is put before for the node with the number n

@@ -1,8 +1,7 @@
 -- What is known at points whose facts come from flow models: operands that have values, and slots that are given some.
-use Rattle.std.proofs.Common.{◌≡◌, ◌≢◌, ℕ, ◌+◌, ◌-◌, ◌<◌, Bool, true, false, cond, ◌||◌, nat_eq, List, [], ◌∷◌, ◌++◌, length, Option, Some, None, refl, sym, ap, ◌∙◌, subst, arith, IsTrue, inl, inr}
+use Rattle.std.proofs.Common.{◌≡◌, ◌≢◌, ℕ, ◌+◌, ◌-◌, ◌<◌, Bool, true, false, ◌||◌, nat_eq, List, [], ◌∷◌, ◌++◌, length, Option, Some, None, refl, sym, ap, ◌∙◌, subst, arith, IsTrue, inl, inr}
 use Rattle.std.specs.Prelude.{All}
-use Rattle.std.proofs.lemmas.Bool.{cases_Bool, or_cases, or_left, or_right, ne_eqb, eq-eqb}
-use Rattle.std.proofs.lemmas.Bool.Decides.{nat_tests}
+use Rattle.std.proofs.lemmas.Bool.{or_cases, or_left, or_right, ne_eqb, eq-eqb}
 use Rattle.std.proofs.lemmas.List.Elements.{All-head, All-tail, All-cons, All-nil}
 use Rattle.dart_types.specs.Ty.{Ty}
 use Rattle.dart_types.specs.Same.{same_type}
@@ -13,22 +12,20 @@ use Rattle.flow_model.specs.Assign.{assign_facts}
 use Rattle.flow_model.specs.TypeTests.{is_in}
 use Rattle.flow_model.specs.declared.locals.Facts.{Facts}
 use Rattle.flow_model.specs.declared.locals.LocalId.{LocalId}
-use Rattle.core_ir.specs.PointFacts.{PointFacts}
 use Rattle.core_ir.specs.Values.{declared_at}
-use Rattle.core_ir.specs.declared.facts.Held.TheVariants.{Declared, Own}
+use Rattle.core_ir.specs.declared.facts.Held.TheVariants.{Own}
 use Rattle.core_ir.specs.declared.facts.Known.{Known}
-use Rattle.core_ir.specs.declared.points.Operand.{Operand}
-use Rattle.core_ir.specs.declared.points.Operand.TheVariants.{Slot, Constant}
+use Rattle.core_ir.specs.declared.points.Operand.TheVariants.{Slot}
 use Rattle.core_ir.specs.declared.points.SlotId.{SlotId}
 use Rattle.core_check.specs.Accepted.{SlotImplies}
 use Rattle.core_check.specs.Known.{known_of, is_shared, held_type, unlisted}
 use Rattle.elaborate.specs.Sources.{slot_of_local}
-use Rattle.elaborate.specs.Known.{facts, known_of_local}
+use Rattle.elaborate.specs.Known.{facts}
 use Rattle.elaborate.proofs.Given.{Setting, Laws}
 use Rattle.elaborate.proofs.SlotFacts.{holds, holds-more, value_known, slot_known, local_at}
 use Rattle.elaborate.proofs.Chains.{last_among}
 use Rattle.elaborate.proofs.Standing.{AreValues, IsSlotOf, IsValueSlot, Standing, found_of, known_here, known_plain, value_slot}
-use Rattle.elaborate.proofs.Tells.{Tells, facts_tell, implies_itself}
+use Rattle.elaborate.proofs.Tells.{facts_tell, implies_itself}
 use Rattle.elaborate.proofs.Leaves.{Given, Has, IsUnshared}
 
 -- what all of a list have has each that is found in it

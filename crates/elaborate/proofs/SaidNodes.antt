@@ -1,14 +1,14 @@
 -- What is said of the nodes of a body is found by their numbers, and their slots have the types that are said.
-use Rattle.std.proofs.Common.{◌≡◌, ◌≢◌, ℕ, zero, suc, ◌+◌, ◌-◌, ◌<◌, ◌≤◌, Bool, true, false, cond, ◌||◌, nat_eq, map, List, [], ◌∷◌, ◌++◌, length, get_or, Option, Some, None, refl, sym, ap, ◌∙◌, subst, arith, inl, inr}
-use Rattle.std.specs.List.{list_any, range_with_len}
+use Rattle.std.proofs.Common.{◌≡◌, ◌≢◌, ℕ, zero, suc, ◌+◌, ◌-◌, ◌<◌, ◌≤◌, Bool, true, false, cond, ◌||◌, nat_eq, List, [], ◌∷◌, ◌++◌, length, get_or, Option, Some, None, refl, sym, ap, ◌∙◌, subst, arith, inl, inr}
+use Rattle.std.specs.List.{list_any}
 use Rattle.std.specs.Option.{option_map, option_map_or}
-use Rattle.std.specs.Prelude.{All, AllPairs, find}
-use Rattle.std.proofs.lemmas.Bool.{cases_eq, cases_lt, cases_order, ne_eqb, eq-eqb, or_cases, or_from, or_left, or_right}
+use Rattle.std.specs.Prelude.{All, find}
+use Rattle.std.proofs.lemmas.Bool.{cases_eq, cases_lt, ne_eqb, eq-eqb, or_from, or_left, or_right}
 use Rattle.std.proofs.lemmas.Bool.Decides.{nat_tests}
 use Rattle.std.proofs.lemmas.List.{get_or_default}
 use Rattle.std.proofs.lemmas.List.Elements.{All-head, All-tail}
 use Rattle.std.proofs.lemmas.List.FromFn.{get_or-map-range_with_len, length-map-range_with_len}
-use Rattle.dart_types.specs.Ty.{Ty, invalid, void}
+use Rattle.dart_types.specs.Ty.{Ty, invalid}
 use Rattle.flow_model.specs.Flow.{declared_in, facts_of}
 use Rattle.flow_model.specs.declared.locals.Facts.{Facts}
 use Rattle.flow_model.specs.declared.locals.LocalId.{LocalId}
@@ -17,12 +17,11 @@ use Rattle.judgement.specs.declared.meaning.Meaning.{Meaning}
 use Rattle.judgement.specs.declared.meaning.Meaning.TheVariants.{Nothing, Local, Print, Class, Other}
 use Rattle.rule_laws.specs.Keys.{AreOnce, IsFoundByNumber, declared_number, local_declared, number_meant, numbers_said}
 use Rattle.core_ir.specs.Values.{declared_at}
-use Rattle.core_ir.specs.declared.points.SlotId.{SlotId}
-use Rattle.elaborate.specs.Sources.{Sources, is_of_node, local_meant, slot_of}
+use Rattle.elaborate.specs.Sources.{local_meant, slot_of}
 use Rattle.elaborate.specs.Elaborated.{past_all, slot_count, slot_type, slot_type_by, slot_types, type_by, type_of_local}
 use Rattle.elaborate.proofs.Given.{Setting}
 use Rattle.elaborate.proofs.Standing.{IsSlotOf, IsValueSlot, is_declared}
-use Rattle.elaborate.proofs.Expressions.{AreSaid, IsSaid}
+use Rattle.elaborate.proofs.Expressions.{AreSaid}
 
 -- each number that is said is in the range
 module _ (P : ℕ → Type 0) where

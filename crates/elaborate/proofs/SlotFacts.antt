@@ -1,9 +1,8 @@
 -- What the facts of a point say of each slot.
-use Rattle.std.proofs.Common.{◌≡◌, ◌≢◌, ℕ, suc, ◌+◌, ◌-◌, ◌<◌, ◌≤◌, Bool, true, false, cond, ◌||◌, nat_eq, fold, map, List, [], ◌∷◌, ◌++◌, Option, Some, None, refl, sym, ap, ◌∙◌, subst, arith}
-use Rattle.std.specs.Prelude.{All, AllPairs, find}
+use Rattle.std.proofs.Common.{◌≡◌, ◌≢◌, ℕ, suc, ◌+◌, ◌-◌, ◌<◌, ◌≤◌, Bool, true, false, cond, ◌||◌, nat_eq, fold, map, List, [], ◌∷◌, ◌++◌, Option, Some, None, refl, sym, ap, ◌∙◌, arith}
+use Rattle.std.specs.Prelude.{All, find}
 use Rattle.std.specs.Option.{option_map_or}
 use Rattle.std.proofs.lemmas.Bool.Decides.{nat_tests}
-use Rattle.std.proofs.lemmas.Bool.{ne_eqb, eq-eqb}
 use Rattle.std.proofs.lemmas.List.Elements.{All-head, All-tail}
 use Rattle.flow_model.specs.Flow.{FlowModel, IsInOrder, is_of, facts_of}
 use Rattle.flow_model.specs.declared.locals.Facts.{Facts}
@@ -15,7 +14,7 @@ use Rattle.core_ir.specs.declared.facts.SlotFact.{SlotFact}
 use Rattle.core_ir.specs.declared.points.SlotId.{SlotId}
 use Rattle.core_check.specs.Known.{known_in, known_of, unlisted}
 use Rattle.elaborate.specs.Sources.{Sources, slot_of_local}
-use Rattle.elaborate.specs.Known.{known_of_local, fact_of_local, fact_of_value, listed_facts, facts}
+use Rattle.elaborate.specs.Known.{known_of_local, fact_of_local, fact_of_value, facts}
 use Rattle.elaborate.proofs.Given.{Setting, Laws}
 
 -- whether the slot with the number i is among some

@@ -10,12 +10,11 @@ use Rattle.dart_tree.specs.Places.{place_of}
 use Rattle.dart_tree.specs.declared.places.Place.{Place}
 use Rattle.dart_tree.specs.declared.places.Span.{Span}
 use Rattle.dart_types.specs.Tables.{Table}
-use Rattle.judgement.specs.NodeFacts.{NodeFacts}
 use Rattle.judgement.specs.Given.{Outcome}
 use Rattle.judgement.specs.declared.meaning.Meaning.{Meaning}
 use Rattle.built_forms.specs.Forms.{is_statement}
 use Rattle.built_forms.specs.Laws.{BodiesAreBlocks, IsBuiltBlock}
-use Rattle.check_library.specs.Checked.{IsCheckOf, IsFaultless, main_of_checked}
+use Rattle.check_library.specs.Checked.{IsCheckOf, main_of_checked}
 use Rattle.check_library.specs.Faultless.{body_faultless, main_of_check}
 use Rattle.check_library.specs.Diagnostics.{faults_in}
 use Rattle.check_library.specs.Units.{body_of, judged_body, judged_by, main_of, outside_of, unit_of_text}

@@ -1,9 +1,8 @@
 -- Flow models whose locals have slots, and what is known of slots there.
-use Rattle.std.proofs.Common.{◌≡◌, ◌≢◌, ℕ, suc, ◌+◌, ◌-◌, ◌<◌, ◌≤◌, Bool, true, false, cond, ◌||◌, nat_eq, fold, map, List, [], ◌∷◌, ◌++◌, length, Option, Some, None, refl, sym, ap, ◌∙◌, subst, arith, IsTrue, inl, inr}
+use Rattle.std.proofs.Common.{◌≡◌, ◌≢◌, ℕ, ◌+◌, ◌-◌, ◌<◌, ◌≤◌, Bool, true, false, cond, ◌||◌, nat_eq, map, List, [], ◌∷◌, ◌++◌, length, Option, Some, None, refl, sym, ap, ◌∙◌, subst, arith, inl, inr}
 use Rattle.std.specs.Prelude.{All, find}
 use Rattle.std.specs.List.{list_any}
-use Rattle.std.specs.Option.{option_map_or}
-use Rattle.std.proofs.lemmas.Bool.{or_cases, cases_Bool}
+use Rattle.std.proofs.lemmas.Bool.{or_cases}
 use Rattle.std.proofs.lemmas.Bool.Decides.{nat_tests}
 use Rattle.std.proofs.lemmas.List.Elements.{All-head, All-tail, All-cons, All-nil}
 use Rattle.dart_types.specs.Ty.{Ty}
@@ -19,11 +18,11 @@ use Rattle.core_ir.specs.Values.{declared_at}
 use Rattle.core_ir.specs.declared.facts.Held.TheVariants.{Own}
 use Rattle.core_ir.specs.declared.facts.Known.{Known}
 use Rattle.core_ir.specs.declared.points.SlotId.{SlotId}
-use Rattle.core_check.specs.Known.{known_of, unlisted}
+use Rattle.core_check.specs.Known.{known_of}
 use Rattle.core_check.specs.Types.{held_as}
 use Rattle.elaborate.specs.Known.{known_of_local, facts}
 use Rattle.elaborate.proofs.Given.{Setting, Laws}
-use Rattle.elaborate.proofs.SlotFacts.{holds, value_known, slot_known, local_at, AreFrom, known_at}
+use Rattle.elaborate.proofs.SlotFacts.{holds, slot_known, local_at, AreFrom, known_at}
 
 -- a number is that of a name that some node declares
 abbrev pub is_declared : List NodeFacts → ℕ → Bool

@@ -1,14 +1,12 @@
 -- The code of a statement does what the rules say of it.
-use Rattle.std.proofs.Common.{◌≡◌, ◌≢◌, ℕ, Bool, true, false, cond, not, ◌&&◌, ◌||◌, List, [], ◌∷◌, ◌++◌, Option, Some, None, refl, sym, ap, ◌∙◌, subst, IsTrue, inl, inr}
+use Rattle.std.proofs.Common.{◌≡◌, ◌≢◌, ℕ, Bool, true, false, not, ◌&&◌, ◌||◌, List, [], ◌∷◌, ◌++◌, Option, Some, None, refl, sym, ap, ◌∙◌, subst}
 use Rattle.std.specs.FinMap.{get}
 use Rattle.std.specs.Option.{option_map_or}
-use Rattle.std.specs.Prelude.{All, filter, slice_index_or}
-use Rattle.std.proofs.lemmas.Bool.{and_parts, or_cases}
+use Rattle.std.specs.Prelude.{filter, slice_index_or}
+use Rattle.std.proofs.lemmas.Bool.{and_parts}
 use Rattle.std.proofs.lemmas.List.Elements.{All-nil}
 use Rattle.dart_tree.specs.Tree.{Tree, Trees, Part, no_more, more, absent, present, variable, variable_list, block, variable_statement, expression_statement, if_statement, while_statement, error_node, named_type}
 use Rattle.dart_tree.specs.Places.{place_of}
-use Rattle.dart_tree.specs.declared.names.Name.{Name}
-use Rattle.dart_tree.specs.declared.places.NodeId.{NodeId}
 use Rattle.dart_tree.specs.declared.places.Place.{Place}
 use Rattle.dart_types.specs.Ty.{Ty}
 use Rattle.dart_types.specs.Invalid.{holds_invalid}
@@ -17,26 +15,23 @@ use Rattle.flow_model.specs.Join.{join_of, HaveSameScope, scope_of}
 use Rattle.flow_model.specs.Order.{Implies}
 use Rattle.flow_model.specs.declared.locals.Facts.{Facts}
 use Rattle.flow_model.specs.declared.locals.LocalId.{LocalId}
-use Rattle.judgement.specs.NodeFacts.{NodeFacts}
 use Rattle.judgement.specs.declared.meaning.Meaning.{Meaning}
 use Rattle.judgement.specs.declared.meaning.Meaning.TheVariants.{Nothing, Local, Print, Class, Other}
-use Rattle.judgement.specs.DeclaredNames.{locals_of, names_declared, names_in, names_within, within}
-use Rattle.judgement.specs.Given.{Evaluation, Jump, Outcome, joined_with, said_of_statement}
-use Rattle.judgement.specs.ExpressionRows.{bool}
+use Rattle.judgement.specs.DeclaredNames.{locals_of, names_declared, names_in, names_within}
+use Rattle.judgement.specs.Given.{Evaluation, Outcome, joined_with, said_of_statement}
 use Rattle.judgement.specs.StatementRows.{loop_head, scope_row}
 use Rattle.judgement.specs.Surroundings.{Names}
 use Rattle.judgement.specs.Written.{written_in}
 use Rattle.judgement.specs.Judgement as rules
 use Rattle.judgement.specs.Judgement.{declare, evaluate, run, run_all, run_branch, written_type}
-use Rattle.built_forms.specs.Forms.{are_statements, has_effect, has_type, is_block, is_declaration, is_effect, is_error, is_free, is_one_variable, is_statement, is_type, is_value, is_variable, is_written_type, may_be_block}
+use Rattle.built_forms.specs.Forms.{are_statements, has_effect, has_type, is_block, is_declaration, is_error, is_free, is_one_variable, is_statement, is_type, is_value, is_variable, is_written_type, may_be_block}
 use Rattle.rule_laws.specs.Plain.{HidesNothing}
-use Rattle.rule_laws.specs.Steps.{IsLoop, IsStep, Runs}
-use Rattle.core_ir.specs.PointFacts.{PointFacts}
+use Rattle.rule_laws.specs.Steps.{IsStep}
 use Rattle.core_ir.specs.declared.points.SlotId.{SlotId}
 use Rattle.core_emit.specs.Code.{Code, choice, loop, nothing, sequence}
-use Rattle.elaborate.specs.Sources.{known_before, known_behind}
+use Rattle.elaborate.specs.Sources.{known_behind}
 use Rattle.elaborate.specs.Known.{facts}
-use Rattle.elaborate.specs.Rows.{Condition, all_declared, branch_code, condition_of, declared_code, effect_code, if_row, list_code, site_of, statement_code, statements_code, while_row}
+use Rattle.elaborate.specs.Rows.{Condition, all_declared, branch_code, condition_of, declared_code, effect_code, list_code, site_of, statement_code, statements_code}
 use Rattle.elaborate.proofs.Given.{Setting, Laws, around}
 use Rattle.elaborate.proofs.Standing.{AreValues, HasSlots, IsValueSlot, Standing, same_slots}
 use Rattle.elaborate.proofs.Tells.{Tells, facts_tell, tells_itself}
@@ -45,9 +40,9 @@ use Rattle.elaborate.proofs.Inside.{facts_inside}
 use Rattle.elaborate.proofs.Leaves.{go_leads}
 use Rattle.elaborate.proofs.Points.{unshared}
 use Rattle.elaborate.proofs.ValueTypes.{left_none, right_none}
-use Rattle.elaborate.proofs.Expressions.{AreSaid, IsSaid, said_last, said_left, said_right}
-use Rattle.elaborate.proofs.Judged.{stands_after, stands_behind}
-use Rattle.elaborate.proofs.ConditionForms.{ConditionDoes, condition_does, no_values}
+use Rattle.elaborate.proofs.Expressions.{AreSaid, said_left, said_right}
+use Rattle.elaborate.proofs.Judged.{stands_behind}
+use Rattle.elaborate.proofs.ConditionForms.{condition_does, no_values}
 use Rattle.elaborate.proofs.DeclaredForms.{DeclaresWell, declares_well, initializes_well}
 use Rattle.elaborate.proofs.Effects.{effect}
 

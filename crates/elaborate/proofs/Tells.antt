@@ -1,16 +1,13 @@
 -- Which facts of a point tell at least as much as which.
-use Rattle.std.proofs.Common.{◌≡◌, ◌≢◌, ℕ, ◌+◌, ◌-◌, ◌<◌, Bool, true, false, cond, nat_eq, List, [], ◌∷◌, ◌++◌, length, Option, Some, None, refl, sym, ap, ◌∙◌, subst, arith, IsTrue}
-use Rattle.std.specs.Option.{option_map_or}
-use Rattle.std.proofs.lemmas.Bool.{cases_Bool}
+use Rattle.std.proofs.Common.{◌≡◌, ◌≢◌, ℕ, ◌+◌, ◌-◌, ◌<◌, Bool, true, false, List, [], ◌∷◌, ◌++◌, length, Option, Some, None, refl, sym, ◌∙◌, subst, arith, IsTrue}
 use Rattle.dart_types.specs.Ty.{Ty}
-use Rattle.dart_types.specs.SubTest.{sub}
 use Rattle.flow_model.specs.Flow.{FlowModel, facts_of, current_of}
-use Rattle.flow_model.specs.Order.{Implies, Knows, SaysMore}
+use Rattle.flow_model.specs.Order.{Implies, SaysMore}
 use Rattle.flow_model.specs.declared.locals.Facts.{Facts}
 use Rattle.flow_model.specs.declared.locals.LocalId.{LocalId}
 use Rattle.core_ir.specs.PointFacts.{PointFacts}
 use Rattle.core_ir.specs.Values.{declared_at}
-use Rattle.core_ir.specs.declared.facts.Held.TheVariants.{Declared, Own}
+use Rattle.core_ir.specs.declared.facts.Held.TheVariants.{Own}
 use Rattle.core_ir.specs.declared.facts.Known.{Known}
 use Rattle.core_ir.specs.declared.points.SlotId.{SlotId}
 use Rattle.core_check.specs.Known.{known_of, unlisted, held_type}

@@ -1,41 +1,37 @@
 -- What tests lead to: a value that is a truth, and a local that is null or isn't.
-use Rattle.std.proofs.Common.{◌≡◌, ◌≢◌, ℕ, ◌+◌, ◌-◌, ◌<◌, Bool, true, false, cond, not, ◌||◌, nat_eq, nat_le, List, [], ◌∷◌, ◌++◌, length, Option, Some, None, refl, sym, ap, ◌∙◌, subst, arith, IsTrue, inl, inr}
+use Rattle.std.proofs.Common.{◌≡◌, ◌≢◌, ℕ, ◌+◌, ◌-◌, ◌<◌, Bool, true, false, cond, not, ◌||◌, List, [], ◌∷◌, ◌++◌, length, refl, sym, ap, ◌∙◌, subst, IsTrue, inl, inr}
 use Rattle.std.specs.Prelude.{All}
-use Rattle.std.proofs.lemmas.Bool.{cases_eq, cases_Bool, or_cases, or_left, or_right, ne_eqb, eq-eqb}
-use Rattle.std.proofs.lemmas.Bool.Decides.{nat_tests}
-use Rattle.std.proofs.lemmas.List.Elements.{All-cons, All-nil}
+use Rattle.std.proofs.lemmas.Bool.{cases_eq, ne_eqb, eq-eqb}
+use Rattle.std.proofs.lemmas.List.Elements.{All-nil}
 use Rattle.dart_types.specs.Ty.{Ty}
 use Rattle.dart_types.specs.Same.{same_type}
 use Rattle.dart_types.specs.SubTest.{sub}
-use Rattle.flow_model.specs.Flow.{FlowModel, facts_of, current_of, last_or}
-use Rattle.flow_model.specs.Promote.{non_null_facts, without_null_of, promoted_facts}
+use Rattle.flow_model.specs.Flow.{current_of, last_or}
+use Rattle.flow_model.specs.Promote.{non_null_facts, without_null_of}
 use Rattle.flow_model.specs.TypeTests.{is_formed}
 use Rattle.flow_model.specs.declared.locals.Facts.{Facts}
-use Rattle.flow_model.specs.declared.locals.LocalId.{LocalId}
 use Rattle.type_bounds.specs.NonNull.{non_null_of}
 use Rattle.core_ir.specs.PointFacts.{PointFacts}
 use Rattle.core_ir.specs.Program.{Program}
 use Rattle.core_ir.specs.Values.{declared_at, bool}
-use Rattle.core_ir.specs.declared.facts.Held.TheVariants.{Declared, Own}
+use Rattle.core_ir.specs.declared.facts.Held.TheVariants.{Own}
 use Rattle.core_ir.specs.declared.facts.Known.{Known}
 use Rattle.core_ir.specs.declared.points.Operand.{Operand}
 use Rattle.core_ir.specs.declared.points.Operand.TheVariants.{Slot, Constant}
 use Rattle.core_ir.specs.declared.points.PointId.{PointId}
 use Rattle.core_ir.specs.declared.points.SlotId.{SlotId}
-use Rattle.core_ir.specs.declared.points.Term.TheVariants.{Branch, TestNull}
-use Rattle.core_ir.specs.declared.values.Value.{Value}
 use Rattle.core_ir.specs.declared.values.Value.TheVariants.{Null, Integer, Boolean}
 use Rattle.core_check.specs.Accepted.{SlotImplies, IsFine, Leads, IsReadable, FitsDeclared, FitsAsked}
-use Rattle.core_check.specs.Known.{facts_at, known_of, is_shared, held_type, operand_type, slot_type}
-use Rattle.core_check.specs.Shapes.{TermShape, shape, asks_of, narrows, way, straight, on_bool, on_constant}
-use Rattle.core_check.specs.Types.{held_as, known_on, type_from, changed, without_null}
+use Rattle.core_check.specs.Known.{facts_at, known_of, operand_type, slot_type}
+use Rattle.core_check.specs.Shapes.{asks_of, narrows, way, straight, on_bool, on_constant}
+use Rattle.core_check.specs.Types.{held_as, known_on, changed, without_null}
 use Rattle.core_check.specs.declared.parts.How.TheVariants.{Narrows}
-use Rattle.core_check.specs.declared.parts.TypeSource.TheVariants.{BoolType, OperandType, NonNullType}
-use Rattle.core_emit.specs.Code.{Test, on_truth, on_not_null}
+use Rattle.core_check.specs.declared.parts.TypeSource.TheVariants.{BoolType, NonNullType}
+use Rattle.core_emit.specs.Code.{on_truth, on_not_null}
 use Rattle.core_emit.specs.Emitted.{TestLeads}
 use Rattle.elaborate.proofs.Given.{Setting, Laws}
-use Rattle.elaborate.proofs.Tells.{Tells, implies_itself}
-use Rattle.elaborate.proofs.Claims.{Ways, leads_to}
+use Rattle.elaborate.proofs.Tells.{Tells}
+use Rattle.elaborate.proofs.Claims.{leads_to}
 use Rattle.elaborate.proofs.Leaves.{Has, IsUnshared, all_one, all_two, way_straight}
 
 -- facts are told, where a run may come to them

@@ -1,51 +1,41 @@
 -- The code of each form of a value does what the rules say of it.
-use Rattle.std.proofs.Common.{◌≡◌, ◌≢◌, ℕ, ◌+◌, ◌-◌, ◌<◌, Bool, true, false, cond, not, ◌&&◌, ◌||◌, nat_eq, List, [], ◌∷◌, ◌++◌, length, Option, Some, None, is_some, refl, sym, ap, ◌∙◌, subst, IsTrue, inl, inr}
-use Rattle.std.specs.Prelude.{All, find}
+use Rattle.std.proofs.Common.{◌≡◌, ◌≢◌, ℕ, ◌+◌, ◌-◌, ◌<◌, Bool, true, false, cond, ◌&&◌, ◌||◌, nat_eq, List, [], ◌∷◌, ◌++◌, Option, Some, None, is_some, refl, sym, ap, ◌∙◌, subst, IsTrue}
+use Rattle.std.specs.Prelude.{find}
 use Rattle.std.specs.Option.{option_map_or}
-use Rattle.std.proofs.lemmas.Bool.{and_parts}
 use Rattle.dart_tree.specs.Tree as tree
-use Rattle.dart_tree.specs.Tree.{Tree, identifier, integer_literal, boolean_literal, null_literal, parenthesis, binary_expression}
+use Rattle.dart_tree.specs.Tree.{Tree, integer_literal, boolean_literal, null_literal, parenthesis, binary_expression}
 use Rattle.dart_tree.specs.Places.{place_of}
 use Rattle.dart_tree.specs.declared.operators.BinaryOperator.{BinaryOperator}
-use Rattle.dart_tree.specs.declared.operators.BinaryOperatorKind.{BinaryOperatorKind}
-use Rattle.dart_tree.specs.declared.operators.BinaryOperatorKind.TheVariants.{Add, Less, NotEqual}
 use Rattle.dart_tree.specs.declared.places.Place.{Place}
 use Rattle.dart_types.specs.Ty.{Ty}
 use Rattle.dart_types.specs.Ty as ty
 use Rattle.flow_model.specs.Flow.{FlowModel}
-use Rattle.flow_model.specs.declared.locals.LocalId.{LocalId}
 use Rattle.judgement.specs.NodeFacts.{NodeFacts}
-use Rattle.judgement.specs.declared.meaning.Meaning.{Meaning}
 use Rattle.judgement.specs.Given.{Evaluation, expression_row, faulty, of_type, said_of_expression, with_node}
-use Rattle.judgement.specs.ExpressionRows.{argument_faults, boolean_row, integer_row, int, bool, operation_of, parameter_of, receiver_faults, result_type, where_not_null}
+use Rattle.judgement.specs.ExpressionRows.{boolean_row, integer_row, int, bool}
 use Rattle.judgement.specs.Literals.{integer_of}
 use Rattle.judgement.specs.Surroundings.{Names, lexeme_of}
 use Rattle.judgement.specs.Judgement as rules
 use Rattle.judgement.specs.Judgement.{element_of, evaluate}
 use Rattle.judgement.specs.declared.code.DiagnosticCode.TheVariants.{IntegerLiteralOutOfRange}
-use Rattle.rule_laws.specs.Plain.{is_value_type}
 use Rattle.core_ir.specs.PointFacts.{PointFacts}
 use Rattle.core_ir.specs.Values.{declared_at}
-use Rattle.core_ir.specs.declared.points.Operand.{Operand}
-use Rattle.core_ir.specs.declared.points.Operand.TheVariants.{Slot, Constant}
 use Rattle.core_ir.specs.declared.points.SlotId.{SlotId}
-use Rattle.core_ir.specs.declared.values.Value.TheVariants.{Boolean}
-use Rattle.core_emit.specs.Code.{Code, Step, adds, compares, differs, leaf, nothing, sequence}
+use Rattle.core_emit.specs.Code.{Code, Step, adds, compares, differs, leaf, nothing}
 use Rattle.core_emit.specs.Emitted.{IsStepOf, StepLeads}
 use Rattle.core_check.specs.WellFormed.{IsOperand, IsSlot}
 use Rattle.elaborate.specs.Sources.{nowhere, known_before, known_behind, slot_at}
 use Rattle.elaborate.specs.Known.{facts, holding}
-use Rattle.elaborate.specs.Rows.{code_of, operand_of, operator_row, operator_step, site_of, step_at, test_of_null}
+use Rattle.elaborate.specs.Rows.{code_of, operand_of, operator_row, operator_step, site_of, step_at}
 use Rattle.elaborate.proofs.Given.{Setting, Laws, around}
-use Rattle.elaborate.proofs.SlotFacts.{holds}
 use Rattle.elaborate.proofs.Standing.{AreValues, IsValueSlot, Standing}
 use Rattle.elaborate.proofs.Tells.{Tells}
 use Rattle.elaborate.proofs.Claims.{Does, does_both, does_nothing, does_step}
 use Rattle.elaborate.proofs.Inside.{facts_inside}
 use Rattle.elaborate.proofs.Leaves.{Has, add_leads, compare_leads, differ_leads}
 use Rattle.elaborate.proofs.Points.{gives_value, unshared}
-use Rattle.elaborate.proofs.ValueTypes.{Operates, add_operates, left_none, less_operates, right_none}
-use Rattle.elaborate.proofs.Expressions.{AreSaid, IsHeld, IsOperandOf, IsSaid, Valued, fewer_held, has_operand, held_still, held_with, operand_inside, plain_row, row_none, said_last, said_left, said_right, values_with}
+use Rattle.elaborate.proofs.ValueTypes.{Operates}
+use Rattle.elaborate.proofs.Expressions.{AreSaid, IsOperandOf, IsSaid, Valued, fewer_held, has_operand, held_still, held_with, operand_inside, plain_row, row_none, said_last, values_with}
 
 module _ (c : Setting) (laws : Laws c) where
   -- what is known around a node of which this is said

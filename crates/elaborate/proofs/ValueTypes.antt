@@ -1,5 +1,5 @@
 -- What values of a form that is built give: their types, and the models behind them.
-use Rattle.std.proofs.Common.{◌≡◌, ℕ, Bool, true, false, cond, not, ◌&&◌, ◌||◌, List, [], ◌∷◌, ◌++◌, Option, Some, None, is_some, refl, sym, ap, ◌∙◌, subst, IsTrue, inl, inr}
+use Rattle.std.proofs.Common.{◌≡◌, ℕ, Bool, true, false, cond, not, ◌&&◌, ◌||◌, List, [], ◌∷◌, ◌++◌, Option, Some, None, is_some, refl, sym, ap, ◌∙◌, subst, IsTrue}
 use Rattle.std.specs.FinMap.{get}
 use Rattle.std.specs.Option.{option_map_or}
 use Rattle.std.specs.Prelude.{slice_index_or}
@@ -7,15 +7,14 @@ use Rattle.dart_tree.specs.declared.operators.BinaryOperatorKind.{BinaryOperator
 use Rattle.dart_tree.specs.declared.operators.BinaryOperatorKind.TheVariants.{Add, Less}
 use Rattle.dart_tree.specs.declared.places.Place.{Place}
 use Rattle.dart_tree.specs.declared.places.Span.{Span}
-use Rattle.dart_types.specs.Ty.{Ty, Types, invalid, never, void, null, interface, function, variable, promoted, nullable, no_more, more}
+use Rattle.dart_types.specs.Ty.{Ty, invalid, never, void, null, interface, function, variable, promoted, nullable, no_more, more}
 use Rattle.dart_types.specs.Heads.{object}
 use Rattle.dart_types.specs.Invalid.{holds_invalid}
 use Rattle.dart_types.specs.Same.{same_class, same_type}
 use Rattle.dart_types.specs.SubTest.{sub}
 use Rattle.dart_types.specs.Tables.{Table}
-use Rattle.dart_types.specs.declared.ids.ClassId.{ClassId}
 use Rattle.dart_types.specs.declared.ids.TheConstants.{INT}
-use Rattle.flow_model.specs.Flow.{FlowModel, current_of, facts_of, last_or}
+use Rattle.flow_model.specs.Flow.{FlowModel, current_of, facts_of}
 use Rattle.flow_model.specs.declared.locals.Facts.{Facts}
 use Rattle.flow_model.specs.declared.locals.LocalId.{LocalId}
 use Rattle.judgement.specs.declared.code.DiagnosticCode.TheVariants.{ArgumentType, UnassignedRead, UncheckedNullableUse, UndefinedOperator}
@@ -27,10 +26,9 @@ use Rattle.judgement.specs.ExpressionRows.{argument_faults, bool, int, int_opera
 use Rattle.judgement.specs.Surroundings.{Names, meaning_of}
 use Rattle.built_forms.specs.Forms.{is_free}
 use Rattle.built_forms.specs.Meanings.{meaning_at}
-use Rattle.rule_laws.specs.Plain.{are_none, is_class, is_plain, is_value_type}
+use Rattle.rule_laws.specs.Plain.{is_class, is_plain, is_value_type}
 use Rattle.elaborate.proofs.Given.{Setting, Laws, around}
 use Rattle.elaborate.proofs.Chains.{sub_itself}
-use Rattle.elaborate.proofs.Standing.{Found}
 
 -- lists of diagnostics that are none together are none each
 pub left_none : {A : Type 0} (xs ys : List A) → xs ++ ys ≡ [] → xs ≡ []

@@ -13,9 +13,8 @@ use Rattle.judgement.specs.declared.meaning.Meaning.{Meaning}
 use Rattle.judgement.specs.Surroundings.{of_body}
 use Rattle.judgement.specs.Judgement.{run}
 use Rattle.rule_laws.specs.Keys.{numbers_said}
-use Rattle.core_ir.specs.Program.{Function, Program}
+use Rattle.core_ir.specs.Program.{Program}
 use Rattle.core_ir.specs.declared.points.FunctionId.{FunctionId}
-use Rattle.core_ir.specs.declared.points.PointId.{PointId}
 use Rattle.core_ir.specs.declared.points.Term.TheVariants.{End}
 use Rattle.core_ir.specs.PointFacts.{PointFacts}
 use Rattle.core_emit.specs.Code.{Code, leaf, sequence, goes_on}

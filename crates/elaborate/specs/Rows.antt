@@ -1,5 +1,5 @@
 -- The code of a body: one row for each form, from what is said of its nodes and the code of its parts. Where an expression's code is done, its value stands in the slot of its node, or it is a constant.
-use Rattle.std.specs.Prelude.{ℕ, Bool, true, false, List, [], ◌∷◌, ◌++◌, if◌then◌else◌, Option, Some, None}
+use Rattle.std.specs.Prelude.{ℕ, List, [], ◌∷◌, ◌++◌, if◌then◌else◌, Option, Some, None}
 use Rattle.std.specs.Int.{cast_signed}
 use Rattle.std.specs.Option.{option_map_or}
 use mir.Syntax.{w64}
@@ -10,7 +10,6 @@ use Rattle.dart_tree.specs.declared.operators.BinaryOperatorKind.{BinaryOperator
 use Rattle.dart_tree.specs.declared.operators.BinaryOperatorKind.TheVariants as operator
 use Rattle.dart_tree.specs.declared.places.Place.{Place}
 use Rattle.flow_model.specs.Flow.{FlowModel, is_known}
-use Rattle.flow_model.specs.declared.locals.Facts.{Facts}
 use Rattle.flow_model.specs.declared.locals.LocalId.{LocalId}
 use Rattle.judgement.specs.DeclaredNames.{local_of}
 use Rattle.judgement.specs.Judgement.{is_null_literal}

@@ -2,7 +2,6 @@
 use Rattle.std.specs.Prelude.{ℕ, ◌-◌, Bool, true, false, nat_eq, List, [], find, slice_index_or, Option, Some, None}
 use Rattle.std.specs.Option.{option_map_or}
 use Rattle.dart_tree.specs.Tree.{Tree, identifier, parenthesis}
-use Rattle.dart_tree.specs.declared.places.NodeId.{NodeId}
 use Rattle.dart_tree.specs.declared.places.Place.{Place}
 use Rattle.flow_model.specs.Flow.{FlowModel}
 use Rattle.flow_model.specs.declared.locals.LocalId.{LocalId}

@@ -13,19 +13,20 @@ ghost use Rattle.elaborate.specs.Rows.{site_of, step_at};
 
 use crate::said::Said;
 use core_ir::{
-    Facts, FunctionId, Held, Known, Point, PointId, SharedFact, SlotFact, SlotId, Span, Term,
+    Facts, FunctionId, Held, Known, Pages, Point, PointId, SharedFact, SlotFact, SlotId, Span, Term,
 };
 use dart_tree::Place;
 use dart_types::DartType;
 use flow_model::Flow;
 use std::alloc::{AllocError, Global};
 
-/// The points that were laid, and what was last known of each slot, which points at which the same is
-/// known of it share.
+/// The points that were laid, and what was last known of each slot and of many in a row, which points at
+/// which the same is known share.
 #[derive(Drop)]
 pub(crate) struct Builder {
     alloc: Global,
     shared: Vec<Option<SharedFact>>,
+    pages: Pages,
     /// The points.
     pub(crate) points: Vec<Point>,
 }
@@ -42,6 +43,7 @@ impl Builder {
         Ok(Builder {
             alloc,
             shared,
+            pages: Pages::new(alloc),
             points: Vec::new(alloc),
         })
     }
@@ -123,6 +125,7 @@ impl Builder {
             let slot = said.slot_of_local(local.var);
             let fact = self.local_fact(slot, local.assigned, local.captured, local.current())?;
             facts.put(fact)?;
+            facts.settle(&mut self.pages)?;
         }
         Ok(())
     }

@@ -20,8 +20,9 @@ use plain_text::PlainText;
 use std::alloc::{AllocError, Global};
 
 /// The core program of a block, in a library with these classes, from what the rules said of its nodes. It
-/// has no more than two points for each node and two more. A point costs what is listed of the locals in
-/// scope there, a pointer each, and each node a look at what was said of it. The error is want of memory.
+/// has no more than two points for each node and two more. A point costs a pointer for each page of the
+/// locals in scope there, and one for each local and value behind the last page; each node costs a look at
+/// what was said of it. The error is want of memory.
 pub(crate) fn build_program(
     alloc: Global,
     rows: Rows,

@@ -75,6 +75,10 @@ module _ (s : Surroundings) (free : HidesNothing s) where
   written_plain absent h = cc
   written_plain (present tree) h = type_plain tree h
 
+-- what is false is not true
+untrue : false ≡ true → ⊥
+untrue h = cc
+
 -- Variables.
 
 module _ (s : Surroundings) (laws : StepLaws s.table) where
@@ -131,13 +135,13 @@ module _ (s : Surroundings) (laws : StepLaws s.table) where
       let after : IsStep s.table m given.after (written_in s value ++ []) = step_within s.table laws m given.after (written_in s value) (written_in s value ++ []) (within_left (written_in s value) []) steps.after in
       let runs = initialize_steps name ty (place_of value) given m (written_in s value ++ []) of_type after (no_first row.faults [] none) in
       record { plain = runs.plain; behind = runs.behind }
-  variable_steps ty _ m of_type h none plain = cc
+  variable_steps ty _ m of_type h none plain = absurd (untrue h)
 
   -- variables of which there is one
   variables_steps : (ty : Ty) (trees : Trees) (m : FlowModel) → IsPlainType ty → is_one_variable s.outside trees ≡ true → (declare_all s ty trees m).faults ≡ [] → IsPlain s.table m
       → Runs s.table m (declare_all s ty trees m) (locals_of (names_of_variables trees)) (written_in_all s trees)
   variables_steps ty (more tree no_more) m of_type h none plain = variable_steps ty tree m of_type h none plain
-  variables_steps ty _ m of_type h none plain = cc
+  variables_steps ty _ m of_type h none plain = absurd (untrue h)
 
   -- a declaration
   pub declaration_steps : HidesNothing s → (tree : Tree) (m : FlowModel) → is_declaration s.outside tree ≡ true → (declare_list s tree m).faults ≡ [] → IsPlain s.table m
@@ -145,4 +149,4 @@ module _ (s : Surroundings) (laws : StepLaws s.table) where
   declaration_steps free (variable_list at false written variables) m h none plain =
       let parts = and_parts (has_type s.outside written) (is_one_variable s.outside variables) h in
       variables_steps (written_type s written) variables m (written_plain s free written parts.0) parts.1 none plain
-  declaration_steps free _ m h none plain = cc
+  declaration_steps free _ m h none plain = absurd (untrue h)

@@ -13,8 +13,9 @@ ghost use Rattle.check_library.specs.Checked.{IsFaultless, main_of_checked};
 
 use crate::libraries::library_of;
 use check_library::{Checked, check, no_diagnostics_means_no_faults};
-use core_check::{AcceptRefusal, Accepted, accept, rows_of_no_class_leave_nothing_out};
+use core_check::{AcceptRefusal, Accepted, accept};
 use core_machine::{Machine, Turn};
+use core_rows::core_row_laws;
 use dart_tree::Body;
 use elaborate::elaborate;
 use points::{point_told, site_told};
@@ -269,7 +270,7 @@ fn program_of(alloc: Global, checked: &Checked, body: &Body) -> Result<Accepted,
     requires body { option_map (λ main. main.1) (main_of_checked checked.now) ≡ Some body.now }
 {
     let program = elaborate(alloc, checked, body)?;
-    rows_of_no_class_leave_nothing_out(&checked.rows);
+    core_row_laws(&checked.rows);
     match accept(alloc, program) {
         Ok(accepted) => Ok(accepted),
         Err(AcceptRefusal::Rejected { .. }) => Err("rejected".into()),

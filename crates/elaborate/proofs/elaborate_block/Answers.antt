@@ -1,4 +1,4 @@
-use Rattle.std.proofs.Common.{◌≡◌, ℕ, ◌+◌, ◌*◌, ◌<◌, ◌≤◌, ◌^◌, true, List, [], length, refl, sym, ap, subst, ◌∙◌, arith}
+use Rattle.std.proofs.Common.{◌≡◌, ℕ, ◌+◌, ◌*◌, ◌<◌, ◌≤◌, ◌^◌, true, List, [], length, sym, ap, subst, ◌∙◌}
 use Rattle.std.specs.Prelude.{All}
 use Rattle.dart_scan.specs.Scanned.{tokens_of}
 use Rattle.dart_tree.specs.Tree.{block, trees_of}
@@ -12,7 +12,6 @@ use Rattle.built_forms.specs.Forms.{is_statement}
 use Rattle.check_library.specs.Units.{judged_by, outside_of, unit_of_text}
 use Rattle.core_check.specs.Accepted.{IsAccepted}
 use Rattle.core_check.specs.WellFormed.{IsWellFormed}
-use Rattle.core_ir.specs.Program.{Program}
 use Rattle.elaborate.specs.Elaborated.{program_of}
 use Rattle.elaborate.proofs.Accepted.{elaborated_is}
 use Rattle.elaborate.proofs.SaidNodes.{each_number}

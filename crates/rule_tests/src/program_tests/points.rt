@@ -30,8 +30,8 @@ fn facts_told(alloc: Global, facts: &Facts) -> Result<String, AllocError> {
         " unreached"
     };
     let mut told = String::from_str(alloc, reached)?;
-    for fact in facts.listed() {
-        let fact = fact.fact();
+    for place in 0..facts.len() {
+        let fact = facts.at(place);
         told.push_str(&fact_told(alloc, fact.slot, &fact.known)?)?;
     }
     Ok(told)

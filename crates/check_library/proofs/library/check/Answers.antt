@@ -22,12 +22,12 @@ returns-clause-check c =
       words = unit.words;
       outside = outside;
       one = forms.main ∙ ap (λ (ws : List (List ℕ)). has_main ws c.in_ok-unit.unit.tree) words ∙ ap (λ (tree : Tree). has_main (words_of text) tree) unit.tree;
-      rows = c.none-rows.ensures;
+      rows = c.in_ok-rows.ensures;
       few = c.few_numbers.ensures;
-      typed = c.in_ok-typed.ensures.nodes ∙ typed_of_text text _ _ _ _ c.none-rows.ensures unit.words outside unit.tree;
+      typed = c.in_ok-typed.ensures.nodes ∙ typed_of_text text _ _ _ _ c.in_ok-rows.ensures unit.words outside unit.tree;
       diagnostics =
           reported text c.in_ok-faults.faults.items _ _ _ _ _ c.in_ok-faults.ensures spans c.in_ok-add_not_built.ensures
-          (judged_of_text text _ _ _ _ c.none-rows.ensures unit.words outside unit.tree _ forms.names) c.in_ok-typed.ensures.faults c.in_ok-faults-2.ensures;
+          (judged_of_text text _ _ _ _ c.in_ok-rows.ensures unit.words outside unit.tree _ forms.names) c.in_ok-typed.ensures.faults c.in_ok-faults-2.ensures;
     }
 
 pub returns-clause-diagnostics : goal.returns-clause-diagnostics
@@ -41,4 +41,4 @@ returns-clause-diagnostics c =
     let spans : c.as_slice-2.result.now ≡ unbuilt (words_of text) (unit_of_text text) =
     c.as_slice-2.ensures.value ∙ forms.unbuilt ∙ ap (λ (ws : List (List ℕ)). unbuilt ws c.in_ok-unit.unit.tree) words ∙ ap (λ (tree : Tree). unbuilt (words_of text) tree) unit.tree in
     reported text c.in_ok-faults.faults.items _ _ _ _ _ c.in_ok-faults.ensures spans c.in_ok-add_not_built.ensures
-    (judged_of_text text _ _ _ _ c.none-rows.ensures unit.words outside unit.tree _ forms.names) c.in_ok-typed.ensures.faults c.in_ok-faults-2.ensures
+    (judged_of_text text _ _ _ _ c.in_ok-rows.ensures unit.words outside unit.tree _ forms.names) c.in_ok-typed.ensures.faults c.in_ok-faults-2.ensures

@@ -8,7 +8,7 @@ is_shown-requires c = least_in c.args.context.function.now _ _ _ c.loop-slot.inv
 
 -- the walk goes on
 pub loop-slot-preserved : goal.loop-slot-preserved
-loop-slot-preserved c = rw (c.rest_behind-before.ensures, c.rest_behind-after.ensures) (walk_on _ _ _ _ _ _ _ _ c.loop-slot.invariant (sym c.least_slot.ensures ∙ c.in-Some.is) (c.is_shown.ensures c.if-not-is_shown.false))
+loop-slot-preserved c = rw (c.rest_behind-place.ensures, c.rest_behind-place_after.ensures) (walk_on _ _ _ _ _ _ _ _ c.loop-slot.invariant (sym c.least_slot.ensures ∙ c.in-Some.is) (c.is_shown.ensures c.if-not-is_shown.false))
 
 -- and ends
 pub returns : goal.returns

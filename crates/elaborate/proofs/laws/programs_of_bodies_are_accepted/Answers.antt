@@ -1,19 +1,10 @@
-use Rattle.std.proofs.Common.{◌≡◌, ℕ, ◌+◌, ◌≤◌, ◌^◌, true, List, [], length, refl, sym, ap, subst, ◌∙◌}
-use Rattle.std.specs.FinMap.{empty}
-use Rattle.std.specs.Prelude.{IsFalse}
-use Rattle.dart_tree.specs.Tree.{Tree, Trees, block}
-use Rattle.dart_tree.specs.Numbers.{nodes_in, numbered}
-use Rattle.dart_tree.specs.declared.places.Place.{Place}
-use Rattle.dart_types.specs.FormedTable.{FormedTable}
-use Rattle.dart_types.specs.SubTest.{sub}
-use Rattle.dart_types.specs.Tables.{Table}
+use Rattle.std.proofs.Common.{◌≡◌, ℕ, ◌+◌, ◌≤◌, ◌^◌, List, [], length, refl, sym, subst, ◌∙◌}
+use Rattle.dart_tree.specs.Tree.{block}
+use Rattle.dart_tree.specs.Numbers.{nodes_in}
 use Rattle.flow_model.specs.Flow.{start_of}
-use Rattle.judgement.specs.NodeFacts.{NodeFacts}
-use Rattle.judgement.specs.declared.meaning.Meaning.{Meaning}
 use Rattle.judgement.specs.Surroundings.{of_body}
 use Rattle.judgement.specs.Judgement.{run}
 use Rattle.core_ir.specs.Program.{Program}
-use Rattle.core_ir.specs.Values.{int, bool}
 use Rattle.core_check.specs.Accepted.{IsAccepted}
 use Rattle.core_check.specs.WellFormed.{IsWellFormed}
 use Rattle.core_ir.specs.PointFacts.{PointFacts}
@@ -21,16 +12,11 @@ use Rattle.core_ir.specs.declared.points.Point.{Point}
 use Rattle.core_ir.specs.declared.points.PointId.{PointId}
 use Rattle.core_emit.specs.Code.{Code}
 use Rattle.core_emit.specs.Emitted.{EmitsFinePoints, EmitsFormedPoints}
-use Rattle.elaborate.specs.Elaborated.{elaborated, main_function, sources_of}
+use Rattle.elaborate.specs.Elaborated.{main_function, sources_of}
 use Rattle.elaborate.proofs.Given.{Laws, around}
 use Rattle.elaborate.proofs.Accepted.{accepted, elaborated_is, setting_of, well_formed}
 use Rattle.elaborate.proofs.SaidNodes.{all_said}
 use Rattle.elaborate.proofs.laws.programs_of_bodies_are_accepted.Goals as goal
-
--- where no class has a row, no value is both an integer and a truth
-apart : (table : Table) → table ≡ record { classes = []; vars = [] } → IsFalse (sub table int bool) × IsFalse (sub table bool int)
-unfolding sub
-apart table none = (ap (λ (t : Table). sub t int bool) none, ap (λ (t : Table). sub t bool int) none)
 
 pub returns : goal.returns
 returns c = record {
@@ -42,7 +28,7 @@ returns c = record {
       let setting = setting_of rows x outside body in
       let s = of_body rows.table words outside in
       let typed = (run s body (start_of [])).nodes in
-      let out = c.rows_of_no_class_leave_nothing_out.ensures in
+      let out = c.core_row_laws.ensures.nothing_out in
       let laws : Laws setting = record {
         types = c.row_laws.ensures;
         out = out;
@@ -75,8 +61,9 @@ returns c = record {
       (λ code next points. c.points_of_code_are_well_formed.ensures setting.g main_function code next points) in
       let hides = c.scopes_hide_nothing.ensures.start rows.table words outside in
       let few = subst (λ (p : Program). length p.points ≤ 2 ^ 32) is c.requires.few in
-      let none_both = apart rows.table c.requires.classes in (
-        subst IsAccepted (sym is) (accepted rows x outside at statements laws hides built none said fine formed few none_both.0 none_both.1),
-        subst IsWellFormed (sym is) (well_formed rows x outside at statements laws hides built none said fine formed few none_both.0 none_both.1),
+      let int_apart = c.core_row_laws.ensures.integers_apart in
+      let bool_apart = c.core_row_laws.ensures.truths_apart in (
+        subst IsAccepted (sym is) (accepted rows x outside at statements laws hides built none said fine formed few int_apart bool_apart),
+        subst IsWellFormed (sym is) (well_formed rows x outside at statements laws hides built none said fine formed few int_apart bool_apart),
       );
 }

@@ -1,4 +1,4 @@
-use Rattle.std.proofs.Common.{List, arith, length-append}
+use Rattle.std.proofs.Common.{List, arith}
 use Rattle.dart_tree.specs.Tree.{Tree, trees_of}
 use Rattle.elaborate.specs.Rows.{statements_code}
 use Rattle.elaborate.proofs.LayLengths.{all_laid, asked_keeps, laid_keeps, laid_last}

@@ -1,9 +1,5 @@
-use Rattle.std.proofs.Common.{◌≡◌, refl, sym, ap, subst, ◌∙◌, take, length, arith}
-use Rattle.std.proofs.lemmas.Result.{IfOk-weaker}
-use Rattle.core_ir.specs.declared.points.Term.TheVariants.{Output}
+use Rattle.std.proofs.Common.{◌≡◌, ap, ◌∙◌, take, length, arith}
 use Rattle.elaborate.specs.Known.{holding}
-use Rattle.elaborate.specs.Laid.{IsLaid}
-use Rattle.elaborate.specs.Rows.{one_printed}
 use Rattle.elaborate.specs.Sources.{known_behind}
 use Rattle.elaborate.proofs.LayValues.{laid_nothing, no_argument, of_argument, of_operator, of_print, only_tree, taken_back}
 use Rattle.elaborate.proofs.values.+value.Goals as goal

@@ -1,0 +1,3 @@
+pub mod CoreFormed
+pub mod SameRows
+pub mod NothingOut

@@ -1,0 +1,2 @@
+-- The rows of `dart:core`.
+pub mod CoreTable
