@@ -1,0 +1,13 @@
+pub mod Naming
+pub mod Files
+pub mod Aims
+pub mod Heads
+pub mod Parts
+pub mod LinkFaults
+pub mod Duplicates
+pub mod Checks
+pub mod Elements
+pub mod Graph
+pub mod Ambiguous
+pub mod Scopes
+pub mod Laws
