@@ -9,5 +9,6 @@ pub mod Checks
 pub mod Elements
 pub mod Graph
 pub mod Ambiguous
+pub mod AmbiguousLemmas
 pub mod Scopes
 pub mod Laws

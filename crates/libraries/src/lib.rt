@@ -40,7 +40,10 @@ pub use elements::elements_of;
 pub use files::{SourceFile, paths_of};
 pub use graph::edges_of;
 pub use heads::{Head, heads_of};
-pub use laws::{duplicates_are_second_declarations, paths_are_those_of_files};
+pub use laws::{
+    duplicates_are_second_declarations, few_exports_are_not_ambiguous, paths_are_those_of_files,
+    the_order_of_names_is_no_matter,
+};
 pub use link_faults::add_link_faults;
 pub use naming::named_path;
 pub use parts::{Home, Units, home_of, units_of};

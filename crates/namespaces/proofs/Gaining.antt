@@ -1,10 +1,10 @@
 -- What libraries export, as one declaration after another is looked at.
-use Rattle.std.proofs.Common.{◌≡◌, ◌≢◌, ◌⊎◌, inl, inr, ℕ, zero, suc, ◌+◌, ◌<◌, ◌≤◌, Bool, true, false, ◌||◌, ◌&&◌, bytes_eq, List, [], ◌∷◌, ◌++◌, length, set, replicate, get_or, Contains, Option, Some, None, slice_get, position, refl, sym, ap, ◌∙◌, subst, arith}
-use Rattle.std.proofs.lemmas.Bool.{cases_eq, or_cases, and_parts, cases_Bool}
+use Rattle.std.proofs.Common.{◌≡◌, ◌⊎◌, inl, inr, ℕ, zero, suc, ◌<◌, ◌≤◌, true, false, ◌&&◌, bytes_eq, List, [], ◌∷◌, ◌++◌, length, set, replicate, Contains, Some, slice_get, position, refl, sym, ap, ◌∙◌, subst, arith}
+use Rattle.std.proofs.lemmas.Bool.{cases_eq, or_cases, and_parts}
 use Rattle.std.proofs.lemmas.List.{get_or-set_same, get_or-set_other, length-set, length-replicate}
-use Rattle.std.proofs.lemmas.List.Elements.{Contains-append_left, Contains-append_right, Contains-push, Contains-push_cases}
+use Rattle.std.proofs.lemmas.List.Elements.{Contains-append_left, Contains-push, Contains-push_cases}
 use Rattle.std.proofs.lemmas.List.Quantifiers.{position-Some}
-use Rattle.std.proofs.lemmas.Option.{same_Some, slice_get_within, get_or_from_slice_get}
+use Rattle.std.proofs.lemmas.Option.{slice_get_within, get_or_from_slice_get}
 use Rattle.std.proofs.lemmas.Slice.Eq.{bytes_eq-Decides}
 use Rattle.element_terms.specs.declared.libraries.LibraryElement.{LibraryElement}
 use Rattle.element_terms.specs.declared.declarations.Declared.{Declared}
@@ -13,7 +13,7 @@ use Rattle.element_terms.specs.Declarations.{declares, has_setter}
 use Rattle.library_graph.specs.Paths.{Path, stays, goes}
 use Rattle.namespaces.specs.declared.elements.ElementId.{ElementId}
 use Rattle.namespaces.specs.declared.elements.Exported.{Exported}
-use Rattle.namespaces.specs.Exports.{AreExports, Brings, Exports, IsExport, own, brought, place_in}
+use Rattle.namespaces.specs.Exports.{Brings, Exports, IsExport, own, brought, place_in}
 use Rattle.namespaces.specs.Links.{AreExporting}
 use Rattle.namespaces.specs.Namespaces.{AddsPair, AreNamespaces, Covers, CoversAll, CoversLibrary, Gains, pairs_at}
 use Rattle.namespaces.proofs.LinkLemmas.{no_element, same_at}

@@ -1,2 +1,4 @@
 pub mod LinkLemmas
+pub mod PlaceTables
+pub mod Searching
 pub mod Gaining

@@ -1,5 +1,5 @@
 -- Exports that bring a name for which an earlier export of the library brings another element.
-use Rattle.std.specs.Prelude.{ℕ, Bool, false, ◌&&◌, not, List, [], Option, Some, None, bytes_eq}
+use Rattle.std.specs.Prelude.{ℕ, Bool, ◌&&◌, not, List, [], Option, Some, None, bytes_eq}
 use Rattle.std.specs.List.{list_any}
 use Rattle.std.specs.Option.{is_none}
 use Rattle.dart_types.specs.declared.ids.LibId.{LibId}

@@ -1,5 +1,5 @@
 -- What libraries export.
-use Rattle.std.specs.Prelude.{◌≡◌, ◌==◌, ◌<◌, ℕ, Bool, true, false, List, length, Contains, Option, Some, None, position, slice_get}
+use Rattle.std.specs.Prelude.{◌≡◌, ◌==◌, ℕ, true, false, List, Contains, Option, Some, None, position, slice_get}
 use Rattle.dart_types.specs.declared.ids.LibId.{LibId}
 use Rattle.element_terms.specs.declared.libraries.LibraryElement.{LibraryElement}
 use Rattle.element_terms.specs.declared.libraries.ExportEdge.{ExportEdge}

@@ -4,3 +4,6 @@ pub mod Exports
 pub mod Links
 pub mod Namespaces
 pub mod Ambiguities
+pub mod AmbiguousExports
+pub mod AmbiguityLemmas
+pub mod Laws

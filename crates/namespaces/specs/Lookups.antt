@@ -1,5 +1,5 @@
 -- What a name means at the top level of a library.
-use Rattle.std.specs.Prelude.{ℕ, Bool, true, false, ◌==◌, ◌&&◌, ◌||◌, List, [], Option, Some, None, bytes_eq, fold, position, if◌then◌else◌}
+use Rattle.std.specs.Prelude.{ℕ, Bool, true, false, ◌==◌, ◌&&◌, ◌||◌, List, Option, Some, None, bytes_eq, fold, position, if◌then◌else◌}
 use Rattle.std.specs.List.{list_any}
 use Rattle.element_terms.specs.NameTexts.{is_private, means}
 use Rattle.element_terms.specs.Combinators.{brings}

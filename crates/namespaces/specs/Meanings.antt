@@ -1,5 +1,5 @@
 -- What a name may mean, as one element after another is found for it.
-use Rattle.std.specs.Prelude.{ℕ, Bool, ◌==◌, ◌&&◌, if◌then◌else◌}
+use Rattle.std.specs.Prelude.{Bool, ◌==◌, ◌&&◌, if◌then◌else◌}
 use Rattle.namespaces.specs.declared.elements.ElementId.{ElementId}
 use Rattle.namespaces.specs.declared.found.Found.{Found}
 use Rattle.namespaces.specs.declared.found.Found.TheVariants.{One, Ambiguous, Nothing}

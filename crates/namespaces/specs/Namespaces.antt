@@ -1,9 +1,8 @@
 -- What each of several libraries exports, as one declaration after another is looked at.
-use Rattle.std.specs.Prelude.{◌≡◌, ◌⊎◌, ◌<◌, ◌++◌, ◌∷◌, ℕ, Bool, true, false, List, [], length, Contains, Option, Some, None, slice_get, slice_index_or}
+use Rattle.std.specs.Prelude.{◌≡◌, ◌⊎◌, ◌<◌, ℕ, false, List, [], length, Contains, Some, slice_get, slice_index_or}
 use Rattle.element_terms.specs.declared.libraries.LibraryElement.{LibraryElement}
 use Rattle.element_terms.specs.NameTexts.{is_private}
 use Rattle.library_graph.specs.Paths.{Path}
-use Rattle.namespaces.specs.declared.elements.ElementId.{ElementId}
 use Rattle.namespaces.specs.declared.elements.Exported.{Exported}
 use Rattle.namespaces.specs.Exports.{AreExports, Brings, IsExport, place_in}
 

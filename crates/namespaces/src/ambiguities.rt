@@ -6,7 +6,7 @@ ghost use Rattle.std.specs.Option.{ForSome};
 ghost use Rattle.namespaces.specs.Ambiguities.{clash, clashes_with, is_ambiguous, is_ambiguous_pair, is_brought};
 
 use crate::elements::{Exported, Namespace};
-use crate::links::place_of;
+use crate::place_tables::place_of;
 use element_terms::{Combinators, ExportEdge, LibraryElement, declared_place};
 
 /// Whether an export of a library is ambiguous: it brings a name that the library doesn't declare and

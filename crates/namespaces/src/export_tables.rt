@@ -1,12 +1,13 @@
 //! What libraries export.
 
-ghost use Rattle.std.specs.Prelude.{◌≡◌, ◌^◌, ◌<◌, [], All, IfOk, length, replicate, string_bytes};
+ghost use Rattle.std.specs.Prelude.{◌≡◌, ◌^◌, ◌<◌, [], All, IfOk, length, map, replicate, string_bytes};
 ghost use Rattle.element_terms.specs.NameTexts.{setter_of};
-ghost use Rattle.namespaces.specs.Links.{AreLinks};
+ghost use Rattle.namespaces.specs.Links.{AreLinks, is_idle};
 ghost use Rattle.namespaces.specs.Namespaces.{AddsPair, AreNamespaces, Covers, CoversAll, CoversLibrary, Gains, IsDeclaredAt};
 
 use crate::elements::{ElementId, Exported, Namespace};
-use crate::links::{Link, exporting, links};
+use crate::links::{LinkList, links};
+use crate::search::{exporting, idle};
 use element_terms::{LibraryElement, declared_place, is_private};
 use plain_text::PlainText;
 use std::alloc::{AllocError, Global};
@@ -19,9 +20,17 @@ pub fn exports(alloc: Global, libraries: &[LibraryElement]) -> Result<Vec<Namesp
 {
     let count = libraries.len() as u32;
     let found = links(alloc, libraries, count)?;
+    let idle = idle(alloc, libraries)?;
     let mut all = no_pairs(alloc, count)?;
     for place in 0..count {
-        add_library(alloc, libraries, found.as_slice(), place, &mut all)?;
+        add_library(
+            alloc,
+            libraries,
+            found.as_slice(),
+            idle.as_slice(),
+            place,
+            &mut all,
+        )?;
     }
     Ok(all)
 }
@@ -41,12 +50,14 @@ fn no_pairs(alloc: Global, count: u32) -> Result<Vec<Namespace>, AllocError>
 fn add_library(
     alloc: Global,
     libraries: &[LibraryElement],
-    links: &[Link],
+    links: &[LinkList],
+    idle: &[bool],
     place: u32,
     all: &mut Vec<Namespace>,
 ) -> Result<(), AllocError>
     requires few { length libraries.now < 2 ^ 32 }
     requires links { AreLinks libraries.now (length libraries.now) 0 links.now }
+    requires idle { idle.now ≡ map is_idle libraries.now }
     requires within { place < length libraries.now }
     requires size { length all.old.items ≡ length libraries.now }
     ensures gains { IfOk result (λ _. Gains libraries.now all.old.items all.new.items) }
@@ -55,7 +66,7 @@ fn add_library(
     let library = &libraries[place as usize];
     let declarations = library.declared.as_slice();
     for at in 0..declarations.len() {
-        add_declared(alloc, libraries, links, place, at, all)?;
+        add_declared(alloc, libraries, links, idle, place, at, all)?;
     }
     Ok(())
 }
@@ -64,13 +75,15 @@ fn add_library(
 fn add_declared(
     alloc: Global,
     libraries: &[LibraryElement],
-    links: &[Link],
+    links: &[LinkList],
+    idle: &[bool],
     place: u32,
     at: usize,
     all: &mut Vec<Namespace>,
 ) -> Result<(), AllocError>
     requires few { length libraries.now < 2 ^ 32 }
     requires links { AreLinks libraries.now (length libraries.now) 0 links.now }
+    requires idle { idle.now ≡ map is_idle libraries.now }
     requires within { place < length libraries.now }
     requires declared { IsDeclaredAt libraries.now place at }
     requires size { length all.old.items ≡ length libraries.now }
@@ -81,13 +94,13 @@ fn add_declared(
     let declarations = library.declared.as_slice();
     let declared = &declarations[at];
     let name = declared.name.as_str();
-    add_name(alloc, libraries, links, place, at, name, all)?;
+    add_name(alloc, libraries, links, idle, place, at, name, all)?;
     if !declared.kind.has_setter() {
         return Ok(());
     }
     let setter = setter_of(alloc, name)?;
     let setter_name = setter.as_str();
-    add_name(alloc, libraries, links, place, at, setter_name, all)?;
+    add_name(alloc, libraries, links, idle, place, at, setter_name, all)?;
     Ok(())
 }
 
@@ -104,7 +117,8 @@ fn setter_of(alloc: Global, name: &str) -> Result<String, AllocError>
 fn add_name(
     alloc: Global,
     libraries: &[LibraryElement],
-    links: &[Link],
+    links: &[LinkList],
+    idle: &[bool],
     place: u32,
     at: usize,
     name: &str,
@@ -112,6 +126,7 @@ fn add_name(
 ) -> Result<(), AllocError>
     requires few { length libraries.now < 2 ^ 32 }
     requires links { AreLinks libraries.now (length libraries.now) 0 links.now }
+    requires idle { idle.now ≡ map is_idle libraries.now }
     requires within { place < length libraries.now }
     requires size { length all.old.items ≡ length libraries.now }
     ensures gains { IfOk result (λ _. Gains libraries.now all.old.items all.new.items) }
@@ -128,7 +143,7 @@ fn add_name(
         return Ok(());
     }
     let count = libraries.len() as u32;
-    let places = exporting(alloc, libraries, count, links, name, place)?;
+    let places = exporting(alloc, libraries, count, links, idle, name, place)?;
     let element = ElementId {
         library: library.id,
         place: at,

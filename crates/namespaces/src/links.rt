@@ -1,14 +1,14 @@
-//! The exports among libraries, as links between their places, and the links along which a name goes.
+//! The exports among libraries, as links between their places.
 
-ghost use Rattle.std.specs.Prelude.{◌≡◌, ◌==◌, ◌+◌, ◌^◌, ◌<◌, All, IfOk, length};
-ghost use Rattle.std.specs.List.{list_any};
+ghost use Rattle.std.specs.Prelude.{◌≡◌, ◌++◌, ◌∷◌, [], ◌+◌, ◌^◌, ◌<◌, IfOk, length, replicate};
 ghost use Rattle.namespaces.specs.Exports.{place_of};
-ghost use Rattle.namespaces.specs.Links.{AnswersPass, AreAgainst, AreExporting, AreLinks, IsLink, PutsEdge, PutsLink};
+ghost use Rattle.namespaces.specs.Links.{AreLinks, IsPlaceTable, PutsLink};
 
+use crate::place_tables::{PlaceTable, place_table};
 use dart_types::LibId;
-use element_terms::{LibraryElement, declared_place};
-use library_graph::{Edge, Places, reached};
+use element_terms::LibraryElement;
 use std::alloc::{AllocError, Global};
+use std::marker::Model;
 
 /// An export of a library that is among the libraries, by the places of both.
 #[derive(Clone, Copy, Debug)]
@@ -21,18 +21,71 @@ pub struct Link {
     pub to: u32,
 }
 
-/// The links of the libraries.
+/// The links that lead to one library.
+#[derive(Debug, Drop)]
+pub struct LinkList {
+    links: Vec<Link>,
+}
+
+impl Model for LinkList {
+    ghost use Rattle.std.specs.Prelude.{List};
+    ghost use Rattle.namespaces.specs.declared.links.Link.{Link};
+
+    ghost Value = { List Link };
+
+    ghost view = { λ l. l.links.items };
+}
+
+impl LinkList {
+    /// No link, which takes no memory.
+    fn new(alloc: Global) -> LinkList
+        ensures { result ≡ [] }
+    {
+        LinkList {
+            links: Vec::new(alloc),
+        }
+    }
+
+    /// Puts a link behind the others.
+    fn push(&mut self, link: Link) -> Result<(), AllocError>
+        ensures { IfOk result (λ _. self.new ≡ self.old ++ link ∷ []) }
+    {
+        self.links.push(link)?;
+        Ok(())
+    }
+
+    /// The links.
+    pub fn as_slice(&self) -> &[Link]
+        ensures { result.now ≡ self.now }
+    {
+        self.links.as_slice()
+    }
+}
+
+/// The links of the libraries, a list for each library to which they lead.
 pub fn links(
     alloc: Global,
     libraries: &[LibraryElement],
     count: u32,
-) -> Result<Vec<Link>, AllocError>
+) -> Result<Vec<LinkList>, AllocError>
     requires { length libraries.now ≡ count }
     ensures { IfOk result (λ links. AreLinks libraries.now count 0 links.items) }
 {
-    let mut links = Vec::new(alloc);
+    let places = place_table(alloc, libraries)?;
+    let mut links = no_links(alloc, count)?;
     for from in 0..count {
-        add_links(libraries, from, &mut links)?;
+        add_links(libraries, &places, from, &mut links)?;
+    }
+    Ok(links)
+}
+
+/// No links to each library.
+fn no_links(alloc: Global, count: u32) -> Result<Vec<LinkList>, AllocError>
+    ensures { IfOk result (λ links. links.items ≡ replicate count []) }
+{
+    let mut links = Vec::new(alloc);
+    for _ in 0..count {
+        links.push(LinkList::new(alloc))?;
     }
     Ok(links)
 }
@@ -40,10 +93,12 @@ pub fn links(
 /// Puts the links of one library behind those of the libraries before it.
 fn add_links(
     libraries: &[LibraryElement],
+    places: &PlaceTable,
     from: u32,
-    links: &mut Vec<Link>,
+    links: &mut Vec<LinkList>,
 ) -> Result<(), AllocError>
     requires few { length libraries.now < 2 ^ 32 }
+    requires places { IsPlaceTable libraries.now places.now.places }
     requires within { from < length libraries.now }
     requires before { AreLinks libraries.now from 0 links.old.items }
     ensures { IfOk result (λ _. AreLinks libraries.now (from + 1) 0 links.new.items) }
@@ -51,7 +106,14 @@ fn add_links(
     let exporter = &libraries[from as usize];
     let exports = exporter.exports.as_slice();
     for export in 0..exports.len() {
-        add_link(libraries, from, export, exports[export].library, links)?;
+        add_link(
+            libraries,
+            places,
+            from,
+            export,
+            exports[export].library,
+            links,
+        )?;
     }
     Ok(())
 }
@@ -59,19 +121,22 @@ fn add_links(
 /// Puts the link of one export behind others, if the exported library is among the libraries.
 fn add_link(
     libraries: &[LibraryElement],
+    places: &PlaceTable,
     from: u32,
     export: usize,
     library: LibId,
-    links: &mut Vec<Link>,
+    links: &mut Vec<LinkList>,
 ) -> Result<(), AllocError>
-    requires { length libraries.now < 2 ^ 32 }
+    requires few { length libraries.now < 2 ^ 32 }
+    requires places { IsPlaceTable libraries.now places.now.places }
+    requires size { length links.old.items ≡ length libraries.now }
     ensures { IfOk result (λ _.
         PutsLink from export (place_of libraries.now library) links.old.items links.new.items) }
 {
-    match place_of(libraries, library) {
+    match places.place(libraries, library) {
         None => Ok(()),
         Some(to) => {
-            links.push(Link {
+            links[to].push(Link {
                 from,
                 export,
                 to: to as u32,
@@ -79,93 +144,4 @@ fn add_link(
             Ok(())
         }
     }
-}
-
-/// The place of a library among libraries.
-pub fn place_of(libraries: &[LibraryElement], library: LibId) -> Option<usize>
-    ensures { result ≡ place_of libraries.now library }
-{
-    libraries.iter().position(|l| l.id.0 == library.0)
-}
-
-/// The places of the libraries from which links lead to a place along which a name goes.
-pub fn exporting(
-    alloc: Global,
-    libraries: &[LibraryElement],
-    count: u32,
-    links: &[Link],
-    name: &str,
-    to: u32,
-) -> Result<Places, AllocError>
-    requires size { length libraries.now ≡ count }
-    requires links { AreLinks libraries.now count 0 links.now }
-    requires within { to < count }
-    ensures { IfOk result (λ places. AreExporting libraries.now name.now to places) }
-{
-    if !is_linked(links, to) {
-        let mut alone = Places::new(alloc);
-        alone.push(to)?;
-        return Ok(alone);
-    }
-    let edges = edges_against(alloc, libraries, links, name)?;
-    let places = reached(alloc, edges.as_slice(), count, to)?;
-    Ok(places)
-}
-
-/// Whether a link leads to a place.
-fn is_linked(links: &[Link], to: u32) -> bool
-    ensures { result ≡ list_any (λ l. l.to == to) links.now }
-{
-    links.iter().any(|link| link.to == to)
-}
-
-/// The edges against the links along which a name goes.
-fn edges_against(
-    alloc: Global,
-    libraries: &[LibraryElement],
-    links: &[Link],
-    name: &str,
-) -> Result<Vec<Edge>, AllocError>
-    requires { All (IsLink libraries.now) links.now }
-    ensures { IfOk result (λ edges. AreAgainst libraries.now name.now links.now edges.items) }
-{
-    let mut edges = Vec::new(alloc);
-    for link in links {
-        add_edge(libraries, link, name, &mut edges)?;
-    }
-    Ok(edges)
-}
-
-/// Puts an edge against a link behind others, if the name goes along the link.
-fn add_edge(
-    libraries: &[LibraryElement],
-    link: &Link,
-    name: &str,
-    edges: &mut Vec<Edge>,
-) -> Result<(), AllocError>
-    requires { IsLink libraries.now link.now }
-    ensures { IfOk result (λ _.
-        PutsEdge libraries.now name.now link.now edges.old.items edges.new.items) }
-{
-    if !passes(libraries, link, name) {
-        return Ok(());
-    }
-    edges.push(Edge {
-        from: link.to,
-        to: link.from,
-    })?;
-    Ok(())
-}
-
-/// Whether a name goes along a link.
-fn passes(libraries: &[LibraryElement], link: &Link, name: &str) -> bool
-    requires { IsLink libraries.now link.now }
-    ensures { AnswersPass result libraries.now name.now link.now }
-{
-    let exporter = &libraries[link.from as usize];
-    let export = &exporter.exports.as_slice()[link.export];
-    if export.combinators.brings(name) {
-        return declared_place(exporter, name).is_none();
-    }
-    false
 }

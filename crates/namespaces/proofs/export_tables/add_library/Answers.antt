@@ -1,8 +1,8 @@
-use Rattle.std.proofs.Common.{rules, ◌≡◌, ℕ, ◌+◌, ◌<◌, ◌≤◌, inl, inr, List, length, Some, slice_get, refl, sym, ap, ◌∙◌, subst, arith}
+use Rattle.std.proofs.Common.{◌≡◌, ℕ, ◌≤◌, inl, inr, List, length, Some, slice_get, refl, sym, ap, subst, arith}
 use Rattle.std.proofs.lemmas.Bool.{cases_eq, cases_lt}
 use Rattle.std.proofs.lemmas.Option.{slice_get_read}
 use Rattle.element_terms.specs.declared.declarations.Declared.{Declared}
-use Rattle.namespaces.specs.Namespaces.{CoversAll, Gains}
+use Rattle.namespaces.specs.Namespaces.{CoversAll}
 use Rattle.namespaces.proofs.Gaining.{both_gains, all_still, past_declared}
 use Rattle.namespaces.proofs.export_tables.add_library.Goals as goal
 

@@ -1,6 +1,6 @@
-use Rattle.std.proofs.Common.{rules, ◌≡◌, ℕ, ◌+◌, ◌<◌, ◌≤◌, inl, inr, [], List, length, replicate, refl, sym, ap, ◌∙◌, subst, arith}
+use Rattle.std.proofs.Common.{ℕ, inl, inr, [], length, replicate, sym, subst, arith}
 use Rattle.std.proofs.lemmas.Bool.{cases_eq}
-use Rattle.namespaces.specs.Namespaces.{CoversLibrary, Gains}
+use Rattle.namespaces.specs.Namespaces.{CoversLibrary}
 use Rattle.namespaces.proofs.Gaining.{both_gains, library_still, are_namespaces}
 use Rattle.namespaces.proofs.export_tables.exports.Goals as goal
 

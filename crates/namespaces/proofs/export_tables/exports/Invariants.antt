@@ -1,4 +1,4 @@
-use Rattle.std.proofs.Common.{◌≡◌, ℕ, ◌<◌, [], length, replicate}
+use Rattle.std.proofs.Common.{ℕ, ◌<◌, [], length, replicate}
 use Rattle.namespaces.specs.Namespaces.{CoversLibrary, Gains}
 use Rattle.namespaces.proofs.export_tables.exports.Given as goal
 

@@ -1,9 +1,8 @@
-use Rattle.std.proofs.Common.{rules, ◌≡◌, ℕ, ◌+◌, ◌<◌, ◌≤◌, List, length, Some, slice_get, refl, sym, ap, ◌∙◌, subst, arith}
+use Rattle.std.proofs.Common.{rules, ◌≡◌, List, length, Some, slice_get, refl, ap, subst, arith}
 use Rattle.std.proofs.lemmas.Option.{slice_get_read}
-use Rattle.element_terms.specs.declared.libraries.LibraryElement.{LibraryElement}
 use Rattle.element_terms.specs.declared.libraries.ExportEdge.{ExportEdge}
 use Rattle.namespaces.specs.Exports.{place_of}
-use Rattle.namespaces.specs.Links.{AreLinks, PutsLink}
+use Rattle.namespaces.specs.Links.{PutsLink}
 use Rattle.namespaces.proofs.LinkLemmas.{one_export, all_exports}
 use Rattle.namespaces.proofs.links.add_links.Goals as goal
 

@@ -1,4 +1,4 @@
-use Rattle.std.proofs.Common.{rules, ◌≡◌, ℕ, Bool, true, false, List, Option, Some, None, get_or, slice_get, refl, sym, ap, ◌∙◌, subst, arith}
+use Rattle.std.proofs.Common.{rules, ◌≡◌, true, false, List, Option, Some, None, slice_get, refl, sym, ap, ◌∙◌}
 use Rattle.std.specs.Option.{is_none}
 use Rattle.std.proofs.lemmas.Option.{get_or_from_slice_get}
 use Rattle.element_terms.specs.declared.libraries.LibraryElement.{LibraryElement}
@@ -6,7 +6,7 @@ use Rattle.element_terms.specs.declared.libraries.ExportEdge.{ExportEdge}
 use Rattle.element_terms.specs.Combinators.{brings}
 use Rattle.namespaces.specs.Exports.{place_in}
 use Rattle.namespaces.proofs.LinkLemmas.{answers_pass}
-use Rattle.namespaces.proofs.links.passes.Goals as goal
+use Rattle.namespaces.proofs.search.passes.Goals as goal
 
 none_is : {A : Type 0} (o : Option A) → is_none o ≡ true → o ≡ None
 none_is None h = refl
