@@ -1,0 +1,4 @@
+pub mod Settled
+pub mod Over
+pub mod Marked
+pub mod Climbing
