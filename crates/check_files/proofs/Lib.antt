@@ -1,2 +1,4 @@
 pub mod Placing
 pub mod Sizes
+pub mod AgainLemmas
+pub mod Places

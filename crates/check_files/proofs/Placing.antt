@@ -2,7 +2,7 @@
 use Rattle.std.proofs.Common.{◌≡◌, List, [], ◌∷◌, ◌++◌, refl, ap}
 use Rattle.std.specs.BTreeSet.{insert_key}
 use Rattle.check_files.specs.declared.findings.Finding.{Finding}
-use Rattle.check_files.specs.Order.{finding_cmp, sorted_findings}
+use Rattle.check_files.specs.Findings.{finding_cmp, sorted_findings}
 
 -- findings put at their places among others, the last one first
 abbrev pub put_all : List Finding → List Finding → List Finding

@@ -1,6 +1,9 @@
-pub mod Rules
-pub mod Order
+pub mod Contents
+pub mod Lent
 pub mod Sources
+pub mod Again
 pub mod Links
+pub mod Findings
 pub mod Reports
 pub mod Lines
+pub mod Settled

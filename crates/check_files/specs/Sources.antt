@@ -1,5 +1,5 @@
 -- The files of a table, each by what it says to others and by what is wrong with its own text.
-use Rattle.std.specs.Prelude.{ℕ, Bool, not, ◌&&◌, List, [], ◌∷◌, ◌++◌, fold, map, nat_eq, if◌then◌else◌}
+use Rattle.std.specs.Prelude.{◌≡◌, ℕ, Bool, not, ◌&&◌, List, [], ◌∷◌, ◌++◌, fold, map, nat_eq, if◌then◌else◌}
 use Rattle.std.specs.List.{filter, list_any}
 use denote.Enum.Bare.{sameb}
 use Rattle.dart_scan.specs.Scanned.{words_of}
@@ -15,7 +15,8 @@ use Rattle.load_files.specs.Tables.{Table}
 use Rattle.load_files.specs.declared.contents.FileContents.{FileContents}
 use Rattle.libraries.specs.declared.files.SourceFile.{SourceFile}
 use Rattle.libraries.specs.Naming.{core_path}
-use Rattle.protocol_rules.specs.Files.{faults_of, read_as}
+use Rattle.check_files.specs.Contents.{faults_of, read_as}
+use Rattle.check_files.specs.declared.sources.ReadFiles.{ReadFiles}
 
 -- the outline of a text
 abbrev pub outline_of_text : List ℕ → Outline
@@ -68,3 +69,8 @@ own_faults contents = but_directives (outline_of_text (read_as contents)).direct
 -- what is wrong with each file by itself: nothing with `dart:core`, and then with the files of the table
 abbrev pub all_own_faults : Table → List (List Fault)
 all_own_faults table = [] ∷ map (λ file. own_faults file.1) table
+
+-- these are the files of a table as they were read
+pub record AreRead (table : Table) (read : ReadFiles) : Type 0 where
+  pub sources : read.sources.items ≡ sources_of table
+  pub faults : read.faults.items ≡ all_own_faults table

@@ -1,40 +1,48 @@
 //! What is said of places in files, and its order.
 
-ghost use Rattle.std.specs.Prelude.{◌≡◌, ◌++◌, map, IfOk, OnOk};
-ghost use Rattle.check_files.specs.Order.{said_at, of_fault, of_library_fault, sorted_findings};
+ghost use Rattle.std.specs.Prelude.{◌≡◌, ◌++◌, ◌==◌, map, IfOk, OnOk};
+ghost use Rattle.std.specs.List.{filter};
+ghost use Rattle.check_files.specs.Findings.{code_of, fault_of, faults_in, found_in, sorted_findings};
 
-use crate::rules::{Rule, not_behind, rule_of};
-use dart_tree::Span;
-use directives::LibraryFault;
+use directives::{LibraryFault, LibraryFaultKind};
 use judgement::{DiagnosticCode, Fault};
 use std::alloc::{AllocError, Global};
 use std::collections::BTreeSet;
 
-/// What is said of a part of a file.
+/// Something wrong in a file.
 ///
 /// Findings are ordered by the places of their files, then by where they stand, and those of one part
-/// by the names of their rules.
+/// by the names of their codes.
 #[derive(Clone, Copy, Debug, PartialEq, Eq, PartialOrd, Ord)]
 pub struct Finding {
     /// The place of the file among all files.
     pub file: usize,
-    /// The part of the file's text.
-    pub span: Span,
-    /// The last of the rules of texts whose name doesn't stand behind that of the rule.
-    pub not_behind: Option<DiagnosticCode>,
-    /// What is said of it.
-    pub rule: Rule,
+    /// What is wrong, and where.
+    pub fault: Fault,
 }
 
-/// What is said of a part of the file at a place.
-fn said_at(file: usize, span: Span, rule: Rule) -> Finding
-    ensures { result ≡ said_at file span rule }
+/// What is said of a directive or a declared name.
+fn code_of(kind: LibraryFaultKind) -> DiagnosticCode
+    ensures { result ≡ code_of kind }
 {
-    Finding {
-        file,
-        span,
-        not_behind: not_behind(rule),
-        rule,
+    match kind {
+        LibraryFaultKind::DirectiveOrder => DiagnosticCode::DirectiveOrder,
+        LibraryFaultKind::PartOfName => DiagnosticCode::ProfilePartOfName,
+        LibraryFaultKind::UriDoesNotExist => DiagnosticCode::UriDoesNotExist,
+        LibraryFaultKind::ImportOfPart => DiagnosticCode::ImportOfPart,
+        LibraryFaultKind::PartMismatch => DiagnosticCode::PartMismatch,
+        LibraryFaultKind::AmbiguousExport => DiagnosticCode::AmbiguousExport,
+        LibraryFaultKind::DuplicateDefinition => DiagnosticCode::DuplicateDefinition,
+    }
+}
+
+/// What is wrong with a directive or a declared name, as a fault of the text.
+pub fn fault_of(fault: LibraryFault) -> Fault
+    ensures { result ≡ fault_of fault }
+{
+    Fault {
+        span: fault.span,
+        code: code_of(fault.kind),
     }
 }
 
@@ -44,10 +52,13 @@ pub fn add_faults(
     faults: &[Fault],
     findings: &mut Vec<Finding>,
 ) -> Result<(), AllocError>
-    ensures { OnOk result (findings.new.items ≡ findings.old.items ++ map (of_fault file) faults.now) }
+    ensures { OnOk result (findings.new.items ≡ findings.old.items ++ map (found_in file) faults.now) }
 {
     for fault in faults {
-        findings.push(said_at(file, fault.span, Rule::OfText(fault.code)))?;
+        findings.push(Finding {
+            file,
+            fault: *fault,
+        })?;
     }
     Ok(())
 }
@@ -58,10 +69,13 @@ pub fn add_library_faults(
     faults: &[LibraryFault],
     findings: &mut Vec<Finding>,
 ) -> Result<(), AllocError>
-    ensures { OnOk result (findings.new.items ≡ findings.old.items ++ map (of_library_fault file) faults.now) }
+    ensures { OnOk result (findings.new.items ≡ findings.old.items ++ map (found_in file) (map fault_of faults.now)) }
 {
     for fault in faults {
-        findings.push(said_at(file, fault.span, rule_of(fault.kind)))?;
+        findings.push(Finding {
+            file,
+            fault: fault_of(*fault),
+        })?;
     }
     Ok(())
 }
@@ -75,4 +89,17 @@ pub fn sorted(alloc: Global, mut findings: Vec<Finding>) -> Result<Vec<Finding>,
         reported.insert(finding)?;
     }
     reported.into_iter().collect(alloc)
+}
+
+/// What of these findings is wrong with the file at a place.
+pub fn faults_in(alloc: Global, file: usize, findings: &[Finding]) -> Result<Vec<Fault>, AllocError>
+    ensures { IfOk result (λ faults. faults.items ≡ faults_in file findings.now) }
+{
+    let mut faults = Vec::new(alloc);
+    for finding in findings {
+        if finding.file == file {
+            faults.push(finding.fault)?;
+        }
+    }
+    Ok(faults)
 }

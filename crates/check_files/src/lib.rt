@@ -1,24 +1,26 @@
-//! What is wrong with the files of all libraries that a library reaches.
+//! What is wrong with files that name each other.
 //!
-//! `link` reads the files of a snapshot: what each says to others, and what is wrong with its own text,
-//! its directives aside (`specs/Sources.antt`), and which files their directives name
-//! (`specs/Links.antt`). `findings_from` gives what is found in each library that a library reaches, in
-//! order (`specs/Reports.antt`, `specs/Order.antt`): what is wrong with the texts of its files, with
-//! their directives and declared names, and with its exports. `lines_of` are the lines that this is
-//! printed as (`specs/Lines.antt`), with the names and sentences of `specs/Rules.antt`. The crate stands
-//! on the check of a text, on directives and libraries, and on the graph of libraries.
+//! A file is lent with its path and what it contains (`LentFile`, `specs/Lent.antt`): a text, or a mark
+//! that it holds none (`specs/Contents.antt`). `link` reads files: what each says to others, and what is
+//! wrong with its own text, its directives aside (`specs/Sources.antt`), and which files their directives
+//! name (`specs/Links.antt`). `faults_at` gives the diagnostics of one file among them, and
+//! `findings_from` what is found in each library that a library reaches, in order (`specs/Reports.antt`,
+//! `specs/Findings.antt`): what is wrong with the texts of its files, with their directives and declared
+//! names, and with its exports. `lines_of` are the lines that this is printed as (`specs/Lines.antt`). The
+//! crate stands on the check of a text, on directives and libraries, and on the graph of libraries.
 #![tactic(auto)]
 
+mod again;
 mod findings;
+mod lent;
 mod lines;
 mod links;
 mod reports;
-mod rules;
 mod sources;
 
 pub use findings::Finding;
+pub use lent::{LentContents, LentFile, empty_text, lent_contents, lent_file, lent_files};
 pub use lines::lines_of;
-pub use links::{Linked, library_in, link};
-pub use reports::findings_from;
-pub use rules::{LibraryRule, Rule};
+pub use links::{Linked, library_in, link, link_again, place_in};
+pub use reports::{faults_at, findings_from};
 pub use sources::OwnFaults;

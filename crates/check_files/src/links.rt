@@ -1,17 +1,23 @@
 //! Files with those that their directives name.
 
-ghost use Rattle.std.specs.Prelude.{◌≡◌, ◌<◌, true, bytes_eq, length, position, IfOk, IfSome};
-ghost use Rattle.check_files.specs.Links.{AreLinked, aims_of, if_library, library_in, place_in};
+ghost use Rattle.std.specs.Prelude.{◌≡◌, ◌+◌, ◌<◌, ◌^◌, true, bytes_eq, length, position, IfOk, IfSome};
+ghost use Rattle.check_files.specs.Lent.{file_view, table_view};
+ghost use Rattle.check_files.specs.Links.{AreLinked, IsLinkedFrom, aims_of, if_library, library_in, place_in};
+ghost use Rattle.check_files.specs.Sources.{all_own_faults, sources_of};
 ghost use Rattle.libraries.specs.Heads.{is_library_at};
 ghost use Rattle.load_files.specs.Paths.{lies_in};
 
-use crate::sources::{OwnFaults, add_sources};
+use crate::again::read_again;
+use crate::lent::LentFile;
+use crate::sources::{OwnFaults, ReadFiles, read_files};
+use element_terms::LibraryElement;
 use fault_io::is_under;
-use libraries::{Aims, Head, SourceFile, all_aims, heads_of, paths_of};
-use load_files::{Packages, Snapshot, SnapshotFile};
+use libraries::{Aims, Head, SourceFile, all_aims, elements_of, heads_of, paths_of};
+use load_files::Packages;
+use namespaces::{Namespace, exports};
 use std::alloc::{AllocError, Global};
 
-/// What is known of the files of a snapshot, `dart:core` before them.
+/// What is known of files, `dart:core` before them.
 #[derive(Drop)]
 pub struct Linked {
     /// The files as others see them.
@@ -22,6 +28,10 @@ pub struct Linked {
     pub aims: Vec<Aims>,
     /// What each is for others.
     pub heads: Vec<Head>,
+    /// What each library declares, and what its exports are.
+    pub elements: Vec<LibraryElement>,
+    /// What each library exports.
+    pub spaces: Vec<Namespace>,
 }
 
 /// What the directives of each file are about.
@@ -36,29 +46,84 @@ fn aims_of(
     all_aims(alloc, packages, &paths, sources)
 }
 
-/// Reads the files of a snapshot, and which of them their directives name. Each text is read once. The
-/// error is want of memory.
-pub fn link(alloc: Global, packages: &Packages, snapshot: &Snapshot) -> Result<Linked, AllocError>
-    ensures { IfOk result (λ linked. AreLinked packages.now snapshot.now linked) }
+/// What is known of files that were read. The error is want of memory.
+fn link_read(alloc: Global, packages: &Packages, read: ReadFiles) -> Result<Linked, AllocError>
+    requires { length read.sources.items < 2 ^ 32 }
+    ensures { IfOk result (λ linked. IsLinkedFrom packages.now read linked) }
 {
-    let mut sources = Vec::new(alloc);
-    let mut faults = Vec::new(alloc);
-    add_sources(alloc, snapshot.files(), &mut sources, &mut faults)?;
+    let ReadFiles { sources, faults } = read;
     let aims = aims_of(alloc, packages, sources.as_slice())?;
     let heads = heads_of(alloc, aims.as_slice())?;
+    let elements = elements_of(alloc, sources.as_slice(), heads.as_slice(), aims.as_slice())?;
+    let spaces = exports(alloc, elements.as_slice())?;
     Ok(Linked {
         sources,
         faults,
         aims,
         heads,
+        elements,
+        spaces,
     })
 }
 
-/// The place of a path among the files of a snapshot.
-fn position_of(files: &[SnapshotFile], path: &str) -> Option<usize>
-    ensures { result ≡ position (λ file. bytes_eq file.0 path.now) files.now }
+/// Reads files, and which of them their directives name. Each text is read once. The error is want of
+/// memory.
+pub fn link(
+    alloc: Global,
+    packages: &Packages,
+    files: &[LentFile<'_>],
+) -> Result<Linked, AllocError>
+    requires { length files.now + 1 < 2 ^ 32 }
+    ensures { IfOk result (λ linked. AreLinked packages.now (table_view files.now) linked) }
 {
-    files.iter().position(|file| file.path().as_str() == path)
+    let read = read_files(alloc, files)?;
+    link_read(alloc, packages, read)
+}
+
+/// The same where files were linked before, over any packages: a text is read only where the file at its
+/// place was another, or had another text.
+pub fn link_again(
+    alloc: Global,
+    packages: &Packages,
+    files: &[LentFile<'_>],
+    old: &[LentFile<'_>],
+    linked: Linked,
+) -> Result<Linked, AllocError>
+    requires few { length files.now + 1 < 2 ^ 32 }
+    requires sources { linked.sources.items ≡ sources_of (table_view old.now) }
+    requires faults { linked.faults.items ≡ all_own_faults (table_view old.now) }
+    ensures { IfOk result (λ linked. AreLinked packages.now (table_view files.now) linked) }
+{
+    let Linked {
+        sources,
+        faults,
+        ..
+    } = linked;
+    let read = read_again(alloc, files, old, ReadFiles { sources, faults })?;
+    link_read(alloc, packages, read)
+}
+
+/// The place of a path among lent files.
+fn position_in(files: &[LentFile<'_>], path: &str) -> Option<usize>
+    ensures { result ≡ position (λ file. bytes_eq file.path.now path.now) files.now }
+{
+    files.iter().position(|file| file.path == path)
+}
+
+/// The place of a path among files.
+fn position_of(files: &[LentFile<'_>], path: &str) -> Option<usize>
+    ensures { result ≡ position (λ file. bytes_eq file.0 path.now) (table_view files.now) }
+{
+    position_in(files, path)
+}
+
+/// The place of a path among all files, `dart:core` before these.
+pub fn place_in(files: &[LentFile<'_>], path: &str) -> Option<usize>
+    ensures is { result ≡ place_in path.now (table_view files.now) }
+    ensures within { IfSome result (λ place. place < length files.now + 1) }
+{
+    let place = position_of(files, path)?;
+    Some(place + 1)
 }
 
 /// Whether a library is at a place.
@@ -93,13 +158,13 @@ fn lies_in(folder: &str, path: &str) -> bool
 
 /// The place of the library of a path in a folder: None where the folder has no such file, or where it
 /// is a part.
-pub fn library_in(folder: &str, path: &str, snapshot: &Snapshot, heads: &[Head]) -> Option<usize>
-    ensures is { result ≡ library_in folder.now path.now snapshot.now heads.now }
+pub fn library_in(folder: &str, path: &str, files: &[LentFile<'_>], heads: &[Head]) -> Option<usize>
+    ensures is { result ≡ library_in folder.now path.now (table_view files.now) heads.now }
     ensures within { IfSome result (λ place. place < length heads.now) }
 {
     if !lies_in(folder, path) {
         return None;
     }
-    let place = position_of(snapshot.files(), path)?;
-    if_library(heads, place + 1)
+    let place = place_in(files, path)?;
+    if_library(heads, place)
 }

@@ -1,21 +1,21 @@
-//! The files of a snapshot, each by what it says to others and by what is wrong with its own text.
+//! Files, each by what it says to others and by what is wrong with its own text.
 
 ghost use Rattle.std.specs.Prelude.{◌≡◌, ◌++◌, ◌∷◌, [], nat_eq, IfOk, OnOk, map};
 ghost use Rattle.std.specs.List.{filter, list_any};
 ghost use Rattle.check_library.specs.Checked.{IsCheckOf};
-ghost use Rattle.protocol_rules.specs.Files.{faults_of, no_text, read_as};
-ghost use Rattle.check_files.specs.Sources.{all_own_faults, but_directives, but_those, core_source, is_not_built, is_of_directive, no_outline, outline_of_text, own_faults, source_of, sources_of, starts_of, with_start};
+ghost use Rattle.check_files.specs.Contents.{bare_faults_of, faults_of, no_text, read_as};
+ghost use Rattle.check_files.specs.Lent.{contents_view, file_view, table_view};
+ghost use Rattle.check_files.specs.Sources.{AreRead, but_directives, but_those, core_source, is_not_built, is_of_directive, outline_of_text, own_faults, source_of, starts_of, with_start};
 
-use check_library::{Checked, check};
+use crate::lent::{LentContents, LentFile, empty_text, read_as};
+use check_library::{Checked, check, text_diagnostics};
 use dart_text::Text;
 use dart_tree::Span;
 use directives::{DeclaredNames, Directive, Directives, Outline, Spans, outline_of};
 use indexmap::IndexSet;
 use judgement::{DiagnosticCode, Fault};
 use libraries::SourceFile;
-use load_files::{FileContents, SnapshotFile};
 use plain_text::PlainText;
-use protocol_rules::empty_text;
 use std::alloc::{AllocError, Global};
 use std::marker::Model;
 
@@ -40,6 +40,28 @@ impl OwnFaults {
         ensures { result.now ≡ self.now }
     {
         self.faults.as_slice()
+    }
+}
+
+/// Files that were read, `dart:core` before them.
+#[derive(Drop)]
+pub struct ReadFiles {
+    /// The files as others see them.
+    pub sources: Vec<SourceFile>,
+    /// What is wrong with each by itself.
+    pub faults: Vec<OwnFaults>,
+}
+
+impl ReadFiles {
+    /// None yet.
+    pub fn new(alloc: Global) -> ReadFiles
+        ensures sources { result.sources.items ≡ [] }
+        ensures faults { result.faults.items ≡ [] }
+    {
+        ReadFiles {
+            sources: Vec::new(alloc),
+            faults: Vec::new(alloc),
+        }
     }
 }
 
@@ -133,18 +155,6 @@ fn but_directives(
     but_those(alloc, &starts, faults)
 }
 
-/// The text as which a file is read.
-pub fn read_as<'t>(contents: &'t FileContents, empty: &'t Text) -> &'t Text
-    requires { empty.now ≡ [] }
-    ensures { result.now ≡ read_as contents.now }
-{
-    match contents {
-        FileContents::Text { text } => text,
-        FileContents::NotUtf8 { .. } => empty,
-        FileContents::TooLong { .. } => empty,
-    }
-}
-
 /// The diagnostic of a file that holds no text.
 fn no_text(code: DiagnosticCode) -> Fault
     ensures { result ≡ no_text code }
@@ -157,23 +167,23 @@ fn no_text(code: DiagnosticCode) -> Fault
 /// as which it is read.
 fn own_faults(
     alloc: Global,
-    contents: &FileContents,
+    contents: LentContents<'_>,
     checked: &Checked,
     outline: &Outline,
 ) -> Result<OwnFaults, AllocError>
-    requires check { IsCheckOf (read_as contents.now) checked.now }
-    requires outline { outline.now ≡ outline_of_text (read_as contents.now) }
-    ensures { IfOk result (λ own. own ≡ own_faults contents.now) }
+    requires check { IsCheckOf (read_as (contents_view contents)) checked.now }
+    requires outline { outline.now ≡ outline_of_text (read_as (contents_view contents)) }
+    ensures { IfOk result (λ own. own ≡ own_faults (contents_view contents.entry)) }
 {
     let directives = outline.directives.as_slice();
     match contents {
-        FileContents::Text { .. } => {
+        LentContents::Text(_) => {
             but_directives(alloc, directives, checked.diagnostics.as_slice())
         }
-        FileContents::NotUtf8 { .. } => {
+        LentContents::NotUtf8(_) => {
             but_directives(alloc, directives, &[no_text(DiagnosticCode::FileNotUtf8)])
         }
-        FileContents::TooLong { .. } => {
+        LentContents::TooLong(_) => {
             but_directives(
                 alloc,
                 directives,
@@ -183,26 +193,36 @@ fn own_faults(
     }
 }
 
-/// Adds a file.
-fn add_source(
+/// What is wrong with what a file contains where its directives and declarations aren't looked at.
+pub fn bare_faults_of(alloc: Global, contents: LentContents<'_>) -> Result<Vec<Fault>, AllocError>
+    ensures { IfOk result (λ faults. faults.items ≡ bare_faults_of (contents_view contents.entry)) }
+{
+    match contents {
+        LentContents::Text(text) => text_diagnostics(alloc, text)?.as_slice().to_vec(alloc),
+        LentContents::NotUtf8(_) => Ok(vec![in alloc; no_text(DiagnosticCode::FileNotUtf8)]?),
+        LentContents::TooLong(_) => Ok(vec![in alloc; no_text(DiagnosticCode::ProfileFileLength)]?),
+    }
+}
+
+/// Reads a file, and adds it.
+pub fn add_source(
     alloc: Global,
-    file: &SnapshotFile,
+    file: LentFile<'_>,
     empty: &Text,
-    sources: &mut Vec<SourceFile>,
-    faults: &mut Vec<OwnFaults>,
+    read: &mut ReadFiles,
 ) -> Result<(), AllocError>
     requires { empty.now ≡ [] }
-    ensures sources { OnOk result (sources.new.items ≡ sources.old.items ++ source_of file.now ∷ []) }
-    ensures faults { OnOk result (faults.new.items ≡ faults.old.items ++ own_faults file.now.1 ∷ []) }
+    ensures sources { OnOk result (read.new.sources.items ≡ read.old.sources.items ++ source_of (file_view file.entry) ∷ []) }
+    ensures faults { OnOk result (read.new.faults.items ≡ read.old.faults.items ++ own_faults (contents_view file.entry.contents) ∷ []) }
 {
-    let path = file.path().as_str();
-    let contents = file.contents();
+    let LentFile { path, contents } = file;
     let text = read_as(contents, empty);
     let checked = check(alloc, path, text)?;
     let outline = outline_of(alloc, checked.unit.words.as_slice(), &checked.unit.tree)?;
-    faults.push(own_faults(alloc, contents, &checked, &outline)?)?;
+    let own = own_faults(alloc, contents, &checked, &outline)?;
     let path = PlainText::new(alloc, path)?;
-    sources.push(SourceFile { path, outline })?;
+    read.faults.push(own)?;
+    read.sources.push(SourceFile { path, outline })?;
     Ok(())
 }
 
@@ -221,25 +241,26 @@ fn core_source(alloc: Global) -> Result<SourceFile, AllocError>
     })
 }
 
-/// Adds all files, each by what it says to others and by what is wrong with its own text, behind
-/// `dart:core`. The error is want of memory.
-pub fn add_sources(
-    alloc: Global,
-    files: &[SnapshotFile],
-    sources: &mut Vec<SourceFile>,
-    faults: &mut Vec<OwnFaults>,
-) -> Result<(), AllocError>
-    requires sources { sources.old.items ≡ [] }
-    requires faults { faults.old.items ≡ [] }
-    ensures sources { OnOk result (sources.new.items ≡ sources_of files.now) }
-    ensures faults { OnOk result (faults.new.items ≡ all_own_faults files.now) }
+/// Adds `dart:core`.
+pub fn add_core(alloc: Global, read: &mut ReadFiles) -> Result<(), AllocError>
+    ensures sources { OnOk result (read.new.sources.items ≡ read.old.sources.items ++ core_source ∷ []) }
+    ensures faults { OnOk result (read.new.faults.items ≡ read.old.faults.items ++ [] ∷ []) }
+{
+    read.sources.push(core_source(alloc)?)?;
+    let none = Vec::new(alloc);
+    read.faults.push(OwnFaults { faults: none })?;
+    Ok(())
+}
+
+/// Reads files, behind `dart:core`. The error is want of memory.
+pub fn read_files(alloc: Global, files: &[LentFile<'_>]) -> Result<ReadFiles, AllocError>
+    ensures { IfOk result (AreRead (table_view files.now)) }
 {
     let empty = empty_text(alloc)?;
-    sources.push(core_source(alloc)?)?;
-    let none = Vec::new(alloc);
-    faults.push(OwnFaults { faults: none })?;
+    let mut read = ReadFiles::new(alloc);
+    add_core(alloc, &mut read)?;
     for file in files {
-        add_source(alloc, file, &empty, sources, faults)?;
+        add_source(alloc, *file, &empty, &mut read)?;
     }
-    Ok(())
+    Ok(read)
 }

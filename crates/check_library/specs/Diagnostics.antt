@@ -117,3 +117,7 @@ faults_in text = lexical_faults text ++ (segment_faults text ++ declared_faults 
 -- what is wrong with a text: by offset, then length, then code, without repeats
 unfoldable pub diagnostics : List ℕ → List Fault
 diagnostics text = sorted_faults (faults_in text)
+
+-- what is wrong with the lexemes, the groups and the segments of a text alone, in that order: so much is said of a part that belongs to no library
+unfoldable pub text_diagnostics : List ℕ → List Fault
+text_diagnostics text = sorted_faults (lexical_faults text ++ segment_faults text)

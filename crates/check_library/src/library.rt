@@ -12,7 +12,7 @@ ghost use Rattle.dart_tree.specs.Numbers.{nodes_in};
 ghost use Rattle.built_forms.specs.Laws.{IsBuiltBlock};
 ghost use Rattle.built_forms.specs.Units.{built_main, has_main, has_other_names, meanings_in, unbuilt};
 ghost use Rattle.check_library.specs.Checked.{IsCheckOf, main_of_checked};
-ghost use Rattle.check_library.specs.Diagnostics.{lexical_faults, segment_faults, is_undefined_code, settled, diagnostics};
+ghost use Rattle.check_library.specs.Diagnostics.{lexical_faults, segment_faults, is_undefined_code, settled, diagnostics, text_diagnostics};
 ghost use Rattle.check_library.specs.Units.{unit_of_text, judged_by};
 
 use crate::faults::{add_groups, add_lexical, add_not_built, add_segments};
@@ -244,4 +244,17 @@ pub fn check(alloc: Global, path: &str, text: &Text) -> Result<Checked, AllocErr
         typed,
         diagnostics: Diagnostics { faults },
     })
+}
+
+/// What is wrong with the lexemes, the groups and the segments of a text alone: its directives and
+/// declarations aren't looked at.
+#[tactic(auto, unfolding(crate::specs::Diagnostics::text_diagnostics))]
+pub fn text_diagnostics(alloc: Global, text: &Text) -> Result<Diagnostics, AllocError>
+    ensures { IfOk result (λ diagnostics. diagnostics ≡ text_diagnostics text.now) }
+{
+    few_tokens(text);
+    let unit = parsed(alloc, text)?;
+    let faults = tree_diagnostics(alloc, text, &unit)?;
+    let faults = sorted(alloc, faults)?;
+    Ok(Diagnostics { faults })
 }

@@ -4,7 +4,7 @@ use Rattle.std.proofs.lemmas.Bool.{and_parts}
 use Rattle.std.specs.declared.cmp.Ordering.{Ordering}
 use Rattle.std.specs.declared.cmp.Ordering.TheVariants.{Less, Equal, Greater}
 use Rattle.judgement.specs.declared.code.DiagnosticCode.{DiagnosticCode}
-use Rattle.judgement.specs.declared.code.DiagnosticCode.TheVariants.{ArgumentType, BadEscape, ConditionNotBool, DuplicateDefinition, FileNotUtf8, IllegalCharacter, IntegerLiteralOutOfRange, InvalidAssignment, NotBuilt, ProfileAnnotation, ProfileAssert, ProfileAsync, ProfileCollectionElement, ProfileConditionalUri, ProfileConst, ProfileContinueCase, ProfileCovariant, ProfileDeferred, ProfileDouble, ProfileEnum, ProfileExtension, ProfileExternal, ProfileFileLength, ProfileIdentifier, ProfileLate, ProfileMixinApplication, ProfileNesting, ProfileRedirectingFactory, ProfileSymbol, ProfileTripleShift, ProfileTypedef, ReferencedBeforeDeclaration, SyntaxError, UnassignedRead, UncheckedNullableUse, UnclosedGroup, UndefinedName, UndefinedOperator, UnopenedGroup, UnterminatedComment, UnterminatedString}
+use Rattle.judgement.specs.declared.code.DiagnosticCode.TheVariants.{AmbiguousExport, ArgumentType, BadEscape, ConditionNotBool, DirectiveOrder, DuplicateDefinition, FileNotUtf8, IllegalCharacter, ImportOfPart, IntegerLiteralOutOfRange, InvalidAssignment, NotBuilt, PartMismatch, ProfileAnnotation, ProfileAssert, ProfileAsync, ProfileCollectionElement, ProfileConditionalUri, ProfileConst, ProfileContinueCase, ProfileCovariant, ProfileDeferred, ProfileDouble, ProfileEnum, ProfileExtension, ProfileExternal, ProfileFileLength, ProfileIdentifier, ProfileLate, ProfileMixinApplication, ProfileNesting, ProfilePartOfName, ProfileRedirectingFactory, ProfileSymbol, ProfileTripleShift, ProfileTypedef, ReferencedBeforeDeclaration, SyntaxError, UnassignedRead, UncheckedNullableUse, UnclosedGroup, UndefinedName, UndefinedOperator, UnopenedGroup, UnterminatedComment, UnterminatedString, UriDoesNotExist}
 use Rattle.judgement.specs.contracts.code.DiagnosticCodeOrd.TheImpl as code
 use Rattle.diagnostics.specs.Codes.{name_cmp}
 
@@ -33,51 +33,57 @@ same_is Greater Greater h = refl
 
 -- all codes
 abbrev all_codes : List DiagnosticCode
-all_codes = ArgumentType ∷ BadEscape ∷ ConditionNotBool ∷ DuplicateDefinition ∷ FileNotUtf8 ∷ IllegalCharacter ∷ IntegerLiteralOutOfRange ∷ InvalidAssignment ∷ NotBuilt ∷ ProfileAnnotation ∷ ProfileAssert ∷ ProfileAsync ∷ ProfileCollectionElement ∷ ProfileConditionalUri ∷ ProfileConst ∷ ProfileContinueCase ∷ ProfileCovariant ∷ ProfileDeferred ∷ ProfileDouble ∷ ProfileEnum ∷ ProfileExtension ∷ ProfileExternal ∷ ProfileFileLength ∷ ProfileIdentifier ∷ ProfileLate ∷ ProfileMixinApplication ∷ ProfileNesting ∷ ProfileRedirectingFactory ∷ ProfileSymbol ∷ ProfileTripleShift ∷ ProfileTypedef ∷ ReferencedBeforeDeclaration ∷ SyntaxError ∷ UnassignedRead ∷ UncheckedNullableUse ∷ UnclosedGroup ∷ UndefinedName ∷ UndefinedOperator ∷ UnopenedGroup ∷ UnterminatedComment ∷ UnterminatedString ∷ []
+all_codes = AmbiguousExport ∷ ArgumentType ∷ BadEscape ∷ ConditionNotBool ∷ DirectiveOrder ∷ DuplicateDefinition ∷ FileNotUtf8 ∷ IllegalCharacter ∷ ImportOfPart ∷ IntegerLiteralOutOfRange ∷ InvalidAssignment ∷ NotBuilt ∷ PartMismatch ∷ ProfileAnnotation ∷ ProfileAssert ∷ ProfileAsync ∷ ProfileCollectionElement ∷ ProfileConditionalUri ∷ ProfileConst ∷ ProfileContinueCase ∷ ProfileCovariant ∷ ProfileDeferred ∷ ProfileDouble ∷ ProfileEnum ∷ ProfileExtension ∷ ProfileExternal ∷ ProfileFileLength ∷ ProfileIdentifier ∷ ProfileLate ∷ ProfileMixinApplication ∷ ProfileNesting ∷ ProfilePartOfName ∷ ProfileRedirectingFactory ∷ ProfileSymbol ∷ ProfileTripleShift ∷ ProfileTypedef ∷ ReferencedBeforeDeclaration ∷ SyntaxError ∷ UnassignedRead ∷ UncheckedNullableUse ∷ UnclosedGroup ∷ UndefinedName ∷ UndefinedOperator ∷ UnopenedGroup ∷ UnterminatedComment ∷ UnterminatedString ∷ UriDoesNotExist ∷ []
 
 -- where a code stands among them
 abbrev place : DiagnosticCode → ℕ
-place ArgumentType = 0
-place BadEscape = 1
-place ConditionNotBool = 2
-place DuplicateDefinition = 3
-place FileNotUtf8 = 4
-place IllegalCharacter = 5
-place IntegerLiteralOutOfRange = 6
-place InvalidAssignment = 7
-place NotBuilt = 8
-place ProfileAnnotation = 9
-place ProfileAssert = 10
-place ProfileAsync = 11
-place ProfileCollectionElement = 12
-place ProfileConditionalUri = 13
-place ProfileConst = 14
-place ProfileContinueCase = 15
-place ProfileCovariant = 16
-place ProfileDeferred = 17
-place ProfileDouble = 18
-place ProfileEnum = 19
-place ProfileExtension = 20
-place ProfileExternal = 21
-place ProfileFileLength = 22
-place ProfileIdentifier = 23
-place ProfileLate = 24
-place ProfileMixinApplication = 25
-place ProfileNesting = 26
-place ProfileRedirectingFactory = 27
-place ProfileSymbol = 28
-place ProfileTripleShift = 29
-place ProfileTypedef = 30
-place ReferencedBeforeDeclaration = 31
-place SyntaxError = 32
-place UnassignedRead = 33
-place UncheckedNullableUse = 34
-place UnclosedGroup = 35
-place UndefinedName = 36
-place UndefinedOperator = 37
-place UnopenedGroup = 38
-place UnterminatedComment = 39
-place UnterminatedString = 40
+place AmbiguousExport = 0
+place ArgumentType = 1
+place BadEscape = 2
+place ConditionNotBool = 3
+place DirectiveOrder = 4
+place DuplicateDefinition = 5
+place FileNotUtf8 = 6
+place IllegalCharacter = 7
+place ImportOfPart = 8
+place IntegerLiteralOutOfRange = 9
+place InvalidAssignment = 10
+place NotBuilt = 11
+place PartMismatch = 12
+place ProfileAnnotation = 13
+place ProfileAssert = 14
+place ProfileAsync = 15
+place ProfileCollectionElement = 16
+place ProfileConditionalUri = 17
+place ProfileConst = 18
+place ProfileContinueCase = 19
+place ProfileCovariant = 20
+place ProfileDeferred = 21
+place ProfileDouble = 22
+place ProfileEnum = 23
+place ProfileExtension = 24
+place ProfileExternal = 25
+place ProfileFileLength = 26
+place ProfileIdentifier = 27
+place ProfileLate = 28
+place ProfileMixinApplication = 29
+place ProfileNesting = 30
+place ProfilePartOfName = 31
+place ProfileRedirectingFactory = 32
+place ProfileSymbol = 33
+place ProfileTripleShift = 34
+place ProfileTypedef = 35
+place ReferencedBeforeDeclaration = 36
+place SyntaxError = 37
+place UnassignedRead = 38
+place UncheckedNullableUse = 39
+place UnclosedGroup = 40
+place UndefinedName = 41
+place UndefinedOperator = 42
+place UnopenedGroup = 43
+place UnterminatedComment = 44
+place UnterminatedString = 45
+place UriDoesNotExist = 46
 
 -- the code at a place
 abbrev code_at : List DiagnosticCode → ℕ → Option DiagnosticCode
@@ -86,15 +92,19 @@ code_at (c ∷ cs) zero = Some c
 code_at (c ∷ cs) (suc n) = code_at cs n
 
 placed : (c : DiagnosticCode) → code_at all_codes (place c) ≡ Some c
+placed AmbiguousExport = refl
 placed ArgumentType = refl
 placed BadEscape = refl
 placed ConditionNotBool = refl
+placed DirectiveOrder = refl
 placed DuplicateDefinition = refl
 placed FileNotUtf8 = refl
 placed IllegalCharacter = refl
+placed ImportOfPart = refl
 placed IntegerLiteralOutOfRange = refl
 placed InvalidAssignment = refl
 placed NotBuilt = refl
+placed PartMismatch = refl
 placed ProfileAnnotation = refl
 placed ProfileAssert = refl
 placed ProfileAsync = refl
@@ -113,6 +123,7 @@ placed ProfileIdentifier = refl
 placed ProfileLate = refl
 placed ProfileMixinApplication = refl
 placed ProfileNesting = refl
+placed ProfilePartOfName = refl
 placed ProfileRedirectingFactory = refl
 placed ProfileSymbol = refl
 placed ProfileTripleShift = refl
@@ -127,6 +138,7 @@ placed UndefinedOperator = refl
 placed UnopenedGroup = refl
 placed UnterminatedComment = refl
 placed UnterminatedString = refl
+placed UriDoesNotExist = refl
 
 -- all of these pass
 abbrev all_pass : (DiagnosticCode → Bool) → List DiagnosticCode → Bool

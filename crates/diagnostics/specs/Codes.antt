@@ -6,21 +6,25 @@ use Rattle.std.specs.declared.cmp.Ordering.{Ordering}
 use Rattle.std.specs.Str.{byte}
 use Rattle.std.specs.Char.{to_ascii_uppercase}
 use Rattle.judgement.specs.declared.code.DiagnosticCode.{DiagnosticCode}
-use Rattle.judgement.specs.declared.code.DiagnosticCode.TheVariants.{ArgumentType, BadEscape, ConditionNotBool, DuplicateDefinition, FileNotUtf8, IllegalCharacter, IntegerLiteralOutOfRange, InvalidAssignment, NotBuilt, ProfileAnnotation, ProfileAssert, ProfileAsync, ProfileCollectionElement, ProfileConditionalUri, ProfileConst, ProfileContinueCase, ProfileCovariant, ProfileDeferred, ProfileDouble, ProfileEnum, ProfileExtension, ProfileExternal, ProfileFileLength, ProfileIdentifier, ProfileLate, ProfileMixinApplication, ProfileNesting, ProfileRedirectingFactory, ProfileSymbol, ProfileTripleShift, ProfileTypedef, ReferencedBeforeDeclaration, SyntaxError, UnassignedRead, UncheckedNullableUse, UnclosedGroup, UndefinedName, UndefinedOperator, UnopenedGroup, UnterminatedComment, UnterminatedString}
+use Rattle.judgement.specs.declared.code.DiagnosticCode.TheVariants.{AmbiguousExport, ArgumentType, BadEscape, ConditionNotBool, DirectiveOrder, DuplicateDefinition, FileNotUtf8, IllegalCharacter, ImportOfPart, IntegerLiteralOutOfRange, InvalidAssignment, NotBuilt, PartMismatch, ProfileAnnotation, ProfileAssert, ProfileAsync, ProfileCollectionElement, ProfileConditionalUri, ProfileConst, ProfileContinueCase, ProfileCovariant, ProfileDeferred, ProfileDouble, ProfileEnum, ProfileExtension, ProfileExternal, ProfileFileLength, ProfileIdentifier, ProfileLate, ProfileMixinApplication, ProfileNesting, ProfilePartOfName, ProfileRedirectingFactory, ProfileSymbol, ProfileTripleShift, ProfileTypedef, ReferencedBeforeDeclaration, SyntaxError, UnassignedRead, UncheckedNullableUse, UnclosedGroup, UndefinedName, UndefinedOperator, UnopenedGroup, UnterminatedComment, UnterminatedString, UriDoesNotExist}
 use Rattle.proto_json.specs.declared.reply.ErrorKind.{ErrorKind}
 use Rattle.proto_json.specs.declared.reply.ErrorKind.TheVariants.{SyntacticError, CompileTimeError}
 
 -- the name of a code
 abbrev pub name_of : DiagnosticCode → List ℕ
+name_of AmbiguousExport = codes "ambiguous_export"
 name_of ArgumentType = codes "argument_type"
 name_of BadEscape = codes "bad_escape"
 name_of ConditionNotBool = codes "condition_not_bool"
+name_of DirectiveOrder = codes "directive_order"
 name_of DuplicateDefinition = codes "duplicate_definition"
 name_of FileNotUtf8 = codes "file_not_utf8"
 name_of IllegalCharacter = codes "illegal_character"
+name_of ImportOfPart = codes "import_of_part"
 name_of IntegerLiteralOutOfRange = codes "integer_literal_out_of_range"
 name_of InvalidAssignment = codes "invalid_assignment"
 name_of NotBuilt = codes "not_built"
+name_of PartMismatch = codes "part_mismatch"
 name_of ProfileAnnotation = codes "profile_annotation"
 name_of ProfileAssert = codes "profile_assert"
 name_of ProfileAsync = codes "profile_async"
@@ -39,6 +43,7 @@ name_of ProfileIdentifier = codes "profile_identifier"
 name_of ProfileLate = codes "profile_late"
 name_of ProfileMixinApplication = codes "profile_mixin_application"
 name_of ProfileNesting = codes "profile_nesting"
+name_of ProfilePartOfName = codes "profile_part_of_name"
 name_of ProfileRedirectingFactory = codes "profile_redirecting_factory"
 name_of ProfileSymbol = codes "profile_symbol"
 name_of ProfileTripleShift = codes "profile_triple_shift"
@@ -53,6 +58,7 @@ name_of UndefinedOperator = codes "undefined_operator"
 name_of UnopenedGroup = codes "unopened_group"
 name_of UnterminatedComment = codes "unterminated_comment"
 name_of UnterminatedString = codes "unterminated_string"
+name_of UriDoesNotExist = codes "uri_does_not_exist"
 
 -- two codes by the bytes of their names: the first byte that differs decides, else the shorter name is less
 abbrev pub name_cmp : DiagnosticCode → DiagnosticCode → Ordering
@@ -73,15 +79,19 @@ message_of code = capitalized (words_of (name_of code)) ++ codes "."
 
 -- the kind of a code: a text whose lexemes, brackets or grammar are wrong has a syntactic error, every other is a compile-time error
 abbrev pub kind_of : DiagnosticCode → ErrorKind
+kind_of AmbiguousExport = CompileTimeError
 kind_of ArgumentType = CompileTimeError
 kind_of BadEscape = SyntacticError
 kind_of ConditionNotBool = CompileTimeError
+kind_of DirectiveOrder = CompileTimeError
 kind_of DuplicateDefinition = CompileTimeError
 kind_of FileNotUtf8 = CompileTimeError
 kind_of IllegalCharacter = SyntacticError
+kind_of ImportOfPart = CompileTimeError
 kind_of IntegerLiteralOutOfRange = CompileTimeError
 kind_of InvalidAssignment = CompileTimeError
 kind_of NotBuilt = CompileTimeError
+kind_of PartMismatch = CompileTimeError
 kind_of ProfileAnnotation = CompileTimeError
 kind_of ProfileAssert = CompileTimeError
 kind_of ProfileAsync = CompileTimeError
@@ -100,6 +110,7 @@ kind_of ProfileIdentifier = CompileTimeError
 kind_of ProfileLate = CompileTimeError
 kind_of ProfileMixinApplication = CompileTimeError
 kind_of ProfileNesting = SyntacticError
+kind_of ProfilePartOfName = CompileTimeError
 kind_of ProfileRedirectingFactory = CompileTimeError
 kind_of ProfileSymbol = CompileTimeError
 kind_of ProfileTripleShift = CompileTimeError
@@ -114,3 +125,4 @@ kind_of UndefinedOperator = CompileTimeError
 kind_of UnopenedGroup = SyntacticError
 kind_of UnterminatedComment = SyntacticError
 kind_of UnterminatedString = SyntacticError
+kind_of UriDoesNotExist = CompileTimeError

@@ -11,15 +11,19 @@ pub fn code_name(code: DiagnosticCode) -> &'static str
     ensures { result.now ≡ name_of code }
 {
     match code {
+        DiagnosticCode::AmbiguousExport => "ambiguous_export",
         DiagnosticCode::ArgumentType => "argument_type",
         DiagnosticCode::BadEscape => "bad_escape",
         DiagnosticCode::ConditionNotBool => "condition_not_bool",
+        DiagnosticCode::DirectiveOrder => "directive_order",
         DiagnosticCode::DuplicateDefinition => "duplicate_definition",
         DiagnosticCode::FileNotUtf8 => "file_not_utf8",
         DiagnosticCode::IllegalCharacter => "illegal_character",
+        DiagnosticCode::ImportOfPart => "import_of_part",
         DiagnosticCode::IntegerLiteralOutOfRange => "integer_literal_out_of_range",
         DiagnosticCode::InvalidAssignment => "invalid_assignment",
         DiagnosticCode::NotBuilt => "not_built",
+        DiagnosticCode::PartMismatch => "part_mismatch",
         DiagnosticCode::ProfileAnnotation => "profile_annotation",
         DiagnosticCode::ProfileAssert => "profile_assert",
         DiagnosticCode::ProfileAsync => "profile_async",
@@ -38,6 +42,7 @@ pub fn code_name(code: DiagnosticCode) -> &'static str
         DiagnosticCode::ProfileLate => "profile_late",
         DiagnosticCode::ProfileMixinApplication => "profile_mixin_application",
         DiagnosticCode::ProfileNesting => "profile_nesting",
+        DiagnosticCode::ProfilePartOfName => "profile_part_of_name",
         DiagnosticCode::ProfileRedirectingFactory => "profile_redirecting_factory",
         DiagnosticCode::ProfileSymbol => "profile_symbol",
         DiagnosticCode::ProfileTripleShift => "profile_triple_shift",
@@ -52,6 +57,7 @@ pub fn code_name(code: DiagnosticCode) -> &'static str
         DiagnosticCode::UnopenedGroup => "unopened_group",
         DiagnosticCode::UnterminatedComment => "unterminated_comment",
         DiagnosticCode::UnterminatedString => "unterminated_string",
+        DiagnosticCode::UriDoesNotExist => "uri_does_not_exist",
     }
 }
 
@@ -61,15 +67,19 @@ pub fn message(code: DiagnosticCode) -> &'static str
     ensures { result.now ≡ message_of code }
 {
     match code {
+        DiagnosticCode::AmbiguousExport => "Ambiguous export.",
         DiagnosticCode::ArgumentType => "Argument type.",
         DiagnosticCode::BadEscape => "Bad escape.",
         DiagnosticCode::ConditionNotBool => "Condition not bool.",
+        DiagnosticCode::DirectiveOrder => "Directive order.",
         DiagnosticCode::DuplicateDefinition => "Duplicate definition.",
         DiagnosticCode::FileNotUtf8 => "File not utf8.",
         DiagnosticCode::IllegalCharacter => "Illegal character.",
+        DiagnosticCode::ImportOfPart => "Import of part.",
         DiagnosticCode::IntegerLiteralOutOfRange => "Integer literal out of range.",
         DiagnosticCode::InvalidAssignment => "Invalid assignment.",
         DiagnosticCode::NotBuilt => "Not built.",
+        DiagnosticCode::PartMismatch => "Part mismatch.",
         DiagnosticCode::ProfileAnnotation => "Profile annotation.",
         DiagnosticCode::ProfileAssert => "Profile assert.",
         DiagnosticCode::ProfileAsync => "Profile async.",
@@ -88,6 +98,7 @@ pub fn message(code: DiagnosticCode) -> &'static str
         DiagnosticCode::ProfileLate => "Profile late.",
         DiagnosticCode::ProfileMixinApplication => "Profile mixin application.",
         DiagnosticCode::ProfileNesting => "Profile nesting.",
+        DiagnosticCode::ProfilePartOfName => "Profile part of name.",
         DiagnosticCode::ProfileRedirectingFactory => "Profile redirecting factory.",
         DiagnosticCode::ProfileSymbol => "Profile symbol.",
         DiagnosticCode::ProfileTripleShift => "Profile triple shift.",
@@ -102,6 +113,7 @@ pub fn message(code: DiagnosticCode) -> &'static str
         DiagnosticCode::UnopenedGroup => "Unopened group.",
         DiagnosticCode::UnterminatedComment => "Unterminated comment.",
         DiagnosticCode::UnterminatedString => "Unterminated string.",
+        DiagnosticCode::UriDoesNotExist => "Uri does not exist.",
     }
 }
 
@@ -118,13 +130,17 @@ pub fn error_kind(code: DiagnosticCode) -> ErrorKind
         | DiagnosticCode::UnopenedGroup
         | DiagnosticCode::UnterminatedComment
         | DiagnosticCode::UnterminatedString => ErrorKind::SyntacticError,
-        DiagnosticCode::ArgumentType
+        DiagnosticCode::AmbiguousExport
+        | DiagnosticCode::ArgumentType
         | DiagnosticCode::ConditionNotBool
+        | DiagnosticCode::DirectiveOrder
         | DiagnosticCode::DuplicateDefinition
         | DiagnosticCode::FileNotUtf8
+        | DiagnosticCode::ImportOfPart
         | DiagnosticCode::IntegerLiteralOutOfRange
         | DiagnosticCode::InvalidAssignment
         | DiagnosticCode::NotBuilt
+        | DiagnosticCode::PartMismatch
         | DiagnosticCode::ProfileAnnotation
         | DiagnosticCode::ProfileAssert
         | DiagnosticCode::ProfileAsync
@@ -142,6 +158,7 @@ pub fn error_kind(code: DiagnosticCode) -> ErrorKind
         | DiagnosticCode::ProfileIdentifier
         | DiagnosticCode::ProfileLate
         | DiagnosticCode::ProfileMixinApplication
+        | DiagnosticCode::ProfilePartOfName
         | DiagnosticCode::ProfileRedirectingFactory
         | DiagnosticCode::ProfileSymbol
         | DiagnosticCode::ProfileTripleShift
@@ -150,6 +167,7 @@ pub fn error_kind(code: DiagnosticCode) -> ErrorKind
         | DiagnosticCode::UnassignedRead
         | DiagnosticCode::UncheckedNullableUse
         | DiagnosticCode::UndefinedName
-        | DiagnosticCode::UndefinedOperator => ErrorKind::CompileTimeError,
+        | DiagnosticCode::UndefinedOperator
+        | DiagnosticCode::UriDoesNotExist => ErrorKind::CompileTimeError,
     }
 }

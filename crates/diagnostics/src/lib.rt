@@ -14,4 +14,4 @@ mod rows;
 pub use code::{code_name, error_kind, message};
 pub use laws::codes_are_ordered_by_name;
 pub use lines::{line_of, lines_of};
-pub use rows::render;
+pub use rows::{render, render_at};

@@ -9,8 +9,12 @@ use judgement::Fault;
 use proto_json::{ErrorRow, ErrorRows, FixedText, Location, Severity, SharedText};
 use std::alloc::{AllocError, Global};
 
-// The row of a fault that starts at the position.
-fn render_at(file: &SharedText, position: Position, fault: Fault) -> Result<ErrorRow, AllocError>
+/// The row of a fault of a file that starts at the position; it shares the path.
+pub fn render_at(
+    file: &SharedText,
+    position: Position,
+    fault: Fault,
+) -> Result<ErrorRow, AllocError>
     ensures { IfOk result (λ row. row ≡ row_at file.now position fault) }
 {
     let file = file.share()?;

@@ -3,24 +3,32 @@
 /// What a diagnostic says, in the order of the codes' names.
 #[derive(Clone, Copy, Debug, PartialEq, Eq, PartialOrd, Ord)]
 pub enum DiagnosticCode {
+    /// An export brings a name for which an earlier one brings another element.
+    AmbiguousExport,
     /// The right side of an operator hasn't the type that the left side's operator takes.
     ArgumentType,
     /// An escape of a string stands for no character.
     BadEscape,
     /// The condition of an `if` or a `while` is no bool.
     ConditionNotBool,
+    /// A directive stands where it may not.
+    DirectiveOrder,
     /// A name is declared again in one block.
     DuplicateDefinition,
     /// The bytes of a file aren't UTF-8.
     FileNotUtf8,
     /// An ASCII character begins no lexeme.
     IllegalCharacter,
+    /// An import or an export names a file that has a `part of`.
+    ImportOfPart,
     /// A decimal literal past 2^63 - 1, or a hexadecimal one past 2^64 - 1.
     IntegerLiteralOutOfRange,
     /// A value hasn't the type of the variable that it is written to.
     InvalidAssignment,
     /// A directive or a declaration holds a form that isn't checked yet.
     NotBuilt,
+    /// A `part` names a file that isn't a part of the library.
+    PartMismatch,
     /// An `@` stands where no annotation is read.
     ProfileAnnotation,
     /// The word `assert`, which the language leaves out.
@@ -57,6 +65,8 @@ pub enum DiagnosticCode {
     ProfileMixinApplication,
     /// A segment has too many groups in one another, or too many lexemes.
     ProfileNesting,
+    /// A `part of` has a name and no URI.
+    ProfilePartOfName,
     /// A factory that hands on to another constructor by `=`.
     ProfileRedirectingFactory,
     /// A `#`, with which a symbol begins.
@@ -85,4 +95,6 @@ pub enum DiagnosticCode {
     UnterminatedComment,
     /// A string never ends.
     UnterminatedString,
+    /// A URI names no file.
+    UriDoesNotExist,
 }

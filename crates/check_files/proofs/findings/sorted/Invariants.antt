@@ -1,5 +1,5 @@
 use Rattle.std.proofs.Common.{◌≡◌, vec_len}
-use Rattle.check_files.specs.Order.{sorted_findings}
+use Rattle.check_files.specs.Findings.{sorted_findings}
 use Rattle.check_files.proofs.Placing.{put_all}
 use Rattle.check_files.proofs.findings.sorted.Given as goal
 

@@ -4,4 +4,4 @@ use Rattle.check_files.proofs.reports.findings_in.Given as goal
 
 abbrev pub invariant-loop-library : goal.invariant-loop-library
 invariant-loop-library l =
-    l.findings.items ≡ flat_map (findings_in_library l.linked.sources.items l.linked.heads.items l.linked.aims.items l.linked.faults.items l.elements l.spaces) (take l.library-index l.libraries)
+    l.findings.items ≡ flat_map (findings_in_library l.linked.sources.items l.linked.heads.items l.linked.aims.items l.linked.faults.items l.linked.elements.items l.linked.spaces.items) (take l.library-index l.libraries)
