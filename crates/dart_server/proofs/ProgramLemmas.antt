@@ -25,7 +25,7 @@ use Rattle.std.proofs.Math.Dec.{eqb-suc-zero}
 use Rattle.std.proofs.lemmas.Bool.{true≢false}
 use Rattle.dart_server.specs.declared.status.Status.{Status}
 use Rattle.dart_server.specs.declared.status.Status.TheVariants.{Errors}
-use Rattle.protocol_rules.specs.Files.{no_text}
+use Rattle.check_files.specs.Contents.{no_text}
 use Rattle.dart_server.specs.Run.{Says, rows_of_file, Prints, UnitGives, RowsGive}
 use Rattle.dart_server.proofs.RunLemmas.{IsSound}
 

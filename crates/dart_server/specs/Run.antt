@@ -24,7 +24,7 @@ use Rattle.core_machine.specs.declared.effect.RunEnd.TheVariants.{Done as Ended}
 use Rattle.elaborate.specs.Elaborated.{elaborated}
 use Rattle.load_files.specs.Paths.{is_library}
 use Rattle.load_files.specs.declared.loading.TheConstants.{MAX_BYTES}
-use Rattle.protocol_rules.specs.Files.{no_text}
+use Rattle.check_files.specs.Contents.{no_text}
 use Rattle.dart_server.specs.declared.status.Status.{Status}
 use Rattle.dart_server.specs.declared.status.Status.TheVariants.{Done, Errors, Refused, Memory, StepsSpent, WriteFault, FilesFault}
 

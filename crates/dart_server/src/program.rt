@@ -9,7 +9,7 @@ ghost use Rattle.dart_server.specs.Output.{Output, ServeOutput, ServeFileOutput,
 use crate::run::run;
 use crate::status::{Status, status_of};
 use crate::words::{Command, command_of};
-use analysis_store::Plain;
+use analysis_store::Recent;
 use fault_io::{Files, FilesRefusal, Sink, Source, WriteRefusal, write_all_of};
 use load_files::Packages;
 use packages_file::packages_at;
@@ -72,7 +72,7 @@ fn serve_lines<S: Source, K: Sink, F: Files>(
     ensures no_write_fault { result ≢ Status.WriteFault → K.faults sink.new ≡ K.faults sink.old }
     ensures told { F.told files.new ≡ F.told files.old }
 {
-    let mut session = Session::new(alloc, packages, Plain::new(alloc));
+    let mut session = Session::new(alloc, packages, Recent::new(alloc));
     let end = serve(
         alloc,
         LINE_LIMIT,
@@ -122,9 +122,9 @@ fn serve_file<S: Source, K: Sink, F: Files>(
 /// `output` is the theorem of the program. Under `serve`, over no packages or over those that a
 /// packages file lists, what was written, for every input in whatever pieces, is the replies that the
 /// rules of the protocol allow, and each reply to `analysis.getErrors` lists exactly the diagnostics
-/// that the rules of the language define, from nothing, for what the file then had: its overlay, or
+/// that the rules of the language define, from nothing, for what all files then had: their overlays, or
 /// else what the store had there when the roots were last read. Under `run` it is the diagnostics of
-/// the file, or where it has none, what its program prints, of which no number of steps goes wrong. The
+/// the file by itself, or where it has none, what its program prints, of which no number of steps goes wrong. The
 /// other clauses say when each fault comes: the count of faults of the source or the sink rises, or
 /// stands at its end, exactly where the status says so; only `serve` reads the source, and not where
 /// its packages file is refused or can't be read. Under `serve` a reply is cut at the status of want of

@@ -4,7 +4,7 @@ ghost use Rattle.std.specs.Prelude.{◌≡◌, ◌≢◌, ℕ, ◌<◌, true, fa
 ghost use Rattle.fault_io.specs.Bytes.{and_then};
 ghost use Rattle.fault_io.specs.Faults.{Rose, one_more};
 ghost use Rattle.load_files.specs.Paths.{is_library};
-ghost use Rattle.protocol_rules.specs.Files.{no_text};
+ghost use Rattle.check_files.specs.Contents.{no_text};
 ghost use Rattle.check_library.specs.Checked.{IsFaultless, main_of_checked};
 ghost use Rattle.check_library.specs.Diagnostics.{diagnostics};
 ghost use Rattle.diagnostics.specs.Rendering.{rows_of, lines_of_rows};
@@ -16,6 +16,7 @@ ghost use Rattle.dart_server.specs.Output.{MayEnd};
 ghost use Rattle.dart_server.specs.Run.{no_library_line, rows_of_file, Prints, Says, RowsGive, BytesGive, Writes, Counts, status_after, RunOutput};
 
 use crate::status::Status;
+use check_files::empty_text;
 use check_library::{Checked, check};
 use core_check::{AcceptRefusal, Accepted, accept, faults_are_clauses_that_fail};
 use core_machine::{
@@ -29,7 +30,7 @@ use elaborate::elaborate;
 use fault_io::{Files, FilesRefusal, Sink, WriteRefusal, write_all_of};
 use judgement::{DiagnosticCode, Fault};
 use load_files::MAX_BYTES;
-use protocol_rules::{empty_text, is_library};
+use protocol_rules::is_library;
 use std::alloc::{AllocError, Global};
 
 /// What a run prints is written where it has come to so many bytes, and at its end.

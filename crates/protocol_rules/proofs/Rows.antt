@@ -25,12 +25,12 @@ use Rattle.overlays.specs.declared.refusal.OverlayRefusal.TheVariants.{BadChange
 use Rattle.overlays.specs.declared.refusal.OverlayRefusal.TheVariants as overlay_refusal
 use Rattle.diagnostics.specs.Rendering.{rows_of}
 use Rattle.protocol_rules.proofs.AppliedLemmas.{applied-no_memory}
-use Rattle.protocol_rules.specs.Files.{is_analyzed, text_of, diagnostics_of}
+use Rattle.protocol_rules.specs.Files.{is_analyzed, text_of}
 use Rattle.protocol_rules.specs.Limits.{passes_limit, AreWithin}
 use Rattle.protocol_rules.specs.Reading.{IsReading}
 use Rattle.protocol_rules.specs.Skipped.{is_skipped}
 use Rattle.protocol_rules.specs.State.{State}
-use Rattle.protocol_rules.specs.Turns.{Turn, IsTurn, IsLineTurn, IsRequestTurn, IsAskedTurn, refused_turn, invalid_turn, overlays_turn, updated_turn, errors_turn, read_turn, with_paths}
+use Rattle.protocol_rules.specs.Turns.{Turn, IsTurn, IsLineTurn, IsRequestTurn, IsAskedTurn, IsErrorsTurnIf, refused_turn, invalid_turn, overlays_turn, updated_turn, read_turn, with_paths}
 
 -- a turn with this id refuses, takes overlays or roots within the limits, or lists errors
 pub data Row (mark : Bool) (s : State) (id : List ℕ) (t : Turn) : Type 0 where
@@ -50,12 +50,9 @@ module _ (mark : Bool) (s : State) (id : List ℕ) where
   updated_row (Err (TooLong path bytes)) answered = refuses ProfileLimit refl (λ z. cc)
   updated_row (Err overlay_refusal.Memory) answered = absurd (answered refl)
 
-  errors_row : (file : List ℕ) → Row mark s id (errors_turn s id file)
-  errors_row file =
-      elim (is_analyzed s file) as (λ b. Row mark s id (if b then record { id = id; body = Errors (rows_of file (text_of s file) (diagnostics_of s file)); after = s } else refused_turn s id GetErrorsInvalidFile)) [
-        | true ↦ lists (rows_of file (text_of s file) (diagnostics_of s file)) refl
-        | false ↦ refuses GetErrorsInvalidFile refl (λ z. cc)
-      ]
+  errors_row : (file : List ℕ) (analyzed : Bool) (t : Turn) → IsErrorsTurnIf analyzed s id file t → Row mark s id t
+  errors_row file true t h = lists (rows_of file (text_of s file) h.faults) h.turn
+  errors_row file false t h = refuses GetErrorsInvalidFile h (λ z. cc)
 
   read_row : (told : Option Stored) (roots : Roots) (t : Turn) (found : Result Table LoadRefusal) → IsReading told mark roots s.overlays found → t ≡ read_turn s id roots found → Row mark s id t
   read_row told roots t (Ok snapshot) reading is = reads roots snapshot is reading.within
@@ -69,7 +66,7 @@ module _ (mark : Bool) (s : State) (id : List ℕ) where
   asked_row told (SetRoots included excluded) t h = read_row told (with_paths s.roots included excluded) t h.found h.reading h.turn
   asked_row told Reanalyze t h = read_row told s.roots t h.found h.reading h.turn
   asked_row told (Update files) t h = subst (Row mark s id) (sym h) (updated_row (applied files s.overlays) (applied-no_memory files s.overlays))
-  asked_row told (GetErrors file) t h = subst (Row mark s id) (sym h) (errors_row file)
+  asked_row told (GetErrors file) t h = errors_row file (is_analyzed s file) t h
   asked_row told GetWork t h = refuses UnknownRequest h (λ z. cc)
 
   -- by the format of its paths

@@ -9,14 +9,29 @@ use Rattle.proto_json.specs.declared.request.Request.{Request}
 use Rattle.proto_json.specs.declared.request.Request.TheVariants.{SetRoots, Reanalyze, Update, GetErrors, GetWork}
 use Rattle.proto_json.specs.declared.request.RequestRefusal.{RequestRefusal}
 use Rattle.proto_json.specs.declared.request.RequestRefusal.TheVariants.{Refused, Memory}
+use Rattle.judgement.specs.declared.fault.Fault.{Fault}
 use Rattle.load_files.specs.Tables.{Table}
+use Rattle.load_files.specs.declared.contents.FileContents.{FileContents}
+use Rattle.check_files.specs.Settled.{diagnostics_settled}
+use Rattle.protocol_rules.specs.Files.{AreDiagnosticsBy, current, files_of, is_analyzed}
 use Rattle.load_files.specs.declared.refusal.LoadRefusal.{LoadRefusal}
 use Rattle.load_files.specs.declared.roots.Roots.{Roots}
 use Rattle.protocol_rules.specs.Answers.{uses_store, request_uses_store, reads_store}
 use Rattle.protocol_rules.specs.Reading.{IsReading}
 use Rattle.protocol_rules.specs.Skipped.{is_skipped}
 use Rattle.protocol_rules.specs.State.{State}
-use Rattle.protocol_rules.specs.Turns.{Turn, IsTurn, IsLineTurn, IsRequestTurn, IsAskedTurn, IsReadTurn, read_turn, with_paths}
+use Rattle.protocol_rules.specs.Turns.{Turn, IsTurn, IsLineTurn, IsRequestTurn, IsAskedTurn, IsErrorsTurnIf, IsReadTurn, errors_turn, read_turn, with_paths}
+
+-- the diagnostics of a file are settled
+faults-settled : (s : State) (path : List ℕ) (contents : Option FileContents) (faults faults' : List Fault) → AreDiagnosticsBy s path contents faults → AreDiagnosticsBy s path contents faults' → faults ≡ faults'
+faults-settled s path None faults faults' h h' = h ∙ sym h'
+faults-settled s path (Some contents) faults faults' h h' = diagnostics_settled s.roots.packages (files_of s) path contents faults faults' h h'
+
+-- and so are its errors
+errors-settled : (s : State) (id file : List ℕ) (analyzed : Bool) (a b : Turn) → IsErrorsTurnIf analyzed s id file a → IsErrorsTurnIf analyzed s id file b → a ≡ b
+errors-settled s id file true a b h h' =
+    h.turn ∙ ap (λ (faults : List Fault). errors_turn s id file faults) (faults-settled s file (current s file) h.faults h'.faults h.diagnostics h'.diagnostics) ∙ sym h'.turn
+errors-settled s id file false a b h h' = h ∙ sym h'
 
 -- where the store isn't asked, whatever it tells
 module _ (told told' : Option Stored) (mark mark' : Bool) (s : State) where
@@ -24,7 +39,7 @@ module _ (told told' : Option Stored) (mark mark' : Bool) (s : State) where
   asked-settled id (SetRoots included excluded) a b unasked h h' = absurd (true≢false unasked)
   asked-settled id Reanalyze a b unasked h h' = absurd (true≢false unasked)
   asked-settled id (Update files) a b unasked h h' = h ∙ sym h'
-  asked-settled id (GetErrors file) a b unasked h h' = h ∙ sym h'
+  asked-settled id (GetErrors file) a b unasked h h' = errors-settled s id file (is_analyzed s file) a b h h'
   asked-settled id GetWork a b unasked h h' = h ∙ sym h'
 
   request-settled : (request : Result Asked RequestRefusal) (a b : Turn) → request_uses_store request ≡ false → IsRequestTurn told mark s request a → IsRequestTurn told' mark' s request b → a ≡ b
@@ -59,7 +74,7 @@ module _ (stored : Stored) (s : State) where
   asked-told mark id (SetRoots included excluded) a b h h' = read-told mark id (with_paths s.roots included excluded) a b h h'
   asked-told mark id Reanalyze a b h h' = read-told mark id s.roots a b h h'
   asked-told mark id (Update files) a b h h' = h ∙ sym h'
-  asked-told mark id (GetErrors file) a b h h' = h ∙ sym h'
+  asked-told mark id (GetErrors file) a b h h' = errors-settled s id file (is_analyzed s file) a b h h'
   asked-told mark id GetWork a b h h' = h ∙ sym h'
 
   request-told : (mark : Bool) (request : Result Asked RequestRefusal) (a b : Turn) → IsRequestTurn (Some stored) mark s request a → IsRequestTurn (Some stored) mark s request b → a ≡ b

@@ -1,7 +1,6 @@
 pub mod Skipped
 pub mod State
 pub mod Files
-pub mod Lent
 pub mod Limits
 pub mod Reading
 pub mod Turns

@@ -1,5 +1,6 @@
 -- The reply to an event, and the state after it.
 use Rattle.std.specs.Prelude.{◌≡◌, ℕ, List, [], Bool, true, false, if◌then◌else◌, Option, None, Some, Result, Ok, Err}
+use Rattle.judgement.specs.declared.fault.Fault.{Fault}
 use Rattle.fault_io.specs.Stored.{Stored}
 use Rattle.serve_loop.specs.Event.{Event, line, too_long}
 use Rattle.proto_json.specs.Requests.{answer}
@@ -25,7 +26,7 @@ use Rattle.overlays.specs.declared.refusal.OverlayRefusal.TheVariants.{BadChange
 use Rattle.overlays.specs.declared.refusal.OverlayRefusal.TheVariants as overlay_refusal
 use Rattle.diagnostics.specs.Rendering.{rows_of}
 use Rattle.protocol_rules.specs.State.{State}
-use Rattle.protocol_rules.specs.Files.{is_analyzed, text_of, diagnostics_of}
+use Rattle.protocol_rules.specs.Files.{is_analyzed, text_of, AreDiagnosticsOf}
 use Rattle.protocol_rules.specs.Limits.{passes_limit}
 use Rattle.protocol_rules.specs.Reading.{IsReading}
 use Rattle.protocol_rules.specs.Skipped.{is_skipped}
@@ -65,11 +66,20 @@ update_turn s id files = updated_turn s id (applied files s.overlays)
 abbrev pub unserved_turn : State → List ℕ → Turn
 unserved_turn s id = refused_turn s id UnknownRequest
 
--- The errors of a file that is analyzed are its diagnostics, with the lines and columns of its text; asking changes nothing.
-abbrev pub errors_turn : State → List ℕ → List ℕ → Turn
-errors_turn s id file =
-    if is_analyzed s file then record { id = id; body = Errors (rows_of file (text_of s file) (diagnostics_of s file)); after = s }
-    else refused_turn s id GetErrorsInvalidFile
+-- the errors of a file are these of its diagnostics, with the lines and columns of its text
+abbrev pub errors_turn : State → List ℕ → List ℕ → List Fault → Turn
+errors_turn s id file faults = record { id = id; body = Errors (rows_of file (text_of s file) faults); after = s }
+
+-- The errors of a file are its diagnostics; asking changes nothing.
+pub record IsErrorsTurn (s : State) (id file : List ℕ) (t : Turn) : Type 0 where
+  pub faults : List Fault
+  pub diagnostics : AreDiagnosticsOf s file faults
+  pub turn : t ≡ errors_turn s id file faults
+
+-- errors are told of a file that is analyzed, and of no other
+abbrev pub IsErrorsTurnIf : (analyzed : Bool) → State → List ℕ → List ℕ → Turn → Type 0
+IsErrorsTurnIf true s id file t = IsErrorsTurn s id file t
+IsErrorsTurnIf false s id file t = t ≡ refused_turn s id GetErrorsInvalidFile
 
 -- roots by what their reading came to: they and the snapshot are taken, or the state stays
 abbrev pub read_turn : State → List ℕ → Roots → Result Table LoadRefusal → Turn
@@ -95,7 +105,7 @@ abbrev pub IsAskedTurn : Option Stored → Bool → State → List ℕ → Reque
 IsAskedTurn told mark s id (SetRoots included excluded) t = IsReadTurn told mark s id (with_paths s.roots included excluded) t
 IsAskedTurn told mark s id Reanalyze t = IsReadTurn told mark s id s.roots t
 IsAskedTurn told mark s id (Update files) t = t ≡ update_turn s id files
-IsAskedTurn told mark s id (GetErrors file) t = t ≡ errors_turn s id file
+IsAskedTurn told mark s id (GetErrors file) t = IsErrorsTurnIf (is_analyzed s file) s id file t
 IsAskedTurn told mark s id GetWork t = t ≡ unserved_turn s id
 
 -- a request, or the refusal of a line; want of memory is no reading of a line

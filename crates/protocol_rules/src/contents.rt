@@ -1,19 +1,22 @@
 //! The state of a session.
 
-ghost use Rattle.std.specs.Prelude.{◌≡◌, ◌≢◌, ◌≤◌, Bool, true, false, Err, IfOk, IfErr, IsTrue, MatchOption, option_map};
+ghost use Rattle.std.specs.Prelude.{◌≡◌, ◌≢◌, ◌≤◌, ◌++◌, ◌*◌, Bool, true, false, Err, IfOk, IfErr, IsTrue, MatchOption, OnOk, length, map, option_map};
+ghost use Rattle.std.specs.List.{filter};
 ghost use Rattle.load_files.specs.Kept.{are_kept};
+ghost use Rattle.load_files.specs.declared.loading.TheConstants.{MAX_PATHS};
+ghost use Rattle.check_files.specs.Lent.{contents_view, table_view};
 ghost use Rattle.load_files.specs.Tables.{contents_at};
 ghost use Rattle.serve_loop.specs.Marks.{Tells};
-ghost use Rattle.protocol_rules.specs.Files.{current, is_analyzed, is_included};
-ghost use Rattle.protocol_rules.specs.Lent.{file_view};
+ghost use Rattle.protocol_rules.specs.Files.{current, files_of, given_file, is_analyzed, is_included, is_new, overlaid};
 ghost use Rattle.protocol_rules.specs.Limits.{AreWithin, kept_in, passes_limit};
 ghost use Rattle.protocol_rules.specs.Reading.{IsReading, snapshot_in};
 ghost use Rattle.protocol_rules.specs.State.{State, at_start};
 
-use crate::files::{CurrentFile, is_library};
+use crate::files::is_library;
 use crate::limits::passes_limit;
+use check_files::{LentContents, LentFile, lent_contents};
 use fault_io::{Files, is_under};
-use load_files::{FileContents, KeptFile, LoadRefusal, Packages, Paths, Roots, Snapshot, snapshot};
+use load_files::{KeptFile, LoadRefusal, Packages, Paths, Roots, Snapshot, snapshot};
 use overlays::Overlays;
 use std::alloc::{AllocError, Global};
 use std::marker::Model;
@@ -58,6 +61,45 @@ fn kept_in(alloc: Global, overlays: &Overlays) -> Result<Vec<KeptFile>, AllocErr
         kept.push(KeptFile { path, bytes })?;
     }
     Ok(kept)
+}
+
+/// Adds the files of the store, each with the text that the client has given of it.
+fn add_stored<'c>(
+    overlays: &'c Overlays,
+    snapshot: &'c Snapshot,
+    files: &mut Vec<LentFile<'c>>,
+) -> Result<(), AllocError>
+    ensures { OnOk result (table_view files.new.items ≡ table_view files.old.items ++ map (overlaid overlays.now) snapshot.now) }
+{
+    for file in snapshot.files() {
+        let path = file.path().as_str();
+        let contents = match overlays.text(path) {
+            Some(text) => LentContents::Text(text),
+            None => lent_contents(file.contents()),
+        };
+        files.push(LentFile { path, contents })?;
+    }
+    Ok(())
+}
+
+/// Adds the texts that the client has given of files that the store hadn't.
+fn add_new<'c>(
+    overlays: &'c Overlays,
+    snapshot: &Snapshot,
+    files: &mut Vec<LentFile<'c>>,
+) -> Result<(), AllocError>
+    ensures { OnOk result (table_view files.new.items ≡ table_view files.old.items ++ map given_file (filter (is_new snapshot.now) overlays.now)) }
+{
+    for entry in overlays.entries() {
+        let path = entry.path().as_str();
+        if snapshot.contents(path).is_none() {
+            files.push(LentFile {
+                path,
+                contents: LentContents::Text(entry.text()),
+            })?;
+        }
+    }
+    Ok(())
 }
 
 impl Contents {
@@ -148,25 +190,37 @@ impl Contents {
     }
 
     /// What the store had at a path when the roots were last read.
-    fn stored(&self, path: &str) -> Option<CurrentFile<'_>>
-        ensures { option_map file_view result ≡ contents_at path.now self.now.snapshot }
+    fn stored(&self, path: &str) -> Option<LentContents<'_>>
+        ensures { option_map contents_view result ≡ contents_at path.now self.now.snapshot }
     {
         match self.snapshot.contents(path) {
-            Some(FileContents::Text { text }) => Some(CurrentFile::Text(text)),
-            Some(FileContents::NotUtf8 { bytes }) => Some(CurrentFile::NotUtf8(*bytes)),
-            Some(FileContents::TooLong { bytes }) => Some(CurrentFile::TooLong(*bytes)),
+            Some(contents) => Some(lent_contents(contents)),
             None => None,
         }
     }
 
     /// What a path has now: its overlay, or else what the store had there.
-    pub fn current(&self, path: &str) -> Option<CurrentFile<'_>>
-        ensures { option_map file_view result ≡ current self.now path.now }
+    pub fn current(&self, path: &str) -> Option<LentContents<'_>>
+        ensures { option_map contents_view result ≡ current self.now path.now }
     {
         match self.overlays.text(path) {
-            Some(text) => Some(CurrentFile::Text(text)),
+            Some(text) => Some(LentContents::Text(text)),
             None => self.stored(path),
         }
+    }
+
+    /// All files as they now are: those of the store, in the order of their paths, each with the text that
+    /// the client has given of it, and behind them the others that the client has given, in theirs. The
+    /// error is want of memory.
+    pub fn files(&self, alloc: Global) -> Result<Vec<LentFile<'_>>, AllocError>
+        ensures files { IfOk result (λ files. table_view files.items ≡ files_of self.now) }
+        ensures few { IfOk result (λ files. length files.items ≤ 2 * MAX_PATHS) }
+    {
+        self.snapshot.paths_are_in_order();
+        let mut files = Vec::new(alloc);
+        add_stored(&self.overlays, &self.snapshot, &mut files)?;
+        add_new(&self.overlays, &self.snapshot, &mut files)?;
+        Ok(files)
     }
 
     /// Whether errors may be asked of a file.

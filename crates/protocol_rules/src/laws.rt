@@ -16,12 +16,18 @@ ghost use Rattle.overlays.specs.Applied.{applied};
 ghost use Rattle.overlays.specs.Tables.{PathsAndTexts};
 ghost use Rattle.overlays.specs.declared.refusal.OverlayRefusal.TheVariants.{Memory as overlay_memory};
 ghost use Rattle.protocol_rules.specs.Answers.{uses_store};
+ghost use Rattle.protocol_rules.specs.Files.{contents_among, current, files_of};
 ghost use Rattle.protocol_rules.specs.Limits.{AreWithin};
 ghost use Rattle.protocol_rules.specs.State.{State, at_start};
 ghost use Rattle.protocol_rules.specs.Turns.{Turn, IsTurn};
 ghost use Rattle.protocol_rules.specs.Updates.{TakesAllOrNone};
 
 use crate::contents::Contents;
+
+/// Among all files a path has what it currently has: its overlay, or else what the store had there.
+pub fn files_have_what_is_current(_contents: &Contents, _path: &str)
+    ensures { contents_among _path.now (files_of _contents.now) ≡ current _contents.now _path.now }
+{}
 
 /// A refusal, whatever its code, leaves the state as it was: roots, snapshot and overlays.
 pub fn a_refusal_changes_nothing(_contents: &Contents)

@@ -2,15 +2,14 @@
 use Rattle.std.proofs.Common.{◌≡◌, ℕ, Bool, true, false, ◌&&◌, ◌||◌, List, [], inl, inr, refl, sym, ap, ◌∙◌, subst}
 use Rattle.std.specs.Prelude.{is_some}
 use Rattle.std.proofs.lemmas.Bool.{false≢true}
-use Rattle.proto_json.specs.declared.reply.ErrorRow.{ErrorRow}
-use Rattle.proto_json.specs.declared.reply.ReplyBody.TheVariants.{Errors}
+use Rattle.judgement.specs.declared.fault.Fault.{Fault}
+use Rattle.proto_json.specs.declared.code.Code.TheVariants.{GetErrorsInvalidFile}
 use Rattle.load_files.specs.Paths.{is_library}
 use Rattle.load_files.specs.Tables.{contents_at}
 use Rattle.overlays.specs.Tables.{text_in}
-use Rattle.diagnostics.specs.Rendering.{rows_of}
-use Rattle.protocol_rules.specs.Files.{is_analyzed, is_included, text_of, diagnostics_of}
+use Rattle.protocol_rules.specs.Files.{is_analyzed, is_included, AreDiagnosticsOf}
 use Rattle.protocol_rules.specs.State.{State}
-use Rattle.protocol_rules.specs.Turns.{Turn, errors_turn}
+use Rattle.protocol_rules.specs.Turns.{Turn, IsErrorsTurnIf, errors_turn, refused_turn}
 use Rattle.request_core.specs.Holding.{HasNoFile, Holds}
 
 -- where there is no file none is analyzed
@@ -26,10 +25,15 @@ analyzed_held held contents path (inl same) analyzed = ap (λ (s : State). is_an
 analyzed_held held contents path (inr none) analyzed = absurd (false≢true (sym (nothing_analyzed contents path none) ∙ analyzed))
 
 -- and has the same diagnostics
-pub diagnostics_held : (held contents : State) (path : List ℕ) → Holds held contents → is_analyzed contents path ≡ true → diagnostics_of held path ≡ diagnostics_of contents path
-diagnostics_held held contents path (inl same) analyzed = ap (λ (s : State). diagnostics_of s path) same
-diagnostics_held held contents path (inr none) analyzed = absurd (false≢true (sym (nothing_analyzed contents path none) ∙ analyzed))
+pub diagnostics_held : (held contents : State) (path : List ℕ) (faults : List Fault) → Holds held contents → is_analyzed contents path ≡ true → AreDiagnosticsOf held path faults → AreDiagnosticsOf contents path faults
+diagnostics_held held contents path faults (inl same) analyzed are = subst (λ (s : State). AreDiagnosticsOf s path faults) same are
+diagnostics_held held contents path faults (inr none) analyzed are = absurd (false≢true (sym (nothing_analyzed contents path none) ∙ analyzed))
 
 -- the turn of the errors of a file that is analyzed
-pub errors_are : (s : State) (id file : List ℕ) (rows : List ErrorRow) → is_analyzed s file ≡ true → rows ≡ rows_of file (text_of s file) (diagnostics_of s file) → record { id = id; body = Errors rows; after = s } ≡ errors_turn s id file
-errors_are s id file rows analyzed is = rw (analyzed, is) refl
+pub errors_are : (s : State) (id file : List ℕ) (faults : List Fault) (t : Turn) → is_analyzed s file ≡ true → AreDiagnosticsOf s file faults → t ≡ errors_turn s id file faults → IsErrorsTurnIf (is_analyzed s file) s id file t
+errors_are s id file faults t analyzed are is =
+    subst (λ (b : Bool). IsErrorsTurnIf b s id file t) (sym analyzed) (record { faults = faults; diagnostics = are; turn = is })
+
+-- the turn of one that isn't
+pub refused_are : (s : State) (id file : List ℕ) (t : Turn) → is_analyzed s file ≡ false → t ≡ refused_turn s id GetErrorsInvalidFile → IsErrorsTurnIf (is_analyzed s file) s id file t
+refused_are s id file t other is = subst (λ (b : Bool). IsErrorsTurnIf b s id file t) (sym other) is

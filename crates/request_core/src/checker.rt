@@ -15,7 +15,7 @@ use work_counts::Work;
 pub trait Checker {
     ghost use Rattle.std.specs.Prelude.{Option};
     ghost use Rattle.work_counts.specs.Counts.{NoLess};
-    ghost use Rattle.protocol_rules.specs.Files.{is_analyzed, diagnostics_of};
+    ghost use Rattle.protocol_rules.specs.Files.{is_analyzed, AreDiagnosticsOf};
     ghost use Rattle.protocol_rules.specs.State.{State};
     ghost use Rattle.request_core.specs.Kept.{Kept, Handed, Asked};
 
@@ -42,7 +42,7 @@ pub trait Checker {
         work: &mut Work,
     ) -> Result<Faults, AllocError>
         requires { IsTrue (is_analyzed (holds self.old) path.now) }
-        ensures exact { IfOk result (λ faults. faults ≡ diagnostics_of (holds self.old) path.now) }
+        ensures exact { IfOk result (λ faults. AreDiagnosticsOf (holds self.old) path.now faults) }
         ensures held { holds self.new ≡ holds self.old }
         ensures asked { OnOk result (Asked (holds self.old) path.now (kept self.old) (kept self.new) work.old work.new) }
         ensures no_less { NoLess work.old work.new }

@@ -4,13 +4,14 @@ ghost use Rattle.std.specs.Prelude.{◌≡◌, ◌≤◌, false, IfOk};
 ghost use Rattle.diagnostics.specs.Rendering.{rows_of};
 ghost use Rattle.proto_json.specs.Requests.{answer};
 ghost use Rattle.protocol_rules.specs.Answers.{reads_store, request_uses_store};
-ghost use Rattle.protocol_rules.specs.Files.{text_of};
-ghost use Rattle.protocol_rules.specs.Turns.{update_turn, overlays_turn, errors_turn, with_paths};
+ghost use Rattle.protocol_rules.specs.Files.{is_analyzed, text_of};
+ghost use Rattle.protocol_rules.specs.Turns.{IsErrorsTurnIf, update_turn, overlays_turn, with_paths};
 ghost use Rattle.request_core.specs.Holding.{Holds};
 ghost use Rattle.request_core.specs.Said.{turn_of, IsRead, IsAsked, IsHeard};
 
 use crate::checker::Checker;
 use crate::said::{Said, refused, reply};
+use check_files::{LentContents, empty_text};
 use diagnostics::render;
 use fault_io::Files;
 use judgement::Fault;
@@ -20,7 +21,7 @@ use plain_text::PlainText;
 use proto_json::{
     Asked, Code, ErrorRows, FileOverlay, ReplyBody, Request, RequestRefusal, read_request,
 };
-use protocol_rules::{Contents, CurrentFile, empty_text};
+use protocol_rules::Contents;
 use std::alloc::{AllocError, Global};
 use work_counts::Work;
 
@@ -60,7 +61,7 @@ fn rows(
 ) -> Result<ErrorRows, AllocError>
     ensures { IfOk result (λ rows. rows ≡ rows_of file.now (text_of contents.now file.now) faults.now) }
 {
-    if let Some(CurrentFile::Text(text)) = contents.current(file) {
+    if let Some(LentContents::Text(text)) = contents.current(file) {
         return render(alloc, file, text, faults);
     }
     let empty = empty_text(alloc)?;
@@ -77,7 +78,7 @@ fn errors<C: Checker>(
     file: &str,
 ) -> Result<Said, AllocError>
     requires { Holds (C.holds checker.old) contents.now }
-    ensures turn { IfOk result (λ said. turn_of said contents.now ≡ errors_turn contents.now id file.now) }
+    ensures turn { IfOk result (λ said. IsErrorsTurnIf (is_analyzed contents.now file.now) contents.now id file.now (turn_of said contents.now)) }
     ensures holds { C.holds checker.new ≡ C.holds checker.old }
 {
     if !contents.is_analyzed(file) {

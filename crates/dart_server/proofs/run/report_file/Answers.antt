@@ -1,7 +1,7 @@
 use Rattle.std.proofs.Common.{ℕ, List, [], ◌∷◌, subst}
 use Rattle.diagnostics.specs.Rendering.{rows_of, lines_of_rows}
 use Rattle.dart_server.specs.declared.status.Status.TheVariants.{Errors}
-use Rattle.protocol_rules.specs.Files.{no_text}
+use Rattle.check_files.specs.Contents.{no_text}
 use Rattle.dart_server.specs.Run.{Says, Writes}
 use Rattle.dart_server.proofs.run.report_file.Goals as goal
 
