@@ -255,7 +255,7 @@ plain_defaults (rule ∷ c) rows none = ap (λ (rs : List Row). fold with_defaul
 finished_is : (verb : Verb) (h : Held) → finished (rules verb) h ≡ settled_rows (rules verb) h.pending h.rows
 finished_is ToServe h = plain_defaults (rules ToServe) _ (refl, tt)
 finished_is ToCheck h = plain_defaults (rules ToCheck) _ (refl, (refl, (refl, tt)))
-finished_is ToRun h = plain_defaults (rules ToRun) _ (refl, (refl, tt))
+finished_is ToRun h = plain_defaults (rules ToRun) _ (refl, (refl, (refl, (refl, tt))))
 
 -- what is given and allowed
 allowed_parts : (allowed : Allowed) (all : Option Given) (given : Given) → option_and_then (if_allowed allowed) all ≡ Some given → (all ≡ Some given) × (are_allowed allowed given ≡ true)

@@ -120,8 +120,8 @@ names_step ToCheck Root h position may is = (refl, refl)
 names_step ToCheck Packages h position may is = (refl, refl)
 names_step ToCheck Steps h position may is = cc
 names_step ToRun File h position may is = cc
-names_step ToRun Root h position may is = cc
-names_step ToRun Packages h position may is = cc
+names_step ToRun Root h position may is = (refl, refl)
+names_step ToRun Packages h position may is = (refl, refl)
 names_step ToRun Steps h position may is = (refl, refl)
 
 pub ends_step : (verb : Verb) (h : Held) (position : ℕ)
@@ -143,8 +143,8 @@ pending_holds ToCheck Root value found skip may absent = record { passes = rw ab
 pending_holds ToCheck Packages value found skip may absent = record { passes = rw absent refl; rows_are = used_once Packages value found found refl absent }
 pending_holds ToCheck Steps value found skip may absent = cc
 pending_holds ToRun File value found skip may absent = record { passes = rw absent refl; rows_are = used_once File value found found refl absent }
-pending_holds ToRun Root value found skip may absent = cc
-pending_holds ToRun Packages value found skip may absent = cc
+pending_holds ToRun Root value found skip may absent = record { passes = rw absent refl; rows_are = used_once Root value found found refl absent }
+pending_holds ToRun Packages value found skip may absent = record { passes = rw absent refl; rows_are = used_once Packages value found found refl absent }
 pending_holds ToRun Steps value found skip may absent = record { passes = rw absent refl; rows_are = used_once Steps value found found refl absent }
 
 pub joined_step : (verb : Verb) (argument : Argument) (value : List ℕ) (h : Held) (found : List Row) (position : ℕ) → allows (allowed_by verb) argument ≡ true → is_option argument ≡ true → Holds verb h found → has_row (name_of argument) found ≡ false
@@ -160,8 +160,8 @@ joined_step ToCheck Root value h found position may is holds absent = (ap (λ (r
 joined_step ToCheck Packages value h found position may is holds absent = (ap (λ (rs : List Row). among (with_rows rs h.skip) position) (used_once Packages value _ found holds.rows_are absent), rw (holds.passes, holds.rows_are, absent) refl)
 joined_step ToCheck Steps value h found position may is holds absent = cc
 joined_step ToRun File value h found position may is holds absent = cc
-joined_step ToRun Root value h found position may is holds absent = cc
-joined_step ToRun Packages value h found position may is holds absent = cc
+joined_step ToRun Root value h found position may is holds absent = (ap (λ (rs : List Row). among (with_rows rs h.skip) position) (used_once Root value _ found holds.rows_are absent), rw (holds.passes, holds.rows_are, absent) refl)
+joined_step ToRun Packages value h found position may is holds absent = (ap (λ (rs : List Row). among (with_rows rs h.skip) position) (used_once Packages value _ found holds.rows_are absent), rw (holds.passes, holds.rows_are, absent) refl)
 joined_step ToRun Steps value h found position may is holds absent = (ap (λ (rs : List Row). among (with_rows rs h.skip) position) (used_once Steps value _ found holds.rows_are absent), rw (holds.passes, holds.rows_are, absent) refl)
 
 -- a word that doesn't begin like an option
@@ -182,8 +182,8 @@ value_step ToCheck Root value found skip position may is = (let plain = undashed
 value_step ToCheck Packages value found skip position may is = (let plain = undashed value is in (rw (plain.0, plain.1, plain.1) refl, rw (plain.0, plain.1, plain.1) refl))
 value_step ToCheck Steps value found skip position may is = cc
 value_step ToRun File value found skip position may is = (let plain = undashed value is in (rw (plain.0, plain.1, plain.1) refl, rw (plain.0, plain.1, plain.1) refl))
-value_step ToRun Root value found skip position may is = cc
-value_step ToRun Packages value found skip position may is = cc
+value_step ToRun Root value found skip position may is = (let plain = undashed value is in (rw (plain.0, plain.1, plain.1) refl, rw (plain.0, plain.1, plain.1) refl))
+value_step ToRun Packages value found skip position may is = (let plain = undashed value is in (rw (plain.0, plain.1, plain.1) refl, rw (plain.0, plain.1, plain.1) refl))
 value_step ToRun Steps value found skip position may is = (let plain = undashed value is in (rw (plain.0, plain.1, plain.1) refl, rw (plain.0, plain.1, plain.1) refl))
 
 and_false : (test : Bool) → (test && false) ≡ false

@@ -32,9 +32,9 @@ serve_app = with_rule (plain_app (codes "serve")) (option_rule Packages)
 abbrev pub check_app : App
 check_app = with_rule (with_rule (with_rule (plain_app (codes "check")) (new_rule (name_of File))) (option_rule Root)) (option_rule Packages)
 
--- `run FILE [--steps N]`
+-- `run FILE [--root DIR] [--packages FILE] [--steps N]`
 abbrev pub run_app : App
-run_app = with_rule (with_rule (plain_app (codes "run")) (new_rule (name_of File))) (option_rule Steps)
+run_app = with_rule (with_rule (with_rule (with_rule (plain_app (codes "run")) (new_rule (name_of File))) (option_rule Root)) (option_rule Packages)) (option_rule Steps)
 
 -- what a parse found has the value of each argument that is given, and none of another
 abbrev pub Finds : Found → Given → Type 0

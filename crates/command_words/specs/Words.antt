@@ -155,9 +155,9 @@ checking None root packages = Refused
 checking (Some file) root packages = if is_path file && (is_path_or_none root && is_path_or_none packages) then Check file root packages else Refused
 
 -- a run of a file for so many steps
-abbrev pub running : (file : Option Text) → (steps : Option ℕ) → Command
-running (Some file) (Some steps) = if is_path file then Run file steps else Refused
-running _ _ = Refused
+abbrev pub running : (file root packages : Option Text) → (steps : Option ℕ) → Command
+running (Some file) root packages (Some steps) = if is_path file && (is_path_or_none root && is_path_or_none packages) then Run file root packages steps else Refused
+running _ _ _ _ = Refused
 
 -- `serve [--packages FILE]`
 abbrev pub serve_arguments : Allowed
@@ -175,13 +175,13 @@ abbrev pub check_command : Option Given → Command
 check_command None = Refused
 check_command (Some given) = checking (value_of File given) (value_of Root given) (value_of Packages given)
 
--- `run FILE [--steps N]`
+-- `run FILE [--root DIR] [--packages FILE] [--steps N]`
 abbrev pub run_arguments : Allowed
-run_arguments = record { file = true; root = false; packages = false; steps = true }
+run_arguments = record { file = true; root = true; packages = true; steps = true }
 
 abbrev pub run_command : Option Given → Command
 run_command None = Refused
-run_command (Some given) = running (value_of File given) (steps_of (value_of Steps given))
+run_command (Some given) = running (value_of File given) (value_of Root given) (value_of Packages given) (steps_of (value_of Steps given))
 
 -- the command that words are, by the first of them
 abbrev pub command_of : List Text → Command
@@ -198,6 +198,5 @@ serves _ = false
 
 -- whether folders may be listed
 abbrev pub lists : Command → Bool
-lists (Serve packages) = true
-lists (Check file root packages) = true
-lists _ = false
+lists Refused = false
+lists _ = true

@@ -13,6 +13,3 @@ mod parsers;
 mod words;
 
 pub use words::{Command, command_of};
-
-#[cfg(test)]
-mod tests;

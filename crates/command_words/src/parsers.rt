@@ -45,12 +45,14 @@ fn check_parser<'a>(alloc: Global) -> Result<Command<'a>, AllocError>
         .arg(option(alloc, "packages"))
 }
 
-/// `run FILE [--steps N]`.
+/// `run FILE [--root DIR] [--packages FILE] [--steps N]`.
 fn run_parser<'a>(alloc: Global) -> Result<Command<'a>, AllocError>
     ensures { IfOk result (λ parser. app_of parser ≡ run_app) }
 {
     plain_parser(alloc, "run")
         .arg(Arg::new(alloc, "file"))?
+        .arg(option(alloc, "root"))?
+        .arg(option(alloc, "packages"))?
         .arg(option(alloc, "steps"))
 }
 

@@ -36,8 +36,8 @@ const CHECK_ARGUMENTS: Allowed = Allowed {
 /// The arguments of `run`.
 const RUN_ARGUMENTS: Allowed = Allowed {
     file: true,
-    root: false,
-    packages: false,
+    root: true,
+    packages: true,
     steps: true,
 };
 
@@ -62,6 +62,10 @@ pub enum Command {
     Run {
         /// Its path, which is absolute and normalized.
         file: PlainText,
+        /// The path of the folder whose files are read, if one is named.
+        root: Option<PlainText>,
+        /// The path of the packages file, if there is one.
+        packages: Option<PlainText>,
         /// For at most so many steps.
         steps: u64,
     },
@@ -157,13 +161,27 @@ fn checking(
 }
 
 /// A run of a file for so many steps.
-fn running(alloc: Global, file: Option<&str>, steps: Option<u64>) -> Result<Command, AllocError>
-    ensures { IfOk result (λ command. command ≡ running (option_map (λ file. file.now) file.entry) steps) }
+fn running(
+    alloc: Global,
+    file: Option<&str>,
+    root: Option<&str>,
+    packages: Option<&str>,
+    steps: Option<u64>,
+) -> Result<Command, AllocError>
+    ensures { IfOk result (λ command. command ≡ running (option_map (λ file. file.now) file.entry) (option_map (λ folder. folder.now) root.entry) (option_map (λ file. file.now) packages.entry) steps) }
 {
     match (file, steps) {
-        (Some(file), Some(steps)) if is_path(file) => {
+        (Some(file), Some(steps))
+            if is_path(file) && is_path_or_none(root) && is_path_or_none(packages) => {
             let file = PlainText::new(alloc, file)?;
-            Ok(Command::Run { file, steps })
+            let root = copied(alloc, root)?;
+            let packages = copied(alloc, packages)?;
+            Ok(Command::Run {
+                file,
+                root,
+                packages,
+                steps,
+            })
         }
         _ => Ok(Command::Refused),
     }
@@ -206,7 +224,7 @@ fn check_command(alloc: Global, words: &[PlainText]) -> Result<Command, AllocErr
     checking(alloc, file, root, found.get_str("packages"))
 }
 
-/// `run FILE [--steps N]`.
+/// `run FILE [--root DIR] [--packages FILE] [--steps N]`.
 fn run_command(alloc: Global, words: &[PlainText]) -> Result<Command, AllocError>
     ensures { IfOk result (λ command. command ≡ run_command (allowed_in run_arguments words.now)) }
 {
@@ -216,7 +234,10 @@ fn run_command(alloc: Global, words: &[PlainText]) -> Result<Command, AllocError
     let texts = texts_of(alloc, words)?;
     let found = run_matches(alloc, &texts)?;
     let file = found.get_str("file");
-    running(alloc, file, steps_of(found.get_str("steps")))
+    let root = found.get_str("root");
+    let packages = found.get_str("packages");
+    let steps = steps_of(found.get_str("steps"));
+    running(alloc, file, root, packages, steps)
 }
 
 /// The command that words are.

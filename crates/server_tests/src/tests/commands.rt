@@ -1,6 +1,6 @@
-//! Words, over a table.
+//! The commands that words are, over a table.
 
-use crate::{Command, command_of};
+use command_words::{Command, command_of};
 use plain_text::PlainText;
 use std::alloc::{AllocError, Global};
 use std::test::Fail;
@@ -21,11 +21,17 @@ check --packages /p.json --root=/p -- /a.dart => check /a.dart /p /p.json
 check -- /a.dart => check /a.dart - -
 check --root / / => check / / -
 check /--root=/a => check /--root=/a - -
-run /a.dart => run /a.dart 10000000
-run /a.dart --steps 0 => run /a.dart 0
-run --steps=007 /a.dart => run /a.dart 7
-run --steps 999999999999999 -- /a.dart => run /a.dart 999999999999999
-run /a.dart --steps=000000000000001 => run /a.dart 1
+run /a.dart => run /a.dart - - 10000000
+run /a.dart --steps 0 => run /a.dart - - 0
+run --steps=007 /a.dart => run /a.dart - - 7
+run --steps 999999999999999 -- /a.dart => run /a.dart - - 999999999999999
+run /a.dart --steps=000000000000001 => run /a.dart - - 1
+run /a.dart --root /p => run /a.dart /p - 10000000
+run /a.dart --packages=/p.json => run /a.dart - /p.json 10000000
+run /a.dart --root /p --packages /p.json --steps 5 => run /a.dart /p /p.json 5
+run --steps 5 --packages=/p.json --root=/p /a.dart => run /a.dart /p /p.json 5
+run --packages /p.json /a.dart --steps=5 --root / => run /a.dart / /p.json 5
+run --root /p --steps 5 -- /a.dart => run /a.dart /p - 5
 -- serve =>
 help =>
 --help =>
@@ -69,9 +75,24 @@ run /a.dart --steps 5x =>
 run /a.dart --steps +5 =>
 run /a.dart --steps -5 =>
 run /a.dart --steps 5 --steps 5 =>
-run /a.dart --root /p =>
-run /a.dart --packages /p.json =>
 run --steps 5 =>
+run --root /p --packages /p.json =>
+run a.dart --root /p =>
+run /a.dart /b.dart --root /p =>
+run /a.dart --root =>
+run /a.dart --root --packages /p.json =>
+run /a.dart --root -p =>
+run /a.dart --root=-p =>
+run /a.dart --root p =>
+run /a.dart --root=/p/../q =>
+run /a.dart --root /p --root=/p =>
+run /a.dart --packages -p =>
+run /a.dart --packages=-p =>
+run /a.dart --packages p.json =>
+run /a.dart --packages /p.json --steps 5 --packages /p.json =>
+run /a.dart --steps --root /p =>
+run /a.dart --root /p --packages /p.json --steps 5x =>
+run /a.dart -- --root /p =>
 ";
 
 // A path that may be left out.
@@ -99,9 +120,16 @@ fn text_of(alloc: Global, command: &Command) -> Result<String, AllocError> {
             let packages = text_or_dash(packages);
             format!(in alloc; "check {file} {root} {packages}")
         }
-        Command::Run { file, steps } => {
+        Command::Run {
+            file,
+            root,
+            packages,
+            steps,
+        } => {
             let file = file.as_str();
-            format!(in alloc; "run {file} {steps}")
+            let root = text_or_dash(root);
+            let packages = text_or_dash(packages);
+            format!(in alloc; "run {file} {root} {packages} {steps}")
         }
         Command::Refused => String::from_str(alloc, ""),
     }
