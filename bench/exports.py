@@ -8,7 +8,7 @@
 The program stands on `namespaces` and the crates below it, and is built in a repository of its own. It forms libraries that
 export each other, and finds some times what they export. There is a table for each family, and a line in it for each size:
 
-    size    how many libraries there are
+    size    how many libraries there are, or how many names one of them declares
     pairs   how many names they export, counted once for each library
     forms   milliseconds of forming the libraries
     each    milliseconds of finding what they export
@@ -45,6 +45,7 @@ FAMILIES = (
     Sizes("deep", "each exports the next and declares a name of its own", "libraries", (1_000, 2_000)),
     Sizes("whole", "each but the first exports all others, and declares a name of its own", "libraries", (500, 1_000)),
     Sizes("same", "the same, where all declare one name too", "libraries", (500, 1_000)),
+    Sizes("names", "one declares so many names, and another exports it", "names", (10_000, 20_000)),
 )
 
 # How many pairs so many libraries of a family export.
@@ -53,6 +54,7 @@ PAIRS: Dict[str, Callable[[int], int]] = {
     "deep": lambda size: size * (size + 1) // 2,
     "whole": lambda size: 1 + (size - 1) ** 2,
     "same": lambda size: 2 + (size - 1) * size,
+    "names": lambda size: 2 * size,
 }
 
 

@@ -1,3 +1,4 @@
 pub mod NameTexts
 pub mod Declarations
 pub mod Combinators
+pub mod NameTables

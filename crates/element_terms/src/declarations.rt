@@ -1,10 +1,13 @@
 //! What the top level of a library declares.
 
-ghost use Rattle.std.specs.Prelude.{◌≡◌};
+ghost use Rattle.std.specs.Prelude.{◌≡◌, position, IfOk};
 ghost use Rattle.element_terms.specs.Declarations.{declares, has_setter};
 
+use crate::name_tables::name_table;
 use crate::names::is_setter_of;
 use plain_text::PlainText;
+use std::alloc::{AllocError, Global};
+use std::collections::BTreeMap;
 use std::marker::Model;
 
 /// The kinds of declarations at the top level.
@@ -68,27 +71,33 @@ impl Declared {
 }
 
 /// Declarations, those of the library first and then those of its parts, each in the order of its
-/// text.
+/// text, with a table of their names.
 #[derive(Debug, Drop)]
 pub struct Declarations {
     declared: Vec<Declared>,
+    table: BTreeMap<String, usize>,
 }
 
 impl Model for Declarations {
     ghost use Rattle.std.specs.Prelude.{List};
     ghost use Rattle.element_terms.specs.declared.declarations.Declared.{Declared};
+    ghost use Rattle.element_terms.specs.NameTables.{IsNameTable};
 
     ghost Value = { List Declared };
 
     ghost view = { λ d. d.declared.items };
+
+    ghost invariant = { λ d. IsNameTable d.declared.items d.table };
 }
 
 impl Declarations {
-    /// The declarations that the vector holds, which takes no memory.
-    pub fn from_vec(declared: Vec<Declared>) -> Declarations
-        ensures { result ≡ declared.items }
+    /// The declarations that the vector holds. The table of n names takes memory for these, and the
+    /// time of n log n of them.
+    pub fn from_vec(alloc: Global, declared: Vec<Declared>) -> Result<Declarations, AllocError>
+        ensures { IfOk result (λ all. all ≡ declared.items) }
     {
-        Declarations { declared }
+        let table = name_table(alloc, declared.as_slice())?;
+        Ok(Declarations { declared, table })
     }
 
     /// The declarations.
@@ -96,5 +105,12 @@ impl Declarations {
         ensures { result.now ≡ self.now }
     {
         self.declared.as_slice()
+    }
+
+    /// The place of the first declaration that has this name, in the time of log n of n names.
+    pub fn place(&self, name: &str) -> Option<usize>
+        ensures { result ≡ position (λ d. declares d name.now) self.now }
+    {
+        self.table.get(name).copied()
     }
 }

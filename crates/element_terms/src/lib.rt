@@ -10,12 +10,10 @@
 mod combinators;
 mod declarations;
 mod libraries;
+mod name_tables;
 mod names;
 
 pub use combinators::{Combinator, Combinators};
 pub use declarations::{Declarations, Declared, DeclaredKind};
 pub use libraries::{ExportEdge, Exports, LibraryElement, declared, declared_place};
-pub use names::{NameList, is_private, is_setter_of, means};
-
-#[cfg(test)]
-mod tests;
+pub use names::{NameList, is_private, is_setter_of, means, setter_of};

@@ -75,13 +75,9 @@ pub fn declared<'a>(library: &'a LibraryElement, name: &str) -> Option<&'a Decla
         .find(|d| d.declares(name))
 }
 
-/// The place of that declaration among those of the library.
+/// The place of that declaration among those of the library, in the time of log n of n names.
 pub fn declared_place(library: &LibraryElement, name: &str) -> Option<usize>
     ensures { result ≡ position (λ d. declares d name.now) library.now.declared }
 {
-    library
-        .declared
-        .as_slice()
-        .iter()
-        .position(|d| d.declares(name))
+    library.declared.place(name)
 }

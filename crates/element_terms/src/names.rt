@@ -1,9 +1,10 @@
 //! Names as texts.
 
-ghost use Rattle.std.specs.Prelude.{◌≡◌};
-ghost use Rattle.element_terms.specs.NameTexts.{is_private, is_setter_of, means};
+ghost use Rattle.std.specs.Prelude.{◌≡◌, IfOk, string_bytes};
+ghost use Rattle.element_terms.specs.NameTexts.{is_private, is_setter_of, means, setter_of};
 
 use plain_text::PlainText;
+use std::alloc::{AllocError, Global};
 use std::marker::Model;
 
 /// Names in the order in which they are written.
@@ -34,6 +35,15 @@ impl NameList {
     {
         self.names.as_slice()
     }
+}
+
+/// The name of the setter that goes with a name.
+pub fn setter_of(alloc: Global, name: &str) -> Result<String, AllocError>
+    ensures { IfOk result (λ setter. string_bytes setter ≡ setter_of name.now) }
+{
+    let mut setter = String::from_str(alloc, name)?;
+    setter.push_str("=")?;
+    Ok(setter)
 }
 
 /// Whether the second text is the name of the setter that goes with the first.

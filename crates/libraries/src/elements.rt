@@ -1,8 +1,7 @@
 //! Libraries as elements, by the names that they declare and export.
 
-ghost use Rattle.std.specs.Prelude.{◌≡◌, ◌++◌, [], drop, map, slice_get, string_bytes, IfOk, OnOk};
+ghost use Rattle.std.specs.Prelude.{◌≡◌, ◌++◌, [], drop, map, slice_get, IfOk, OnOk};
 ghost use Rattle.std.specs.Option.{option_copied};
-ghost use Rattle.element_terms.specs.NameTexts.{setter_of};
 ghost use Rattle.libraries.specs.Elements.{declarations_of, declared_of, edge_of, edges_in, element_of, elements_from, exported, library_named, name_of, names_at};
 
 use crate::aims::{Aim, Aims};
@@ -14,19 +13,10 @@ use dart_types::LibId;
 use directives::{DeclaredName, Directive, DirectiveForm};
 use element_terms::{
     Combinator, Combinators, Declarations, Declared, DeclaredKind, ExportEdge, Exports,
-    LibraryElement, NameList,
+    LibraryElement, NameList, setter_of,
 };
 use plain_text::PlainText;
 use std::alloc::{AllocError, Global};
-
-/// The name of the setter that goes with a name.
-fn setter_of(alloc: Global, name: &str) -> Result<String, AllocError>
-    ensures { IfOk result (λ setter. string_bytes setter ≡ setter_of name.now) }
-{
-    let mut setter = String::from_str(alloc, name)?;
-    setter.push_str("=")?;
-    Ok(setter)
-}
 
 /// The name that a declaration has among those of its library.
 fn name_of(alloc: Global, kind: DeclaredKind, name: &str) -> Result<PlainText, AllocError>
@@ -94,7 +84,7 @@ fn declarations_of(
     for place in places {
         add_declared(alloc, names_at(files, *place), &mut all)?;
     }
-    Ok(Declarations::from_vec(all))
+    Declarations::from_vec(alloc, all)
 }
 
 /// Equal names with memory of their own.
@@ -234,7 +224,7 @@ fn element_of(
         return Ok(LibraryElement {
             id,
             path,
-            declared: Declarations::from_vec(Vec::new(alloc)),
+            declared: Declarations::from_vec(alloc, Vec::new(alloc))?,
             exports: Exports::from_vec(Vec::new(alloc)),
         });
     }

@@ -1,14 +1,13 @@
 //! What libraries export.
 
-ghost use Rattle.std.specs.Prelude.{◌≡◌, ◌^◌, ◌<◌, [], All, IfOk, length, map, replicate, string_bytes};
-ghost use Rattle.element_terms.specs.NameTexts.{setter_of};
+ghost use Rattle.std.specs.Prelude.{◌≡◌, ◌^◌, ◌<◌, [], All, IfOk, length, map, replicate};
 ghost use Rattle.namespaces.specs.Links.{AreLinks, is_idle};
 ghost use Rattle.namespaces.specs.Namespaces.{AddsPair, AreNamespaces, Covers, CoversAll, CoversLibrary, Gains, IsDeclaredAt};
 
 use crate::elements::{ElementId, Exported, Namespace};
 use crate::links::{LinkList, links};
 use crate::search::{exporting, idle};
-use element_terms::{LibraryElement, declared_place, is_private};
+use element_terms::{LibraryElement, declared_place, is_private, setter_of};
 use plain_text::PlainText;
 use std::alloc::{AllocError, Global};
 
@@ -102,15 +101,6 @@ fn add_declared(
     let setter_name = setter.as_str();
     add_name(alloc, libraries, links, idle, place, at, setter_name, all)?;
     Ok(())
-}
-
-/// The name of the setter that goes with a name.
-fn setter_of(alloc: Global, name: &str) -> Result<String, AllocError>
-    ensures { IfOk result (λ setter. string_bytes setter ≡ setter_of name.now) }
-{
-    let mut setter = String::from_str(alloc, name)?;
-    setter.push_str("=")?;
-    Ok(setter)
 }
 
 /// Adds the pairs of one declaration under one of its names, if it gives the name its meaning.

@@ -29,6 +29,3 @@ pub use laws::{
 };
 pub use lookups::{lookup, lookup_behind};
 pub use scopes::{Import, Scope};
-
-#[cfg(test)]
-mod tests;

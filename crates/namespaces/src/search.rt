@@ -74,14 +74,22 @@ fn start(alloc: Global, idle: &[bool], to: u32) -> Result<Search, AllocError>
     })
 }
 
+/// Whether a library exports nothing.
+fn is_idle(library: &LibraryElement) -> bool
+    ensures { result ≡ is_idle library.now }
+{
+    library.exports.as_slice().is_empty()
+}
+
 /// Which libraries export nothing.
 pub fn idle(alloc: Global, libraries: &[LibraryElement]) -> Result<Vec<bool>, AllocError>
     ensures { IfOk result (λ marks. marks.items ≡ map is_idle libraries.now) }
 {
-    libraries
-        .iter()
-        .map(|library| library.exports.as_slice().is_empty())
-        .collect(alloc)
+    let mut marks = Vec::new(alloc);
+    for library in libraries {
+        marks.push(is_idle(library))?;
+    }
+    Ok(marks)
 }
 
 /// How many places are not marked.
