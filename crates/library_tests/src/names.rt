@@ -1,9 +1,7 @@
 //! What names mean in a library with imports.
 
-use crate::project::{file_of, packages};
-use libraries::{
-    SourceFile, Spaces, aims_at, all_aims, elements_of, heads_of, imports_of, paths_of,
-};
+use crate::project::{aims_of, file_of};
+use libraries::{SourceFile, Spaces, aims_at, elements_of, heads_of, imports_of};
 use namespaces::{Found, Scope, exports, lookup, lookup_behind};
 use std::alloc::Global;
 use std::rc::Rc;
@@ -39,9 +37,7 @@ fn number_of(found: Found) -> u64 {
 
 // The scope of the library at a place.
 fn scope_at(alloc: Global, files: &[SourceFile], place: usize) -> Result<Scope, Fail> {
-    let packages = packages(alloc)?;
-    let paths = paths_of(alloc, files)?;
-    let all = all_aims(alloc, &packages, &paths, files)?;
+    let all = aims_of(alloc, files)?;
     let heads = heads_of(alloc, &all)?;
     let mut elements = elements_of(alloc, files, &heads, &all)?;
     if elements.len() > 100 || place >= files.len() || place >= elements.len() {

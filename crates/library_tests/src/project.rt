@@ -3,8 +3,8 @@
 use dart_parse::parse_unit;
 use dart_text::{Text, TextRefusal};
 use directives::outline_of;
-use libraries::SourceFile;
-use load_files::{Package, Packages};
+use libraries::{Aims, SourceFile, all_aims, paths_of};
+use load_files::Packages;
 use plain_text::PlainText;
 use std::alloc::{AllocError, Global};
 use work_counts::Work;
@@ -18,12 +18,9 @@ pub fn file_of(alloc: Global, path: &str, text: &str) -> Result<SourceFile, Text
     Ok(SourceFile { path, outline })
 }
 
-// One package, `p`, in the folder `/r`.
-pub fn packages(alloc: Global) -> Result<Packages, AllocError> {
-    let mut packages = Vec::new(alloc);
-    packages.push(Package {
-        name: PlainText::new(alloc, "p")?,
-        folder: PlainText::new(alloc, "/r")?,
-    })?;
-    Ok(Packages::from_vec(packages))
+// What the directives of each file are about, where there are no packages.
+pub fn aims_of(alloc: Global, files: &[SourceFile]) -> Result<Vec<Aims>, AllocError> {
+    let packages = Packages::from_vec(Vec::new(alloc));
+    let paths = paths_of(alloc, files)?;
+    all_aims(alloc, &packages, &paths, files)
 }

@@ -1,16 +1,14 @@
 //! Which libraries reach each other.
 
-use crate::project::{file_of, packages};
-use libraries::{SourceFile, all_aims, edges_of, heads_of, paths_of};
+use crate::project::{aims_of, file_of};
+use libraries::{SourceFile, edges_of, heads_of};
 use library_graph::cycles;
 use std::alloc::Global;
 use std::test::Fail;
 
 // The cycles of files, each as its places, in the order in which they are listed.
 fn cycles_text(alloc: Global, files: &[SourceFile]) -> Result<String, Fail> {
-    let packages = packages(alloc)?;
-    let paths = paths_of(alloc, files)?;
-    let all = all_aims(alloc, &packages, &paths, files)?;
+    let all = aims_of(alloc, files)?;
     let heads = heads_of(alloc, &all)?;
     let count = u32::try_from(files.len()).unwrap_or(0);
     let edges = edges_of(alloc, &heads, count, &all)?;

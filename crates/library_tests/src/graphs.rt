@@ -3,7 +3,7 @@
 ghost use Rattle.std.specs.Prelude.{◌<◌, IfOk};
 ghost use Rattle.library_graph.specs.Paths.{AreWithin};
 
-use crate::{Edge, Places, cycles, reached};
+use library_graph::{Edge, Places, cycles, reached};
 use std::alloc::{AllocError, Global};
 use std::test::Fail;
 
