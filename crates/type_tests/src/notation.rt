@@ -1,7 +1,7 @@
 //! Types in a short notation.
 //!
 //! A text is read from left to right, and each letter works on the types that stand before it. The
-//! letters of classes and type variables are those of `sample_rows.rt`.
+//! letters of classes and type variables are those of `letters.rt`.
 //!
 //! | Letter | What it is |
 //! |---|---|
@@ -15,16 +15,26 @@
 //! | `r` `p` | the type before is that of a required positional parameter, of an optional one |
 //! | `a` `b` `A` `B` | that of a named parameter, of a required named one |
 //! | `)` | the type before is the result, and the function type ends |
+//! | `{N}` | a type of N types: a List of N - 1 times `void` |
+//! | `<N>` | the type variable with the number N |
+//! | `[N]` | the class N of the tower, of the type before |
+//! | `[N^M]` | the same, M times over |
 
-use crate::sample_rows::{class_of, var_of};
+use crate::letters::{TOWER, class_of, var, var_of};
 use dart_types::{
-    ClassId, DartType, FunctionType, NamedType, NamedTypes, TypeList, TypeNode, VarId,
+    ClassId, DartType, FunctionType, LibId, NamedType, NamedTypes, TypeList, TypeNode, VarId,
 };
 use plain_text::PlainText;
 use std::alloc::Global;
 use std::rc::Rc;
 use std::test::Fail;
 use type_infer::OPEN_PARAMETER;
+
+// The class of types of many types, which is List.
+const LARGE: ClassId = ClassId {
+    lib: LibId(0),
+    index: 8,
+};
 
 // A function type whose parameters are read.
 #[derive(Drop)]
@@ -39,6 +49,9 @@ struct Signature {
 struct Reader {
     types: Vec<DartType>,
     open: Vec<Signature>,
+    // The number that is read, and the one before `^`.
+    number: Option<u32>,
+    before: Option<u32>,
 }
 
 /// The types of a text.
@@ -46,9 +59,14 @@ pub(crate) fn types_in(alloc: Global, text: &str) -> Result<Vec<DartType>, Fail>
     let mut reader = Reader {
         types: Vec::new(alloc),
         open: Vec::new(alloc),
+        number: None,
+        before: None,
     };
     for letter in text.as_bytes() {
-        reader.step(alloc, *letter)?;
+        match reader.number {
+            Some(number) => reader.digit(alloc, *letter, number)?,
+            None => reader.step(alloc, *letter)?,
+        }
     }
     Ok(reader.types)
 }
@@ -116,11 +134,15 @@ impl Reader {
         if let Some(node) = leaf(letter) {
             return self.put(node);
         }
-        if let Some((class, count)) = class_of(letter) {
+        if let Some((class, count)) = class_of(letter)? {
             return self.apply(alloc, class, count);
         }
         match letter {
             b' ' => Ok(()),
+            b'{' | b'<' | b'[' => {
+                self.number = Some(0);
+                Ok(())
+            }
             b'&' => self.promote(alloc),
             b'?' => self.mark(alloc),
             b'(' => self.begin(alloc),
@@ -133,6 +155,53 @@ impl Reader {
             b'B' => self.named(alloc, "b", true),
             _ => Err("no letter of types".into()),
         }
+    }
+
+    // Takes a letter of a number, or the one that ends it.
+    fn digit(&mut self, alloc: Global, letter: u8, number: u32) -> Result<(), Fail> {
+        if letter.is_ascii_digit() {
+            let digit = u32::from(letter).saturating_sub(48);
+            self.number = Some(number.saturating_mul(10).saturating_add(digit));
+            return Ok(());
+        }
+        if letter == b'^' {
+            self.before = Some(number);
+            self.number = Some(0);
+            return Ok(());
+        }
+        self.number = None;
+        match letter {
+            b'}' => self.large(alloc, number),
+            b'>' => self.put(TypeNode::Var(var(number))),
+            b']' => match self.before.take() {
+                None => self.nest(alloc, number, 1),
+                Some(class) => self.nest(alloc, class, number),
+            },
+            _ => Err("a number doesn't end".into()),
+        }
+    }
+
+    // A type of so many types.
+    fn large(&mut self, alloc: Global, nodes: u32) -> Result<(), Fail> {
+        let mut args = TypeList::new(alloc);
+        for _ in 1..nodes {
+            args.push(DartType {
+                node: TypeNode::Void,
+            })?;
+        }
+        self.types.push(DartType::interface(alloc, LARGE, args)?)?;
+        Ok(())
+    }
+
+    // The class of the tower, so many times around the type before.
+    fn nest(&mut self, alloc: Global, index: u32, times: u32) -> Result<(), Fail> {
+        let class = ClassId { lib: TOWER, index };
+        for _ in 0..times {
+            let mut args = TypeList::new(alloc);
+            args.push(last(&mut self.types)?)?;
+            self.types.push(DartType::interface(alloc, class, args)?)?;
+        }
+        Ok(())
     }
 
     fn put(&mut self, node: TypeNode) -> Result<(), Fail> {
