@@ -6,7 +6,8 @@
 //! name (`specs/Links.antt`). `faults_at` gives the diagnostics of one file among them, and
 //! `findings_from` what is found in each library that a library reaches, in order (`specs/Reports.antt`,
 //! `specs/Findings.antt`): what is wrong with the texts of its files, with their directives and declared
-//! names, and with its exports. `lines_of` are the lines that this is printed as (`specs/Lines.antt`). The
+//! names, and with its exports. `lines_of` are the lines that this is printed as (`specs/Lines.antt`), by the path and the text of the file
+//! at a place (`path_at`, `text_held`). The
 //! crate stands on the check of a text, on directives and libraries, and on the graph of libraries.
 #![tactic(auto)]
 
@@ -20,7 +21,7 @@ mod sources;
 
 pub use findings::Finding;
 pub use lent::{LentContents, LentFile, empty_text, lent_contents, lent_file, lent_files};
-pub use lines::lines_of;
+pub use lines::{lines_of, path_at, text_held};
 pub use links::{Linked, library_in, link, link_again, place_in};
 pub use reports::{faults_at, findings_from};
 pub use sources::OwnFaults;

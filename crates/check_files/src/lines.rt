@@ -15,8 +15,8 @@ use diagnostics::{line_of, render_at};
 use proto_json::SharedText;
 use std::alloc::{AllocError, Global};
 
-/// The path of the file at a place.
-fn path_at<'f>(files: &[LentFile<'f>], place: usize) -> &'f str
+/// The path of the file at a place among all files, `dart:core` before these.
+pub fn path_at<'f>(files: &[LentFile<'f>], place: usize) -> &'f str
     ensures { result.now ≡ (text_at (texts_of (table_view files.now)) place).0 }
 {
     if place == 0 {
@@ -28,8 +28,8 @@ fn path_at<'f>(files: &[LentFile<'f>], place: usize) -> &'f str
     }
 }
 
-/// The text that the file at a place holds, if it holds one.
-fn text_held<'f>(files: &[LentFile<'f>], place: usize) -> Option<&'f Text>
+/// The text that the file at a place among all files holds, if it holds one.
+pub fn text_held<'f>(files: &[LentFile<'f>], place: usize) -> Option<&'f Text>
     ensures { TextIs (text_at (texts_of (table_view files.now)) place).1 (option_copied result) }
 {
     if place == 0 {

@@ -13,7 +13,8 @@ use Rattle.core_machine.specs.declared.effect.RunEnd.TheVariants.{Done as Ended}
 use Rattle.core_machine.specs.declared.machine.Turn.TheVariants.{Went, Done as TurnDone}
 use Rattle.dart_server.specs.declared.status.Status.{Status}
 use Rattle.dart_server.specs.declared.status.Status.TheVariants.{Done, StepsSpent}
-use Rattle.dart_server.specs.Run.{Says, PrintsBy, Prints, Writes, steps_spent_line}
+use Rattle.dart_server.specs.Run.{PrintsBy, Prints, steps_spent_line}
+use Rattle.dart_server.specs.Writes.{Says, Writes}
 use Rattle.dart_server.proofs.WritesLemmas.{cut_kept, keep_kept, say_kept}
 
 -- what was printed before changes no step

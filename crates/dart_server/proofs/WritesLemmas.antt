@@ -8,7 +8,7 @@ use Rattle.fault_io.specs.BytesLaws.{and_then-nil, and_then-and_then}
 use Rattle.fault_io.specs.declared.traits.WriteRefusal.{WriteRefusal}
 use Rattle.fault_io.specs.declared.traits.WriteRefusal.TheVariants.{Failed, Memory}
 use Rattle.dart_server.specs.declared.status.Status.{Status}
-use Rattle.dart_server.specs.Run.{Says, Writes}
+use Rattle.dart_server.specs.Writes.{Says, Writes}
 
 -- a sink that refuses a text has a front of it
 pub refused_text : (text : List ℕ) (status : Status) (old new : Option (List ℕ)) (r : Result Status WriteRefusal) → IsErr r → (n : ℕ) × (n < length text) × (new ≡ and_then old (take n text)) → Writes (Says text status) old new r

@@ -1,7 +1,7 @@
 -- The exit codes.
 use Rattle.std.specs.Prelude.{ℕ}
 use Rattle.dart_server.specs.declared.status.Status.{Status}
-use Rattle.dart_server.specs.declared.status.Status.TheVariants.{Done, Errors, Refused, Threw, Memory, StepsSpent, ReadFault, WriteFault, FilesFault, InputSpent}
+use Rattle.dart_server.specs.declared.status.Status.TheVariants.{Done, Errors, Refused, Threw, Memory, StepsSpent, ReadFault, WriteFault, FilesFault, InputSpent, Rejected}
 
 -- the exit code of a status
 abbrev pub code_of : Status → ℕ
@@ -15,3 +15,4 @@ code_of ReadFault = 6
 code_of WriteFault = 7
 code_of FilesFault = 8
 code_of InputSpent = 9
+code_of Rejected = 10

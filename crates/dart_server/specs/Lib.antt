@@ -1,5 +1,5 @@
 pub mod Codes
-pub mod Words
-pub mod Lent
+pub mod Writes
 pub mod Run
+pub mod Libraries
 pub mod Output

@@ -1,11 +1,10 @@
 -- The whole output of the program.
-use Rattle.std.specs.Prelude.{◌≡◌, ◌≢◌, ◌⊎◌, ℕ, ◌<◌, true, false, List, [], ◌∷◌, ◌++◌, codes, length, take, Option, None, Some}
+use Rattle.std.specs.Prelude.{◌≡◌, ◌≢◌, ◌⊎◌, ℕ, ◌<◌, List, [], ◌∷◌, ◌++◌, codes, length, take, Option, None, Some}
 use Rattle.std.specs.Option.{ForSome}
 use Rattle.fault_io.specs.Bytes.{and_then}
 use Rattle.fault_io.specs.Faults.{Rose, one_more}
 use Rattle.fault_io.specs.Stored.{Stored, bytes_at}
 use Rattle.fault_io.specs.Lines.{input_lines}
-use Rattle.load_files.specs.Paths.{is_library}
 use Rattle.load_files.specs.declared.packages.Package.{Package}
 use Rattle.serve_loop.specs.Replies.{UseNothing}
 use Rattle.serve_loop.specs.Served.{Served}
@@ -15,10 +14,12 @@ use Rattle.serve_loop.specs.declared.end.ServeEnd.TheVariants as End
 use Rattle.packages_file.specs.Stored.{packages_at}
 use Rattle.protocol_rules.specs.Answers.{uses_store, MayAnswer}
 use Rattle.protocol_rules.specs.State.{at_start}
-use Rattle.dart_server.specs.Words.{Command, Serve, Run, Refused as NoCommand, command_of}
-use Rattle.dart_server.specs.Run.{RunOutput}
+use Rattle.command_words.specs.declared.words.Command.{Command}
+use Rattle.command_words.specs.declared.words.Command.TheVariants.{Serve, Check, Run, Refused as NoCommand}
+use Rattle.dart_server.specs.Libraries.{LibraryOutput, MayEndIn, packages_line}
+use Rattle.dart_server.specs.declared.task.Task.TheVariants as task
 use Rattle.dart_server.specs.declared.status.Status.{Status}
-use Rattle.dart_server.specs.declared.status.Status.TheVariants.{Done, Errors, Refused, Threw, Memory, StepsSpent, ReadFault, WriteFault, FilesFault, InputSpent}
+use Rattle.dart_server.specs.declared.status.Status.TheVariants.{Done, Errors, Refused, Threw, Memory, StepsSpent, ReadFault, WriteFault, FilesFault, InputSpent, Rejected}
 
 -- what is written where the words are no command
 abbrev pub usage_line : List ℕ
@@ -70,8 +71,9 @@ RefusedBy line StepsSpent old new = ⊥
 RefusedBy line ReadFault old new = ⊥
 RefusedBy line FilesFault old new = ⊥
 RefusedBy line InputSpent old new = ⊥
+RefusedBy line Rejected old new = ⊥
 
--- The statuses that the program may have: under `serve` those of its ends and, over a packages file, of one that is refused or can't be read, under `run` those of a run, for other words that of the refusal, or of a sink that didn't take the usage line.
+-- The statuses that the program may have: under `serve` those of its ends and, over a packages file, of one that is refused or can't be read, under `check` and `run` those of a check and a run, for other words that of the refusal, or of a sink that didn't take the usage line.
 abbrev pub MayEnd : Command → Status → Type 0
 MayEnd (Serve packages) Done = Unit {0}
 MayEnd (Serve packages) Memory = Unit {0}
@@ -80,21 +82,12 @@ MayEnd (Serve packages) WriteFault = Unit {0}
 MayEnd (Serve packages) InputSpent = Unit {0}
 MayEnd (Serve (Some file)) Refused = Unit {0}
 MayEnd (Serve (Some file)) FilesFault = Unit {0}
-MayEnd (Run file steps) Done = Unit {0}
-MayEnd (Run file steps) Errors = Unit {0}
-MayEnd (Run file steps) Refused = Unit {0}
-MayEnd (Run file steps) Memory = Unit {0}
-MayEnd (Run file steps) StepsSpent = Unit {0}
-MayEnd (Run file steps) WriteFault = Unit {0}
-MayEnd (Run file steps) FilesFault = Unit {0}
+MayEnd (Check file root packages) status = MayEndIn task.Check status
+MayEnd (Run file root packages steps) status = MayEndIn (task.Run steps) status
 MayEnd NoCommand Refused = Unit {0}
 MayEnd NoCommand Memory = Unit {0}
 MayEnd NoCommand WriteFault = Unit {0}
 MayEnd _ _ = ⊥
-
--- what is written where the packages file is refused
-abbrev pub packages_line : List ℕ
-packages_line = codes "dart_serve: packages refused" ++ 10 ∷ []
 
 -- the store's count of faults where the packages file couldn't be read: it rises exactly where the store failed, and else memory was wanting
 abbrev pub CountsUnread : Status → (faults faults' : ℕ) → Type 0
@@ -108,6 +101,7 @@ CountsUnread StepsSpent faults faults' = ⊥
 CountsUnread ReadFault faults faults' = ⊥
 CountsUnread WriteFault faults faults' = ⊥
 CountsUnread InputSpent faults faults' = ⊥
+CountsUnread Rejected faults faults' = ⊥
 
 -- Nothing is served: nothing of the input is taken, and the store was asked for the packages file alone.
 pub record Unserved (from left : Option (List ℕ)) (lists lists' reads reads' : ℕ) : Type 0 where
@@ -149,14 +143,20 @@ Serves None told from old new left faults faults' lists lists' reads reads' shor
 Serves (Some file) told from old new left faults faults' lists lists' reads reads' shortages shortages' status =
     ServeFileOutput file told from old new left faults faults' lists lists' reads reads' shortages shortages' status
 
--- How often the store is asked for a file, but under `serve`: once for a run of a library, and else never.
-pub record Reads (words : List (List ℕ)) (reads reads' : ℕ) : Type 0 where
-  pub runs : (file : List ℕ) (steps : ℕ) → command_of words ≡ Run file steps → is_library file ≡ true → reads' ≡ one_more reads
-  pub passes : (file : List ℕ) (steps : ℕ) → command_of words ≡ Run file steps → is_library file ≡ false → reads' ≡ reads
-  pub refuses : command_of words ≡ NoCommand → reads' ≡ reads
+-- Memory was wanting for the words: nothing was read, asked or written.
+pub record Unstarted (from old new left : Option (List ℕ)) (faults faults' lists lists' reads reads' shortages shortages' : ℕ) (status : Status) : Type 0 where
+  pub short : status ≡ Memory
+  pub untaken : left ≡ from
+  pub unwritten : new ≡ old
+  pub no_fault : faults' ≡ faults
+  pub unlisted : lists' ≡ lists
+  pub unread : reads' ≡ reads
+  pub not_short : shortages' ≡ shortages
 
--- What the program writes, and its status: one field for each command.
-pub record Output (words : List (List ℕ)) (told : Option Stored) (from : Option (List ℕ)) (old new left : Option (List ℕ)) (faults faults' lists lists' reads reads' shortages shortages' : ℕ) (status : Status) : Type 0 where
-  pub serves : (packages : Option (List ℕ)) → command_of words ≡ Serve packages → Serves packages told from old new left faults faults' lists lists' reads reads' shortages shortages' status
-  pub runs : (file : List ℕ) (steps : ℕ) → command_of words ≡ Run file steps → RunOutput file steps told old new status
-  pub refuses : command_of words ≡ NoCommand → RefusedBy usage_line status old new
+-- What the program writes under a command, and its status: one field for each.
+pub record Output (command : Command) (told : Option Stored) (from : Option (List ℕ)) (old new left : Option (List ℕ)) (faults faults' lists lists' reads reads' shortages shortages' : ℕ) (status : Status) : Type 0 where
+  pub serves : (packages : Option (List ℕ)) → command ≡ Serve packages → Serves packages told from old new left faults faults' lists lists' reads reads' shortages shortages' status
+  pub checks : (file : List ℕ) (root packages : Option (List ℕ)) → command ≡ Check file root packages → LibraryOutput task.Check file root packages told old new status
+  pub runs : (file : List ℕ) (root packages : Option (List ℕ)) (steps : ℕ) → command ≡ Run file root packages steps → LibraryOutput (task.Run steps) file root packages told old new status
+  pub refuses : command ≡ NoCommand → RefusedBy usage_line status old new
+  pub unread : command ≡ NoCommand → reads' ≡ reads

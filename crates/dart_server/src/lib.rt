@@ -3,16 +3,19 @@
 //! `dart_main` is the program over any source, sink and store of files; its contract is the theorem
 //! of the program (`specs/Output.antt`). `on_host` hands it the standard streams, the file system
 //! and the words of the command line, and gives its exit code, so that a program is a `main` of one
-//! call. The crate stands on the loop, the sessions, the checker and the machine, and adds the words
-//! (`specs/Words.antt`) and the run of a file between checker and machine (`specs/Run.antt`).
+//! call. The crate stands on the words of commands, the loop, the sessions, the checker and the machine,
+//! and adds the check and the run of the library of a file (`specs/Libraries.antt`, `specs/Run.antt`).
 #![tactic(auto)]
 
 mod host;
+mod output;
+mod over_files;
 mod program;
 mod run;
 mod status;
-mod words;
+mod task;
 
 pub use host::{on_host, words_of};
 pub use program::dart_main;
 pub use status::Status;
+pub use task::Task;

@@ -29,10 +29,12 @@ pub enum Status {
     FilesFault,
     /// The input has 2^40 bytes or more.
     InputSpent,
+    /// The program that was to be run has parts that aren't built.
+    Rejected,
 }
 
 impl Status {
-    /// The exit code, 0 to 9.
+    /// The exit code, 0 to 10.
     pub fn code(self) -> u8
         ensures { result ≡ code_of self }
     {
@@ -47,6 +49,7 @@ impl Status {
             Status::WriteFault => 7,
             Status::FilesFault => 8,
             Status::InputSpent => 9,
+            Status::Rejected => 10,
         }
     }
 }

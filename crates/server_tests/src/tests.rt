@@ -10,6 +10,8 @@ use plain_text::{PlainBytes, PlainText};
 use std::alloc::{AllocError, Global};
 use std::test::Fail;
 
+mod checks;
+mod commands;
 mod faults;
 mod limits;
 mod roots;
@@ -103,16 +105,25 @@ fn failing(alloc: Global, fails: &str, kind: &str) -> Result<Vec<u64>, Fail> {
     Ok(calls)
 }
 
+/// A store of these files.
+fn store_of(
+    alloc: Global,
+    files: Vec<(PlainText, PlainBytes)>,
+    fails: &str,
+) -> Result<MemoryFiles, Fail> {
+    if !are_files(files.as_slice()) {
+        return Err("no path of a file".into());
+    }
+    Ok(MemoryFiles::new(files, failing(alloc, fails, "store ")?))
+}
+
 /// A store of the file.
 fn store(alloc: Global, run: Run<'_, '_>) -> Result<MemoryFiles, Fail> {
     let (path, text) = run.file;
     let path = PlainText::new(alloc, path)?;
     let bytes = PlainBytes::from_vec(bytes_in(alloc, text)?);
     let files = vec![in alloc; (path, bytes)]?;
-    if !are_files(files.as_slice()) {
-        return Err("no path of a file".into());
-    }
-    Ok(MemoryFiles::new(files, failing(alloc, run.fails, "store ")?))
+    store_of(alloc, files, run.fails)
 }
 
 /// A source of this input. A read gives 16 bytes, or 65,536 where none is to fail.
@@ -130,6 +141,25 @@ fn sink(alloc: Global, fails: &str) -> Result<MemorySink, Fail> {
     Ok(MemorySink::new(alloc, 8, calls))
 }
 
+/// Whether words over a store and an input end with this status and write these bytes.
+fn ends_over(
+    alloc: Global,
+    words: &str,
+    fails: &str,
+    files: MemoryFiles,
+    input: Vec<u8>,
+    status: &str,
+    output: &[u8],
+) -> Result<bool, Fail> {
+    let words = words_in(alloc, words)?;
+    let mut files = files;
+    let mut source = source(alloc, fails, input)?;
+    let mut sink = sink(alloc, fails)?;
+    let ended = dart_main(alloc, &words, &mut source, &mut sink, &mut files);
+    let ended = format!(in alloc; "{ended:?}")?;
+    Ok(ended.as_str() == status && sink.written() == output)
+}
+
 /// Whether a run over this input ends with this status and writes these bytes.
 fn ends(
     alloc: Global,
@@ -138,11 +168,6 @@ fn ends(
     status: &str,
     output: &[u8],
 ) -> Result<bool, Fail> {
-    let words = words_in(alloc, run.words)?;
-    let mut files = store(alloc, run)?;
-    let mut source = source(alloc, run.fails, input)?;
-    let mut sink = sink(alloc, run.fails)?;
-    let ended = dart_main(alloc, &words, &mut source, &mut sink, &mut files);
-    let ended = format!(in alloc; "{ended:?}")?;
-    Ok(ended.as_str() == status && sink.written() == output)
+    let files = store(alloc, run)?;
+    ends_over(alloc, run.words, run.fails, files, input, status, output)
 }

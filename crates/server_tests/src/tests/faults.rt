@@ -29,10 +29,10 @@ const FAULTS: &str = r#"
  serve --packages /a.dart|read 0|{"configVersion":2,"packages":[]}|ReadFault|
  serve --packages /a.dart|read 0|{"configVersion":3,"packages":[]}|Refused|dart_serve: packages refused¶
  serve --packages /a.dart|write 1||WriteFault|dart_ser
--- So is it for a run.
+-- Under `run` the folder is listed and the file is read, two calls; the input isn't read.
  run /a.dart --steps 10|store 0|void main(){print(123456789);}|FilesFault|
--- It is asked once, and the input isn't read.
- run /a.dart --steps 10|store 1|void main(){print(123456789);}|Done|123456789¶
+ run /a.dart --steps 10|store 1|void main(){print(123456789);}|FilesFault|
+ run /a.dart --steps 10|store 2|void main(){print(123456789);}|Done|123456789¶
  run /a.dart --steps 10|write 1|void main(){print(123456789);}|WriteFault|12345678
  run /a.dart --steps 10|write 0|void main(){int x; print(x);}|WriteFault|
  run /a.dart --steps 10|write 2|void main(){int x; print(x);}|WriteFault|/a.dart:1:26: un

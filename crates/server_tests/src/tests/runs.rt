@@ -76,7 +76,6 @@ const REFUSED: &str = "
  serve /lib/a.txt --packages|usage
  serve --packages /lib/a.txt 1|usage
  run --packages /lib/a.txt|usage
- check /a.dart|usage
  run|usage
  run a.dart|usage
  run |usage
