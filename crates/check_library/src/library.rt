@@ -22,7 +22,7 @@ use core_rows::core_rows;
 use dart_parse::{parse_unit, tree_faults};
 use dart_scan::tokens_rise;
 use dart_text::Text;
-use dart_tree::{Body, BodyNode, Span, Unit, numbering_laws};
+use dart_tree::{Body, BodyNode, Span, Unit};
 use dart_types::Rows;
 use judgement::{DiagnosticCode, Fault, Meaning, TypedNode};
 use node_counts::nodes_of_texts_are_bounded;
@@ -30,6 +30,7 @@ use plain_text::PlainText;
 use resolve::{Found, judge_body};
 use std::alloc::{AllocError, Global};
 use std::marker::Model;
+use tree_numbers::numbering_laws;
 use work_counts::Work;
 
 /// Diagnostics of a text, by offset, then length, then code, without repeats.

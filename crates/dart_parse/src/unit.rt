@@ -14,12 +14,13 @@ ghost use Rattle.work_counts.specs.declared.kind.WorkKind.TheVariants.{Parse};
 use dart_scan::{scan, tokens_rise};
 use dart_text::Text;
 use dart_tokens::{Groups, Scanned, Token as TextToken, group};
-use dart_tree::{Unit, UnitTree, number_unit};
+use dart_tree::{Unit, UnitTree};
 use grammar::Token;
 use grouped_tokens::grouped;
 use node_counts::nodes_of_texts_are_bounded;
 use parse_decl::parse_items;
 use std::alloc::{AllocError, Global};
+use tree_numbers::number_unit;
 use work_counts::{Work, WorkKind};
 
 /// The tokens that the grammar reads of a text stand in the order of their starts.

@@ -4,11 +4,7 @@ pub mod View
 pub mod Parts
 pub mod Places
 pub mod Numbers
-pub mod NumberLaws
-pub mod PlaceLaws
 pub mod Heights
 pub mod Nodes
-pub mod HeightLaws
 pub mod Bare
-pub mod TreeLaws
 pub mod Falls

@@ -10,14 +10,9 @@
 
 mod expressions;
 mod functions;
-mod laws;
 mod members;
 mod names;
 mod node_places;
-mod numbering;
-mod numbering_names;
-mod numbering_parts;
-mod numbering_statements;
 mod operators;
 mod places;
 mod production;
@@ -32,10 +27,8 @@ pub use expressions::{
 pub use functions::{
     Body, BodyNode, Function, FunctionNode, Parameter, ParameterList, Variable, VariableList,
 };
-pub use laws::tree_laws;
 pub use members::{Initializer, InitializerNode, Member, MemberNode};
 pub use names::{Annotation, ConstructorName, Identifier, ListedName, Name, ParameterKind};
-pub use numbering::{number_unit, numbering_laws};
 pub use operators::{
     AssignmentOperator, BinaryOperator, BinaryOperatorKind, DeclaredOperator, OperatorName,
     PostfixOperator, PostfixOperatorKind, UnaryOperator, UnaryOperatorKind,

@@ -34,9 +34,10 @@ use crate::program::build_program;
 use built_forms::built_bodies_are_blocks;
 use check_library::Checked;
 use core_ir::CoreProgram;
-use dart_tree::{Body, BodyNode, Place, Stmt, numbering_laws};
+use dart_tree::{Body, BodyNode, Place, Stmt};
 use rule_laws::each_node_is_spoken_of_once;
 use std::alloc::{AllocError, Global};
+use tree_numbers::numbering_laws;
 
 /// The core program of the function `main` of a library in whose text nothing is wrong. It takes time
 /// and memory linear in the points times the locals in scope; points at which the same is known of a

@@ -12,8 +12,8 @@ use crate::items::unit_within;
 use dart_tree::UnitTree;
 use grammar::{Token, unit_laws};
 use parse_expr::{Reader, TextLists, part_at};
+use read_lists::read_unit;
 use std::alloc::{AllocError, Global};
-use unread_lists::read_unit;
 
 /// The tree of a text, whose lists of statements aren't read yet.
 fn unit_at(alloc: Global, in_core: bool, text: &[Token]) -> Result<UnitTree, AllocError>

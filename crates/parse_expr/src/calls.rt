@@ -20,8 +20,8 @@ use dart_tree::{Block, Expr, ParameterList, Stmt, WrittenType};
 use grammar::{Setting, Token};
 use parse_leaves::{Miss, tokens_behind};
 use parse_types::parameter_list;
+use read_lists::{read_block, read_expr, read_parameter_list, read_stmt, read_written_type};
 use std::alloc::{AllocError, Global};
-use unread_lists::{read_block, read_expr, read_parameter_list, read_stmt, read_written_type};
 
 /// How many nodes may lie on a way down from a node at a depth, itself among them.
 fn room_at(depth: u32) -> u32

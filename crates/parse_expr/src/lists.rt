@@ -20,8 +20,8 @@ use dart_tokens::Kind;
 use dart_tree::{Place, Stmt, StmtNode};
 use grammar::{Token, list_laws};
 use parse_leaves::{Miss, first_tokens, place_over, tokens_behind};
+use read_lists::{ReadsLists, read_stmts};
 use std::alloc::{AllocError, Global};
-use unread_lists::{ReadsLists, read_stmts};
 
 /// What comes behind the segment that begins the tokens: it ends behind its first `;` or group of
 /// braces outside other groups.

@@ -8,13 +8,15 @@
 //! (`specs/Answers.antt` says how answers and findings agree).
 //!
 //! `below.rt` has the trait of what reads the parts of a node where fewer nodes may lie on a way
-//! down, and `parts.rt` what is held of a node before it is made; `specs/Loops.antt`,
-//! `Groups.antt`, `Ways.antt` and `Sizes.antt` have what loops, groups, ways down and heights keep.
+//! down, `filled.rt` what fills a group over it, and `parts.rt` what is held of a node before it is made;
+//! `specs/Loops.antt`, `Groups.antt`, `Ways.antt` and `Sizes.antt` have what loops, groups, ways down and
+//! heights keep.
 //! The crate stands on `dart_tokens`, `dart_tree`, `readings` and `grammar`.
 #![tactic(auto)]
 
 mod ahead;
 mod below;
+mod filled;
 mod leaves;
 mod miss;
 mod operators;
@@ -28,6 +30,7 @@ pub use ahead::{
     heads_prefix, heads_qualified, heads_required, heads_string,
 };
 pub use below::Below;
+pub use filled::{block_body, expression_group};
 pub use leaves::{
     either_token, first_tokens, group, name, some_name, token, tokens_behind, type_word,
 };

@@ -7,6 +7,6 @@ mod selection;
 mod strings;
 
 pub use arguments::argument_list;
-pub use primaries::{block_body, simple_within, some_dotted_name};
+pub use primaries::{simple_within, some_dotted_name};
 pub use selection::{selectors, unary_within};
-pub use strings::{expression_group, string};
+pub use strings::string;

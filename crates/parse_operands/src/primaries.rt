@@ -9,17 +9,16 @@ ghost use Rattle.grammar.specs.Descents.{lower, take_type_arguments, take_name, 
 ghost use Rattle.parse_leaves.specs.Answers.{Finds, Gives, IsDeep};
 
 use crate::arguments::{argument_list, collection};
-use crate::strings::{expression_group, strings};
+use crate::strings::strings;
 use dart_tokens::Kind;
 use dart_tree::{Body, BodyNode, Expr, ExprNode};
 use grammar::{Setting, Token};
 use parse_leaves::{
-    Below, Miss, heads, heads_closure, heads_generic, heads_name, heads_string, higher,
-    identifier_at, name, place_of, place_over, token,
+    Below, Miss, block_body, expression_group, heads, heads_closure, heads_generic, heads_name,
+    heads_string, higher, identifier_at, name, place_of, place_over, token,
 };
 use parse_types::{parameter_list, type_arguments};
 use std::alloc::Global;
-use std::mem;
 
 /// A name with type arguments.
 fn generic_name<'k, B: Below<'k>>(
@@ -113,26 +112,6 @@ fn arrow_body<'k, B: Below<'k>>(
     let node = BodyNode::Expression {
         at: place_over(tokens, rest),
         value: value,
-    };
-    Ok((Body { node }, height, rest))
-}
-
-/// A block as a body.
-pub fn block_body<'k, B: Below<'k>>(
-    below: &B,
-    alloc: Global,
-    tokens: &'k [Token],
-) -> Result<(Body, u32, &'k [Token]), Miss>
-    requires limit { B.room below.now ≤ 200 }
-    requires sound { B.sound below.now }
-    ensures reading { Gives (λ x. (x.0, x.2.now)) result ((lower (B.room below.now)).block tokens.now) }
-    ensures deep { IfOk result (λ x. IsDeep (B.room below.now) x.0 x.1) }
-{
-    let (mut block, height, rest) = below.block(alloc, tokens)?;
-    let statements = mem::replace(&mut block.statements, Vec::new(alloc));
-    let node = BodyNode::Block {
-        at: block.at,
-        statements,
     };
     Ok((Body { node }, height, rest))
 }

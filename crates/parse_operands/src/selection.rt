@@ -13,13 +13,12 @@ ghost use Rattle.parse_leaves.specs.Parts.{selector_of, selector_height};
 
 use crate::arguments::argument_list;
 use crate::primaries::primary;
-use crate::strings::expression_group;
 use dart_tokens::Kind;
 use dart_tree::{Expr, ExprNode, PostfixOperator};
 use grammar::{Setting, Token};
 use parse_leaves::{
-    Below, Miss, Selector, heads, heads_call, heads_prefix, higher, identifier_at, name,
-    place_over, postfix_operator, prefix_operator, span_of, token,
+    Below, Miss, Selector, expression_group, heads, heads_call, heads_prefix, higher,
+    identifier_at, name, place_over, postfix_operator, prefix_operator, span_of, token,
 };
 use parse_types::type_arguments;
 use std::alloc::Global;

@@ -2,10 +2,10 @@
 
 ghost use Rattle.std.specs.Prelude.{◌≡◌, ◌≢◌, ◌+◌, ◌≤◌, ◌++◌, ◌∷◌, [], Err, IfOk};
 ghost use Rattle.readings.specs.Readings.{tokens_read};
-ghost use Rattle.readings.specs.Descent.{take_many, take_inside};
+ghost use Rattle.readings.specs.Descent.{take_many};
 ghost use Rattle.dart_tree.specs.Tree.{trees_of, string_interpolation};
 ghost use Rattle.dart_tree.specs.Heights.{height, heights};
-ghost use Rattle.grammar.specs.Tokens.{is, width, past, place_over};
+ghost use Rattle.grammar.specs.Tokens.{place_over};
 ghost use Rattle.grammar.specs.Expressions.{string_text_of, interpolated_of};
 ghost use Rattle.grammar.specs.Descents.{lower, take_interpolation, take_string_part, take_string, take_strings};
 ghost use Rattle.parse_leaves.specs.declared.miss.Miss.TheVariants.{NoReading};
@@ -15,55 +15,12 @@ use dart_tokens::Kind;
 use dart_tree::{
     Expr, ExprNode, StringElement, StringElementNode, StringLiteral, StringLiteralNode,
 };
-use grammar::{Setting, Token};
+use grammar::Token;
 use parse_leaves::{
-    Below, Miss, either_token, group, heads, heads_either, higher, place_of, place_over, token,
+    Below, Miss, either_token, expression_group, heads, heads_either, higher, place_of, place_over,
+    token,
 };
 use std::alloc::Global;
-
-/// A bracket and the expression that fills its group.
-#[tactic(auto, using(parse_leaves::specs::Groups::inside_outside, parse_leaves::specs::Groups::group_missing, parse_leaves::specs::Groups::group_cut, parse_leaves::specs::Groups::group_whole))]
-fn filled_group<'k, B: Below<'k>>(
-    below: &B,
-    alloc: Global,
-    bracket: Kind,
-    tokens: &'k [Token],
-) -> Result<(Token, Expr, u32, &'k [Token]), Miss>
-    requires limit { B.room below.now ≤ 200 }
-    requires sound { B.sound below.now }
-    ensures reading { Gives (λ x. ((x.0, x.1), x.3.now)) result (take_inside (is bracket) width past ((lower (B.room below.now)).expression Setting.Plain) tokens.now) }
-    ensures deep { IfOk result (λ x. IsDeep (B.room below.now) x.1 x.2) }
-{
-    let Some((opening, inside, rest)) = group(tokens, bracket) else {
-        return Err(Miss::NoReading);
-    };
-    match below.expression(alloc, Setting::Plain, inside) {
-        Ok((found, height, left)) => {
-            if !left.is_empty() {
-                return Err(Miss::NoReading);
-            }
-            Ok((opening, found, height, rest))
-        }
-        Err(Miss::NoReading) => Err(Miss::NoReading),
-        Err(Miss::Memory) => Err(Miss::Memory),
-    }
-}
-
-/// An expression that fills a group.
-pub fn expression_group<'k, B: Below<'k>>(
-    below: &B,
-    alloc: Global,
-    bracket: Kind,
-    tokens: &'k [Token],
-) -> Result<((Token, Expr), u32, &'k [Token]), Miss>
-    requires limit { B.room below.now ≤ 200 }
-    requires sound { B.sound below.now }
-    ensures reading { Gives (λ x. ((x.0.0, x.0.1), x.2.now)) result (take_inside (is bracket) width past ((lower (B.room below.now)).expression Setting.Plain) tokens.now) }
-    ensures deep { IfOk result (λ x. IsDeep (B.room below.now) x.0.1 x.1) }
-{
-    let (opening, found, height, rest) = filled_group(below, alloc, bracket, tokens)?;
-    Ok(((opening, found), height, rest))
-}
 
 /// An interpolation.
 #[tactic(auto, unfolding(grammar::specs::Descents::take_interpolation))]

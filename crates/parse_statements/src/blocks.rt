@@ -18,9 +18,9 @@ use dart_tree::{
 };
 use grammar::{Setting, Token};
 use parse_leaves::{
-    Below, Miss, group, heads, heads_closure, heads_name, higher, name, name_at, place_over, token,
+    Below, Miss, block_body, group, heads, heads_closure, heads_name, higher, name, name_at,
+    place_over, token,
 };
-use parse_operands::block_body;
 use parse_types::{listed_type_parameters, parameter_list, some_initializer, some_type_parameters};
 use std::alloc::{AllocError, Global};
 

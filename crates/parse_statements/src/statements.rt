@@ -18,10 +18,9 @@ use dart_tokens::Kind;
 use dart_tree::{Expr, Stmt, StmtNode};
 use grammar::{Setting, Token};
 use parse_leaves::{
-    Below, Miss, heads, heads_label, higher, identifier_at, name, name_at, place_over, some_name,
-    token,
+    Below, Miss, expression_group, heads, heads_label, higher, identifier_at, name, name_at,
+    place_over, some_name, token,
 };
-use parse_operands::expression_group;
 use std::alloc::Global;
 
 /// An expression, if one comes next.

@@ -2,7 +2,7 @@
 use Rattle.std.proofs.Common.{◌≡◌, ℕ, ◌≤◌, Bool, true, false, List, [], ◌∷◌, ◌++◌, Option, Some, None, if◌then◌else◌, refl, sym, subst, arith}
 use Rattle.dart_tree.specs.Tree.{Tree, Trees, Part, no_more, more, absent, present, integer_literal, boolean_literal, identifier, parenthesis, call, binary_expression, assignment, argument_list, argument, variable_list, variable, block, variable_statement, expression_statement, if_statement, while_statement}
 use Rattle.dart_tree.specs.Places.{place_of}
-use Rattle.dart_tree.specs.PlaceLaws.{place_of-first}
+use Rattle.tree_numbers.specs.PlaceLaws.{place_of-first}
 use Rattle.dart_tree.specs.Numbers.{places_of, places_of_all, places_of_part}
 use Rattle.dart_tree.specs.declared.names.Name.{Name}
 use Rattle.dart_tree.specs.declared.operators.BinaryOperator.{BinaryOperator}

@@ -6,7 +6,7 @@ use Rattle.std.proofs.lemmas.List.Elements.{All-nil, All-cons}
 use Rattle.std.proofs.lemmas.List.Kept.{AllPairs-cons}
 use Rattle.dart_tree.specs.Tree.{Tree}
 use Rattle.dart_tree.specs.Numbers.{nodes_in, numbers_of, places_of}
-use Rattle.dart_tree.specs.PlaceLaws.{numbers_of-numbered}
+use Rattle.tree_numbers.specs.PlaceLaws.{numbers_of-numbered}
 use Rattle.judgement.specs.Surroundings.{Surroundings}
 use Rattle.judgement.specs.Judgement.{run}
 use Rattle.rule_laws.specs.Keys.{AreOnce, SpeaksOnce, numbers_said}

@@ -1,5 +1,0 @@
-use Rattle.dart_tree.proofs.Sequences.{IsNumberedUpTo}
-use Rattle.dart_tree.proofs.numbering.number_initializers.Given as goal
-
-abbrev pub invariant-loop-item : goal.invariant-loop-item
-invariant-loop-item l = IsNumberedUpTo l.item-index l.first l.initial.initializers l.next l.initializers

@@ -1,0 +1,5 @@
+use Rattle.tree_numbers.proofs.Sequences.{IsNumberedUpTo}
+use Rattle.tree_numbers.proofs.numbering.number_combinators.Given as goal
+
+abbrev pub invariant-loop-item : goal.invariant-loop-item
+invariant-loop-item l = IsNumberedUpTo l.item-index l.first l.initial.combinators l.next l.combinators

@@ -1,0 +1,4 @@
+pub mod NumberLaws
+pub mod PlaceLaws
+pub mod HeightLaws
+pub mod TreeLaws

@@ -1,6 +1,0 @@
-use Rattle.std.proofs.Common.{arith}
-use Rattle.unread_lists.proofs.Sequences.{read_at_end}
-use Rattle.unread_lists.proofs.members.read_initializers.Goals as goal
-
-pub returns : goal.returns
-returns g c = read_at_end _ _ _ _ _ c.loop-item.invariant (omega arith)

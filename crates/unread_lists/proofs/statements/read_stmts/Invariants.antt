@@ -1,5 +1,0 @@
-use Rattle.unread_lists.proofs.Sequences.{AreReadUpTo}
-use Rattle.unread_lists.proofs.statements.read_stmts.Given as goal
-
-abbrev pub invariant-loop-item : goal.invariant-loop-item
-invariant-loop-item g l = AreReadUpTo l.item-index (g.R.ReadsLists.lists l.reader) l.room l.initial.stmts l.stmts
