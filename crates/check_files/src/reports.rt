@@ -83,7 +83,7 @@ fn add_ambiguous(
     ensures { OnOk result (findings.new.items ≡ findings.old.items ++ ambiguous_in heads.now elements.now spaces.now aims.now library (Some element.now)) }
 {
     let mut faults = Vec::new(alloc);
-    add_ambiguous_exports(heads, elements, spaces, element, aims, &mut faults)?;
+    add_ambiguous_exports(alloc, heads, elements, spaces, element, aims, &mut faults)?;
     add_library_faults(library, faults.as_slice(), findings)
 }
 

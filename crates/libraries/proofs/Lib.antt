@@ -3,4 +3,5 @@ pub mod Within
 pub mod Seconds
 pub mod Distinct
 pub mod Prefixes
+pub mod Told
 mod Examples

@@ -1,5 +1,5 @@
 -- Ambiguous exports.
-use Rattle.std.specs.Prelude.{ℕ, ◌+◌, Bool, true, false, ◌&&◌, List, [], ◌∷◌, ◌++◌, take, if◌then◌else◌, slice_get, Option, Some, None}
+use Rattle.std.specs.Prelude.{ℕ, ◌+◌, Bool, true, false, ◌&&◌, List, [], ◌∷◌, ◌++◌, take, if◌then◌else◌, slice_get, slice_index_or, Option, Some, None}
 use Rattle.std.specs.Option.{option_map_or}
 use Rattle.directives.specs.declared.faults.LibraryFault.{LibraryFault}
 use Rattle.directives.specs.declared.faults.LibraryFaultKind.TheVariants.{AmbiguousExport}
@@ -47,3 +47,14 @@ ambiguous_from heads elements spaces element export (aim ∷ more) =
 -- which exports of a library are ambiguous
 abbrev pub ambiguous_faults : List Head → List LibraryElement → List (List Exported) → LibraryElement → List Aim → List LibraryFault
 ambiguous_faults heads elements spaces element aims = ambiguous_from heads elements spaces element 0 aims
+
+-- the same, by what is told of each export
+abbrev pub told_fault : (told : List Bool) → (export : ℕ) → Aim → List LibraryFault
+told_fault told export aim = if slice_index_or told export false then record { span = aim.span; kind = AmbiguousExport } ∷ [] else []
+
+abbrev pub told_from : List Head → (told : List Bool) → (export : ℕ) → List Aim → List LibraryFault
+told_from heads told export [] = []
+told_from heads told export (aim ∷ more) =
+    if exports_library heads aim
+    then told_fault told export aim ++ told_from heads told (export + 1) more
+    else told_from heads told export more

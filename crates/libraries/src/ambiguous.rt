@@ -1,15 +1,14 @@
 //! Ambiguous exports.
 
 ghost use Rattle.std.specs.Prelude.{◌≡◌, ◌++◌, length, OnOk};
-ghost use Rattle.libraries.specs.Ambiguous.{ambiguous_fault, ambiguous_faults, ambiguous_from, exports_library, is_ambiguous_at, is_export};
-ghost use Rattle.libraries.specs.Elements.{if_library};
+ghost use Rattle.libraries.specs.Ambiguous.{ambiguous_faults, exports_library, is_export, told_fault, told_from};
 
 use crate::aims::{Aim, AimKind};
 use crate::heads::{Head, is_library_at};
 use directives::{LibraryFault, LibraryFaultKind};
 use element_terms::LibraryElement;
-use namespaces::{Namespace, is_ambiguous_export};
-use std::alloc::AllocError;
+use namespaces::{Namespace, ambiguous_exports};
+use std::alloc::{AllocError, Global};
 
 /// Whether a directive is an export.
 fn is_export(kind: AimKind) -> bool
@@ -35,35 +34,17 @@ fn exports_library(heads: &[Head], aim: &Aim) -> bool
     }
 }
 
-/// Whether the export of a library at this place among its exports is ambiguous.
-fn is_ambiguous_at(
-    elements: &[LibraryElement],
-    spaces: &[Namespace],
-    element: &LibraryElement,
-    export: usize,
-) -> bool
-    requires { length spaces.now ≡ length elements.now }
-    ensures { result ≡ is_ambiguous_at elements.now spaces.now element.now export }
-{
-    if export < element.exports.as_slice().len() {
-        return is_ambiguous_export(elements, spaces, element, export);
-    }
-    false
-}
-
-/// Adds that an export over whose URI this is said is ambiguous, if it is.
+/// Adds that an export is ambiguous, over the URI of its directive, if this is told of the one at this
+/// place.
 fn add_ambiguous(
-    elements: &[LibraryElement],
-    spaces: &[Namespace],
-    element: &LibraryElement,
+    told: &[bool],
     export: usize,
     aim: &Aim,
     faults: &mut Vec<LibraryFault>,
 ) -> Result<(), AllocError>
-    requires { length spaces.now ≡ length elements.now }
-    ensures { OnOk result (faults.new.items ≡ faults.old.items ++ ambiguous_fault elements.now spaces.now element.now export aim.now) }
+    ensures { OnOk result (faults.new.items ≡ faults.old.items ++ told_fault told.now export aim.now) }
 {
-    if is_ambiguous_at(elements, spaces, element, export) {
+    if export < told.len() && told[export] {
         faults.push(LibraryFault {
             span: aim.span,
             kind: LibraryFaultKind::AmbiguousExport,
@@ -72,9 +53,29 @@ fn add_ambiguous(
     Ok(())
 }
 
+/// Adds the exports among directives of which this is told.
+fn add_told(
+    heads: &[Head],
+    told: &[bool],
+    aims: &[Aim],
+    faults: &mut Vec<LibraryFault>,
+) -> Result<(), AllocError>
+    ensures { OnOk result (faults.new.items ≡ faults.old.items ++ told_from heads.now told.now 0 aims.now) }
+{
+    let mut export = 0;
+    for aim in aims {
+        if exports_library(heads, aim) {
+            add_ambiguous(told, export, aim, faults)?;
+            export += 1;
+        }
+    }
+    Ok(())
+}
+
 /// Adds which exports of a library are ambiguous, from its element and what its directives are about,
 /// the elements of all files and what each of them exports. The error is want of memory.
 pub fn add_ambiguous_exports(
+    alloc: Global,
     heads: &[Head],
     elements: &[LibraryElement],
     spaces: &[Namespace],
@@ -85,12 +86,7 @@ pub fn add_ambiguous_exports(
     requires { length spaces.now ≡ length elements.now }
     ensures { OnOk result (faults.new.items ≡ faults.old.items ++ ambiguous_faults heads.now elements.now spaces.now element.now aims.now) }
 {
-    let mut export = 0;
-    for aim in aims {
-        if exports_library(heads, aim) {
-            add_ambiguous(elements, spaces, element, export, aim, faults)?;
-            export += 1;
-        }
-    }
+    let told = ambiguous_exports(alloc, elements, spaces, element)?;
+    add_told(heads, told.as_slice(), aims, faults)?;
     Ok(())
 }

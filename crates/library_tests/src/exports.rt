@@ -6,7 +6,7 @@ use element_terms::{
     LibraryElement, NameList,
 };
 use namespaces::{
-    Found, Import, Namespace, Scope, exports, is_ambiguous_export, lookup, lookup_behind,
+    Found, Import, Namespace, Scope, ambiguous_exports, exports, lookup, lookup_behind,
 };
 use plain_text::PlainText;
 use std::alloc::{AllocError, Global};
@@ -122,11 +122,8 @@ fn later_exports_are_ambiguous(rt: HostRuntime) -> Result<(), Fail> {
     let all = exports(alloc, libraries.as_slice())?;
     let first = &libraries[0];
     let expected = [false, true, false, true, false];
-    assert_eq!(rt; first.exports.as_slice().len(), 5);
-    for export in 0..5 {
-        let found = is_ambiguous_export(libraries.as_slice(), all.as_slice(), first, export);
-        assert_eq!(rt; found, expected[export]);
-    }
+    let told = ambiguous_exports(alloc, libraries.as_slice(), all.as_slice(), first)?;
+    assert_eq!(rt; told.as_slice(), expected.as_slice());
     Ok(())
 }
 

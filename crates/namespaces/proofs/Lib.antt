@@ -1,3 +1,4 @@
+pub mod Clashing
 pub mod LinkLemmas
 pub mod PlaceTables
 pub mod Searching

@@ -4,6 +4,7 @@ pub mod Exports
 pub mod Links
 pub mod Namespaces
 pub mod Ambiguities
+pub mod BroughtNames
 pub mod AmbiguousExports
 pub mod AmbiguityLemmas
 pub mod Laws

@@ -1,149 +1,116 @@
 //! Exports that bring a name for which an earlier export of the library brings another element.
 
-ghost use Rattle.std.specs.Prelude.{◌≡◌, ◌<◌, ◌&&◌, length, slice_get, take};
+ghost use Rattle.std.specs.Prelude.{◌≡◌, ◌&&◌, length, IfOk, OnOk};
 ghost use Rattle.std.specs.List.{list_any};
-ghost use Rattle.std.specs.Option.{ForSome};
-ghost use Rattle.namespaces.specs.Ambiguities.{clash, clashes_with, is_ambiguous, is_ambiguous_pair, is_brought};
+ghost use Rattle.namespaces.specs.Ambiguities.{clash, is_brought, pairs_of};
+ghost use Rattle.namespaces.specs.BroughtNames.{AddsClashes, TellsAmbiguous, clashes};
 
+use crate::brought::BroughtNames;
 use crate::elements::{Exported, Namespace};
 use crate::place_tables::place_of;
 use element_terms::{Combinators, ExportEdge, LibraryElement, declared_place};
+use std::alloc::{AllocError, Global};
 
-/// Whether an export of a library is ambiguous: it brings a name that the library doesn't declare and
-/// for which an export that is written before it brings another element. What the libraries export is
-/// given in their order. It takes no memory, and the time of all pairs of names of both.
-pub fn is_ambiguous_export(
+/// Which exports of a library are ambiguous, in their order: those that bring a name that the library
+/// doesn't declare and for which an export that is written before brings another element. What the
+/// libraries export is given in their order. For n names that the exports bring it takes the time of
+/// n log n, and that of finding the library of each export.
+pub fn ambiguous_exports(
+    alloc: Global,
     libraries: &[LibraryElement],
     all: &[Namespace],
     library: &LibraryElement,
-    export: usize,
-) -> bool
-    requires size { length all.now ≡ length libraries.now }
-    requires export { export < length library.now.exports }
-    ensures { ForSome (slice_get library.now.exports export) (λ e. result
-        ≡ is_ambiguous libraries.now all.now library.now (take export library.now.exports) e) }
-{
-    let exports = library.exports.as_slice();
-    let edge = &exports[export];
-    is_ambiguous(libraries, all, library, &exports[..export], edge)
-}
-
-/// Whether an export behind earlier ones is ambiguous.
-fn is_ambiguous(
-    libraries: &[LibraryElement],
-    all: &[Namespace],
-    library: &LibraryElement,
-    earlier: &[ExportEdge],
-    edge: &ExportEdge,
-) -> bool
+) -> Result<Vec<bool>, AllocError>
     requires { length all.now ≡ length libraries.now }
-    ensures { result ≡ is_ambiguous libraries.now all.now library.now earlier.now edge.now }
+    ensures { IfOk result (λ told. TellsAmbiguous libraries.now all.now library.now told.items) }
 {
-    let Some(place) = place_of(libraries, edge.library) else {
-        return false;
-    };
-    let pairs = all[place].as_slice();
-    has_ambiguous_pair(libraries, all, library, earlier, &edge.combinators, pairs)
+    let mut told = Vec::new(alloc);
+    let mut before = BroughtNames::new(alloc);
+    let exports = library.exports.as_slice();
+    for edge in exports {
+        let pairs = pairs_of(libraries, all, edge);
+        told.push(has_clash(library, &edge.combinators, pairs, &before))?;
+        add_brought(library, &edge.combinators, pairs, &mut before)?;
+    }
+    Ok(told)
 }
 
-/// Whether one of the pairs is brought and ambiguous.
-fn has_ambiguous_pair(
+/// What the library that an export names exports, if it is among the libraries.
+fn pairs_of<'a>(
     libraries: &[LibraryElement],
-    all: &[Namespace],
+    all: &'a [Namespace],
+    edge: &ExportEdge,
+) -> &'a [Exported]
+    requires { length all.now ≡ length libraries.now }
+    ensures { result.now ≡ pairs_of libraries.now all.now edge.now.library }
+{
+    match place_of(libraries, edge.library) {
+        None => &[],
+        Some(place) => all[place].as_slice(),
+    }
+}
+
+/// Whether a pair that is brought has a name that means another element among names.
+fn has_clash(
     library: &LibraryElement,
-    earlier: &[ExportEdge],
     combinators: &Combinators,
     pairs: &[Exported],
+    names: &BroughtNames,
 ) -> bool
-    requires { length all.now ≡ length libraries.now }
-    ensures { result ≡ list_any (λ p. is_ambiguous_pair libraries.now all.now library.now
-        earlier.now combinators.now p) pairs.now }
+    ensures { result ≡ list_any (λ p. is_brought library.now combinators.now p
+        && clashes names.now.names p) pairs.now }
 {
-    pairs.iter().any(|pair| is_ambiguous_pair(libraries, all, library, earlier, combinators, pair))
+    pairs
+        .iter()
+        .any(|pair| is_clash(library, combinators, pair, names))
 }
 
-/// Whether a pair is brought, and an earlier export brings another element for its name.
-fn is_ambiguous_pair(
-    libraries: &[LibraryElement],
-    all: &[Namespace],
+/// Whether a pair is brought, and its name means another element among names.
+fn is_clash(
     library: &LibraryElement,
-    earlier: &[ExportEdge],
     combinators: &Combinators,
     pair: &Exported,
+    names: &BroughtNames,
 ) -> bool
-    requires { length all.now ≡ length libraries.now }
-    ensures { result ≡ is_ambiguous_pair libraries.now all.now library.now earlier.now
-        combinators.now pair.now }
+    ensures { result ≡ (is_brought library.now combinators.now pair.now && clashes names.now.names pair.now) }
+{
+    if !names.clashes(pair) {
+        return false;
+    }
+    is_brought(library, combinators, pair)
+}
+
+/// Adds the pairs that are brought to names.
+fn add_brought<'a>(
+    library: &LibraryElement,
+    combinators: &Combinators,
+    pairs: &'a [Exported],
+    names: &mut BroughtNames<'a>,
+) -> Result<(), AllocError>
+    ensures { OnOk result (AddsClashes (λ p. list_any (λ q. is_brought library.now combinators.now q && clash p q)
+        pairs.now) names.old.names names.new.names) }
+{
+    for pair in pairs {
+        add_if_brought(library, combinators, pair, names)?;
+    }
+    Ok(())
+}
+
+/// Adds a pair to names, if it is brought.
+fn add_if_brought<'a>(
+    library: &LibraryElement,
+    combinators: &Combinators,
+    pair: &'a Exported,
+    names: &mut BroughtNames<'a>,
+) -> Result<(), AllocError>
+    ensures { OnOk result (AddsClashes (λ p. is_brought library.now combinators.now pair.now && clash p pair.now)
+        names.old.names names.new.names) }
 {
     if !is_brought(library, combinators, pair) {
-        return false;
+        return Ok(());
     }
-    clashes_before(libraries, all, library, earlier, pair)
-}
-
-/// Whether an earlier export brings another element for the name of a pair.
-fn clashes_before(
-    libraries: &[LibraryElement],
-    all: &[Namespace],
-    library: &LibraryElement,
-    earlier: &[ExportEdge],
-    pair: &Exported,
-) -> bool
-    requires { length all.now ≡ length libraries.now }
-    ensures { result ≡ list_any (λ e. clashes_with libraries.now all.now library.now pair.now e)
-        earlier.now }
-{
-    earlier
-        .iter()
-        .any(|edge| clashes_with(libraries, all, library, pair, edge))
-}
-
-/// Whether an export brings another element for the name of a pair.
-fn clashes_with(
-    libraries: &[LibraryElement],
-    all: &[Namespace],
-    library: &LibraryElement,
-    pair: &Exported,
-    edge: &ExportEdge,
-) -> bool
-    requires { length all.now ≡ length libraries.now }
-    ensures { result ≡ clashes_with libraries.now all.now library.now pair.now edge.now }
-{
-    let Some(place) = place_of(libraries, edge.library) else {
-        return false;
-    };
-    let others = all[place].as_slice();
-    clashes_among(library, &edge.combinators, pair, others)
-}
-
-/// Whether one of the pairs is brought and has another element for the name of a pair.
-fn clashes_among(
-    library: &LibraryElement,
-    combinators: &Combinators,
-    pair: &Exported,
-    others: &[Exported],
-) -> bool
-    ensures { result ≡ list_any (λ q. is_brought library.now combinators.now q && clash pair.now q)
-        others.now }
-{
-    others
-        .iter()
-        .any(|other| clashes(library, combinators, pair, other))
-}
-
-/// Whether a pair is brought and has another element for the name of the first pair.
-fn clashes(
-    library: &LibraryElement,
-    combinators: &Combinators,
-    pair: &Exported,
-    other: &Exported,
-) -> bool
-    ensures { result ≡ (is_brought library.now combinators.now other.now && clash pair.now other.now) }
-{
-    if pair.name.as_str() != other.name.as_str() || pair.element.is(other.element) {
-        return false;
-    }
-    is_brought(library, combinators, other)
+    names.add(pair)?;
+    Ok(())
 }
 
 /// Whether an export with these combinators brings its library a pair.

@@ -43,7 +43,7 @@ impl ElementId {
 
 impl Found {
     /// What a name means that may mean this element too.
-    fn or_also(self, element: ElementId) -> Found
+    pub(crate) fn or_also(self, element: ElementId) -> Found
         ensures { result ≡ or_also self element }
     {
         match self {

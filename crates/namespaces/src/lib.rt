@@ -10,6 +10,7 @@
 #![tactic(auto)]
 
 mod ambiguities;
+mod brought;
 mod elements;
 mod export_tables;
 mod found;
@@ -20,7 +21,7 @@ mod place_tables;
 mod scopes;
 mod search;
 
-pub use ambiguities::is_ambiguous_export;
+pub use ambiguities::ambiguous_exports;
 pub use elements::{ElementId, Exported, Namespace};
 pub use export_tables::exports;
 pub use found::Found;
