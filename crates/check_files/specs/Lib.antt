@@ -7,3 +7,4 @@ pub mod Findings
 pub mod Reports
 pub mod Lines
 pub mod Settled
+pub mod Clear

@@ -15,7 +15,6 @@ use Rattle.libraries.specs.declared.heads.Head.{Head}
 use Rattle.libraries.specs.declared.parts.Home.{Home}
 use Rattle.libraries.specs.declared.parts.Home.TheVariants as home
 use Rattle.libraries.specs.AmbiguousLemmas.{ambiguous_in_any_order_of}
-use Rattle.libraries.specs.Ambiguous.{ambiguous_faults}
 use Rattle.libraries.specs.Checks.{aims_at, library_faults}
 use Rattle.libraries.specs.Parts.{home_of}
 use Rattle.std.specs.List.{flat_map}

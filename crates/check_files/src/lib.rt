@@ -6,9 +6,11 @@
 //! name (`specs/Links.antt`). `faults_at` gives the diagnostics of one file among them, and
 //! `findings_from` what is found in each library that a library reaches, in order (`specs/Reports.antt`,
 //! `specs/Findings.antt`): what is wrong with the texts of its files, with their directives and declared
-//! names, and with its exports. `lines_of` are the lines that this is printed as (`specs/Lines.antt`), by the path and the text of the file
-//! at a place (`path_at`, `text_held`). The
-//! crate stands on the check of a text, on directives and libraries, and on the graph of libraries.
+//! names, and with its exports. Where that is nothing, all that is said of the text of a file by itself is
+//! that its directives aren't built (`specs/Clear.antt`). `lines_of` are the lines that findings are
+//! printed as (`specs/Lines.antt`), by the path and the text of the file at a place (`path_at`,
+//! `text_held`). The crate stands on the check of a text, on directives and libraries, and on the graph
+//! of libraries.
 #![tactic(auto)]
 
 mod again;

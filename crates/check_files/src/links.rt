@@ -121,6 +121,7 @@ fn position_of(files: &[LentFile<'_>], path: &str) -> Option<usize>
 pub fn place_in(files: &[LentFile<'_>], path: &str) -> Option<usize>
     ensures is { result ≡ place_in path.now (table_view files.now) }
     ensures within { IfSome result (λ place. place < length files.now + 1) }
+    ensures file { IfSome result (λ place. 0 < place) }
 {
     let place = position_of(files, path)?;
     Some(place + 1)
@@ -140,7 +141,8 @@ fn is_library_at(heads: &[Head], place: usize) -> bool
 /// A place, if a library is there.
 fn if_library(heads: &[Head], place: usize) -> Option<usize>
     ensures is { result ≡ if_library heads.now place }
-    ensures within { IfSome result (λ place. place < length heads.now) }
+    ensures same { IfSome result (λ found. found ≡ place) }
+    ensures within { IfSome result (λ found. found < length heads.now) }
 {
     if is_library_at(heads, place) {
         Some(place)
@@ -157,10 +159,11 @@ fn lies_in(folder: &str, path: &str) -> bool
 }
 
 /// The place of the library of a path in a folder: None where the folder has no such file, or where it
-/// is a part.
+/// is a part. It is never that of `dart:core`, which is no file.
 pub fn library_in(folder: &str, path: &str, files: &[LentFile<'_>], heads: &[Head]) -> Option<usize>
     ensures is { result ≡ library_in folder.now path.now (table_view files.now) heads.now }
     ensures within { IfSome result (λ place. place < length heads.now) }
+    ensures file { IfSome result (λ place. 0 < place) }
 {
     if !lies_in(folder, path) {
         return None;

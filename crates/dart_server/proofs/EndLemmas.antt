@@ -15,7 +15,6 @@ use Rattle.load_files.specs.declared.packages.Package.{Package}
 use Rattle.load_files.specs.declared.refusal.LoadRefusal.{LoadRefusal}
 use Rattle.load_files.specs.declared.refusal.LoadRefusal.TheVariants as refusal
 use Rattle.load_files.specs.declared.roots.Roots.{Roots}
-use Rattle.judgement.specs.declared.fault.Fault.{Fault}
 use Rattle.dart_tree.specs.Tree.{Tree}
 use Rattle.check_library.specs.Units.{body_of}
 use Rattle.check_files.specs.Lent.{file_view, table_view}
@@ -34,7 +33,7 @@ use Rattle.dart_server.specs.declared.task.Task.{Task}
 use Rattle.dart_server.specs.declared.task.Task.TheVariants.{Check, Run}
 use Rattle.dart_server.specs.Writes.{Writes, status_after}
 use Rattle.dart_server.specs.Run.{PrintsBy, Prints, RunGives, UnbuiltGives, UnitGives}
-use Rattle.dart_server.specs.Libraries.{ClearGives, Ends, FilesGive, FoundGive, LibraryOutput, OverPackages, PlaceGives, Runs, TableGives, folder_for, packages_for, roots_for}
+use Rattle.dart_server.specs.Libraries.{ClearGives, Ends, FilesGive, FoundGive, LibraryOutput, MayEndIn, OverPackages, PlaceGives, Runs, TableGives, directives_in, folder_for, packages_for, roots_for}
 use Rattle.dart_server.specs.Output.{MayEnd}
 
 -- all pass a test that always passes
@@ -75,16 +74,16 @@ by_unbuilt : (steps : ℕ) (main : Bool) (output : List ℕ) (status : Status) �
 by_unbuilt steps true output status gives = subst (IsWholeStatus (Run steps)) (sym gives.1) tt
 by_unbuilt steps false output status gives = subst (IsWholeStatus (Run steps)) (sym gives.1) tt
 
-by_text : (text : List ℕ) (main : Bool) (steps : ℕ) (faults : List Fault) (output : List ℕ) (status : Status) → RunGives text main steps faults output status → IsWholeStatus (Run steps) status
+by_text : {X : Type 0} (text : List ℕ) (main : Bool) (steps : ℕ) (unknown : List X) (output : List ℕ) (status : Status) → RunGives text main steps unknown output status → IsWholeStatus (Run steps) status
 by_text text main steps [] output status gives = by_unit text steps (body_of text) output status gives
-by_text text main steps (fault ∷ faults) output status gives = by_unbuilt steps main output status gives
+by_text text main steps (one ∷ more) output status gives = by_unbuilt steps main output status gives
 
-by_clear : (task : Task) (packages : List Package) (table : Table) (place : ℕ) (output : List ℕ) (status : Status) → ClearGives task packages table place output status → IsWholeStatus task status
-by_clear Check packages table place output status gives = subst (IsWholeStatus Check) (sym gives.1) tt
-by_clear (Run steps) packages table place output status gives = by_text _ _ steps _ output status gives
+by_clear : {X : Type 0} (unknown : List X) (task : Task) (packages : List Package) (table : Table) (place : ℕ) (output : List ℕ) (status : Status) → ClearGives unknown task packages table place output status → IsWholeStatus task status
+by_clear unknown Check packages table place output status gives = subst (IsWholeStatus Check) (sym gives.1) tt
+by_clear unknown (Run steps) packages table place output status gives = by_text _ _ steps unknown output status gives
 
 by_found : (task : Task) (packages : List Package) (table : Table) (place : ℕ) (findings : List Finding) (output : List ℕ) (status : Status) → FoundGive task packages table place findings output status → IsWholeStatus task status
-by_found task packages table place [] output status gives = by_clear task packages table place output status gives
+by_found task packages table place [] output status gives = by_clear (directives_in table place) task packages table place output status gives
 by_found task packages table place (finding ∷ findings) output status gives = subst (IsWholeStatus task) (sym gives.1) tt
 
 by_place : (task : Task) (packages : List Package) (table : Table) (place : Option ℕ) (output : List ℕ) (status : Status) → PlaceGives task packages table place output status → IsWholeStatus task status
@@ -122,6 +121,24 @@ end_status : (task : Task) (file folder : List ℕ) (packages : List Package) (a
 end_status task file folder packages answer old new (Ok status) writes = whole_is_end task status (by_answer task file folder packages answer writes.output status writes.given)
 end_status task file folder packages answer old new (Err Cut.Failed) writes = tt
 end_status task file folder packages answer old new (Err Cut.Memory) writes = tt
+
+end_may_be : (task : Task) (status : Status) → IsEndStatus task status → MayEndIn task status
+end_may_be task Done ends = tt
+end_may_be task Errors ends = tt
+end_may_be task Refused ends = tt
+end_may_be task Memory ends = tt
+end_may_be task WriteFault ends = tt
+end_may_be task StepsSpent ends = ends
+end_may_be task Rejected ends = ends
+end_may_be task Threw ends = absurd ends
+end_may_be task ReadFault ends = absurd ends
+end_may_be task FilesFault ends = absurd ends
+end_may_be task InputSpent ends = absurd ends
+
+-- a check and a run over files have the statuses that they may have
+pub table_may_end : (task : Task) (file folder : List ℕ) (packages : List Package) (table : Table) (old new : Option (List ℕ)) (r : Result Status WriteRefusal) (status : Status) → Writes (TableGives task file folder packages table) old new r → status ≡ status_after r → MayEndIn task status
+table_may_end task file folder packages table old new r status writes is =
+    subst (MayEndIn task) (sym is) (end_may_be task (status_after r) (end_status task file folder packages (Ok table) old new r writes))
 
 -- what is written is that of a library whose files come to this
 pub over_packages : (task : Task) (file folder : List ℕ) (packages : List Package) (told : Option Stored) (old new : Option (List ℕ)) (answer : Result Table LoadRefusal) (r : Result Status WriteRefusal) (status : Status) → ForSome told (λ stored. answer ≡ loaded stored (roots_for folder packages) []) → Writes (FilesGive task file folder packages answer) old new r → status ≡ status_after r → OverPackages task file folder packages told old new status

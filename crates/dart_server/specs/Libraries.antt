@@ -13,12 +13,12 @@ use Rattle.load_files.specs.declared.roots.Roots.{Roots}
 use Rattle.packages_file.specs.Stored.{packages_at}
 use Rattle.element_terms.specs.declared.libraries.LibraryElement.{LibraryElement}
 use Rattle.element_terms.specs.Declarations.{declares}
-use Rattle.check_library.specs.Diagnostics.{diagnostics}
+use Rattle.directives.specs.declared.directive.Directive.{Directive}
 use Rattle.check_files.specs.declared.findings.Finding.{Finding}
 use Rattle.check_files.specs.Lines.{lines_of, text_at, texts_of}
 use Rattle.check_files.specs.Links.{heads_of, library_in}
 use Rattle.check_files.specs.Reports.{AreFoundFrom, table_elements}
-use Rattle.check_files.specs.Sources.{sources_of}
+use Rattle.check_files.specs.Sources.{outline_of_text, sources_of}
 use Rattle.dart_server.specs.declared.status.Status.{Status}
 use Rattle.dart_server.specs.declared.status.Status.TheVariants.{Done, Errors, Refused, Memory, StepsSpent, WriteFault, FilesFault, Rejected}
 use Rattle.dart_server.specs.declared.task.Task.{Task}
@@ -66,15 +66,19 @@ has_main (Some element) = is_some (find (λ d. declares d (codes "main")) elemen
 abbrev pub text_in : Table → (place : ℕ) → List ℕ
 text_in table place = (text_at (texts_of table) place).1
 
--- the output and the status where nothing is wrong with the library at a place and with those that it reaches: a check has nothing to say
-abbrev pub ClearGives : Task → List Package → Table → (place : ℕ) → (output : List ℕ) → Status → Type 0
-ClearGives Check packages table place output status = Says [] Done output status
-ClearGives (Run steps) packages table place output status =
-    RunGives (text_in table place) (has_main (slice_get (table_elements packages table) place)) steps (diagnostics (text_in table place)) output status
+-- the directives of the file at a place, which runs don't know yet
+abbrev pub directives_in : Table → (place : ℕ) → List Directive
+directives_in table place = (outline_of_text (text_in table place)).directives
+
+-- the output and the status where nothing is wrong with the library at a place and with those that it reaches, by what of its file runs don't know yet: a check has nothing to say
+abbrev pub ClearGives : {X : Type 0} → (unknown : List X) → Task → List Package → Table → (place : ℕ) → (output : List ℕ) → Status → Type 0
+ClearGives unknown Check packages table place output status = Says [] Done output status
+ClearGives unknown (Run steps) packages table place output status =
+    RunGives (text_in table place) (has_main (slice_get (table_elements packages table) place)) steps unknown output status
 
 -- those by what is found in all libraries that it reaches: the lines of that, if there is any
 abbrev pub FoundGive : Task → List Package → Table → (place : ℕ) → List Finding → (output : List ℕ) → Status → Type 0
-FoundGive task packages table place [] output status = ClearGives task packages table place output status
+FoundGive task packages table place [] output status = ClearGives (directives_in table place) task packages table place output status
 FoundGive task packages table place (finding ∷ findings) output status = Says (lines_of table (finding ∷ findings)) Errors output status
 
 -- those of the library at a place among the files of a table

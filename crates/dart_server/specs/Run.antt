@@ -1,6 +1,5 @@
 -- What a run of a library writes, and how it ends.
 use Rattle.std.specs.Prelude.{◌≡◌, ◌≢◌, ℕ, Bool, true, false, List, [], ◌∷◌, ◌++◌, Option, None, Some, codes}
-use Rattle.judgement.specs.declared.fault.Fault.{Fault}
 use Rattle.dart_scan.specs.Scanned.{words_of}
 use Rattle.dart_tree.specs.Tree.{Tree}
 use Rattle.core_rows.specs.CoreTable.{core_table}
@@ -55,7 +54,7 @@ abbrev pub UnbuiltGives : (has_main : Bool) → (output : List ℕ) → Status �
 UnbuiltGives true output status = Says not_built_line Rejected output status
 UnbuiltGives false output status = Says no_main_line Refused output status
 
--- the output and the status of a run of a library in which nothing is wrong, by what the rules say of the text of its file by itself: nothing, so that its program is run, or else that its directives aren't built
-abbrev pub RunGives : (text : List ℕ) (has_main : Bool) (steps : ℕ) → List Fault → (output : List ℕ) → Status → Type 0
+-- the output and the status of a run of a library in which nothing is wrong, by what of its file runs don't know yet: nothing, so that its program is run, or something
+abbrev pub RunGives : {X : Type 0} → (text : List ℕ) (has_main : Bool) (steps : ℕ) (unknown : List X) → (output : List ℕ) → Status → Type 0
 RunGives text has_main steps [] output status = UnitGives text steps (body_of text) output status
-RunGives text has_main steps (fault ∷ faults) output status = UnbuiltGives has_main output status
+RunGives text has_main steps (one ∷ more) output status = UnbuiltGives has_main output status

@@ -86,7 +86,7 @@ fn go_on<K: Sink>(
     place: usize,
 ) -> Result<Status, WriteRefusal>
     requires linked { AreLinked packages.now (table_view files.now) linked.now }
-    ensures writes { Writes (ClearGives task packages.now (table_view files.now) place) (K.written sink.old) (K.written sink.new) result }
+    ensures writes { Writes (ClearGives (diagnostics (text_in (table_view files.now) place)) task packages.now (table_view files.now) place) (K.written sink.old) (K.written sink.new) result }
     ensures counts { Counts result (K.faults sink.old) (K.faults sink.new) }
 {
     match task {
@@ -109,6 +109,7 @@ fn fulfil<K: Sink>(
     place: usize,
 ) -> Result<Status, WriteRefusal>
     requires few { length files.now + 1 < 2 ^ 32 }
+    requires file { 0 < place }
     requires place { place < length linked.now.heads.items }
     requires linked { AreLinked packages.now (table_view files.now) linked.now }
     ensures writes { Writes (LibraryGives task packages.now (table_view files.now) place) (K.written sink.old) (K.written sink.new) result }

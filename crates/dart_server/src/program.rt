@@ -196,10 +196,11 @@ fn obey<S: Source, K: Sink, F: Files>(
 /// steps goes wrong. The other clauses say when each fault comes: the count of faults of the source or
 /// the sink rises, or stands at its end, exactly where the status says so; only `serve` reads the source,
 /// and not where its packages file is refused or can't be read. Under `serve` a reply is cut at the status
-/// of want of memory only where the sink's count of it rose. The store is called under `check` and `run`
-/// for a packages file and then for what stands in the folder and in those of the packages; under `serve`
-/// once for a packages file, by `read`, and then only for lines of `analysis.setAnalysisRoots` and
-/// `analysis.reanalyze`, whose replies say where it failed; and else never.
+/// of want of memory only where the sink's count of it rose. The store is called under `serve` once for a
+/// packages file, by `read`, and then only for lines of `analysis.setAnalysisRoots` and
+/// `analysis.reanalyze`, whose replies say where it failed; under `check` and `run` for a packages file
+/// and then for what stands in the folder and in those of the packages, of which no clause says how often;
+/// and for other words never.
 #[tactic(auto, using(crate::proofs::EndLemmas::memory_may_end))]
 pub fn dart_main<S: Source, K: Sink, F: Files>(
     alloc: Global,

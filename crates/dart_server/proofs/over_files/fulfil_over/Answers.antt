@@ -1,5 +1,5 @@
 use Rattle.load_files.specs.declared.refusal.LoadRefusal.TheVariants.{TooManyFiles, TooDeep, TooMuch}
-use Rattle.dart_server.proofs.EndLemmas.{over_fault, over_limit, over_memory, over_table}
+use Rattle.dart_server.proofs.EndLemmas.{over_fault, over_limit, over_memory, over_table, table_may_end}
 use Rattle.dart_server.proofs.over_files.fulfil_over.Goals as goal
 
 pub returns-in-Ok-clause-output : goal.returns-in-Ok-clause-output
@@ -23,3 +23,7 @@ returns-in-Err-TooDeep-clause-output g c =
 pub returns-in-Err-TooMuch-clause-output : goal.returns-in-Err-TooMuch-clause-output
 returns-in-Err-TooMuch-clause-output g c =
     over_limit c.args.task c.args.file.now c.args.folder.now c.args.packages.now _ _ _ (TooMuch c.in-Err-TooMuch.field-0-0) c.say-in-Err-TooMuch.result _ (λ is. cc) (λ is. cc) (rw c.in-Err-TooMuch.field-0-is at c.in-Err-TooMuch.ensures.exact) c.say-in-Err-TooMuch.ensures.writes c.status_after-in-Err-TooMuch.ensures
+
+pub returns-in-Ok-clause-statuses : goal.returns-in-Ok-clause-statuses
+returns-in-Ok-clause-statuses g c =
+    table_may_end c.args.task c.args.file.now c.args.folder.now c.args.packages.now c.in-Ok.found _ _ c.fulfil_in.result _ c.fulfil_in.ensures.writes c.status_after.ensures

@@ -17,5 +17,5 @@ returns-in-Run-clause-writes g c =
     let elements = c.as_slice-elements.ensures.value ∙ elements_are c.args.packages.now (table_view c.args.files.now) c.args.linked.now c.requires.linked in
     let main : c.has_main.result ≡ has_main (slice_get (table_elements c.args.packages.now (table_view c.args.files.now)) c.args.place) =
     c.has_main.ensures ∙ ap (λ (all : List LibraryElement). has_main (slice_get all c.args.place)) elements in
-    subst (λ (task : Task). Writes (ClearGives task c.args.packages.now (table_view c.args.files.now) c.args.place) (g.K.Sink.written c.args.sink.now) (g.K.Sink.written c.run_at.new.sink) c.run_at.result) (sym c.in-Run.is)
+    subst (λ (task : Task). Writes (ClearGives (diagnostics text) task c.args.packages.now (table_view c.args.files.now) c.args.place) (g.K.Sink.written c.args.sink.now) (g.K.Sink.written c.run_at.new.sink) c.run_at.result) (sym c.in-Run.is)
     (subst (λ (found : Bool). Writes (RunGives text found c.in-Run.steps (diagnostics text)) (g.K.Sink.written c.args.sink.now) (g.K.Sink.written c.run_at.new.sink) c.run_at.result) main c.run_at.ensures.writes)
