@@ -44,6 +44,51 @@ BINARY = os.path.join(os.path.dirname(os.path.abspath(__file__)), os.pardir, "cr
 # The file that each session adds.
 PATH = "/a.dart"
 
+# A class and two functions as people write them: laid out in lines, with comments and names in whole words, some five
+# bytes for each token. `N` is a number that no other has.
+ORDINARY = """\
+/// How the hours of a station are kept, from the first reading of a day
+/// to the last one before midnight.
+class StationN<T extends Object> extends Recorder with Counted implements Comparable<StationN> {
+  /// The name by which the station is known.
+  final String name;
+  final int capacity, opened;
+  T? latest;
+
+  StationN(this.name, this.capacity, {required this.opened}) : super(capacity);
+
+  /// The reading that was taken last. There has to be one.
+  T get present => latest!;
+
+  bool operator ==(Object other) => other is StationN && other.name == name;
+
+  static Map<String, int> limits = {'wind': 130, 'rainfall': 400};
+}
+
+// Readings are taken from the oldest to the newest.
+int collectN(int limit, List<String> readings) {
+  var total = limit + readings.length * 2;
+  if (total > 3 && readings != null) {
+    print('$total of ${readings[0]}');
+  } else {
+    total = forecast(limit, readings)?.values[1] ?? 0;
+  }
+  for (var index = 0; index < total; index++) {
+    readings.add(index.toString());
+  }
+  return total;
+}
+
+String describeN(StationN<String> station) {
+  // A station that was never read has no name to be shown.
+  while (station.name.isEmpty) {
+    station = station.neighbours.firstWhere((other) => other.capacity > 0);
+  }
+  return station.name + ' since ' + station.opened.toString();
+}
+
+"""
+
 # A time below this many seconds tells nothing of a slope.
 SHORTEST = 0.005
 
@@ -52,6 +97,16 @@ DEEPEST_LOOPS = 97
 
 
 # Texts.
+
+
+def numbered(code: str, count: int) -> str:
+    """So many times this code, each with its number in the place of `N`."""
+    return "".join(code.replace("N", str(number)) for number in range(count))
+
+
+def ordinary(count: int) -> str:
+    """So many times a class and two functions, of which none is checked yet."""
+    return numbered(ORDINARY, count)
 
 
 def body(statements: List[str]) -> str:
@@ -167,6 +222,8 @@ class Family(Sizes):
 TOO_DEEP = ("profile_nesting",)
 
 FAMILIES = (
+    Family("ordinary", "classes and functions as people write them, not built yet: 1, 2 and 4 MB", "of them",
+           (780, 1_560, 3_100), ordinary, for_each=("not_built",) * 3),
     Family("mixed", "ifs, whiles, assignments and prints over 20 locals: 1, 2 and 4 MB", "statements",
            (25_000, 50_000, 100_000), mixed),
     Family("locals", "one block of locals, each declared, assigned and read", "locals",

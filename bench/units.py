@@ -27,13 +27,14 @@ import time
 from dataclasses import dataclass
 from typing import Callable, List, Tuple
 
-from check import Sizes, shared_words, slope, with_program
+from check import ORDINARY, Sizes, numbered, shared_words, slope, with_program
 
 # Where `rt run` builds the program.
 BINARY = os.path.join(os.path.dirname(os.path.abspath(__file__)), os.pardir, "crates", "unit_lines", "out", "unit_lines")
 
-# A function and a class with what ordinary code has, some 700 bytes. `N` is a number that no other has.
-ORDINARY = (
+# What `ORDINARY` has in as few bytes as can be, without line feeds, comments or long names: some two and a half bytes a
+# token. `N` is a number that no other has.
+DENSE = (
     "int fN(int a, List<String> b) { var x = a + b.length * 2; "
     "if (x > 3 && a != null) { print('$x of ${b[0]}'); } else { x = g(a, b)?.h[1] ?? 0; } "
     "for (var i = 0; i < x; i++) { b.add(i.toString()); } return x; } "
@@ -43,9 +44,9 @@ ORDINARY = (
 )
 
 
-def ordinary(count: int) -> Tuple[str, int]:
-    """So many functions and classes."""
-    return "".join(ORDINARY.replace("N", str(number)) for number in range(count)), 0
+def rightly(code: str) -> Callable[[int], Tuple[str, int]]:
+    """So many times this code, in which nothing derives nothing."""
+    return lambda count: (numbered(code, count), 0)
 
 
 def of_many(text: str) -> Callable[[int], Tuple[str, int]]:
@@ -66,7 +67,8 @@ class Family(Sizes):
 
 
 FAMILIES = (
-    Family("ordinary", "functions and classes: 1, 2 and 4 MB", "of them", (1_700, 3_400, 6_800), ordinary),
+    Family("ordinary", "classes and functions as people write them: 1, 2 and 4 MB", "of them", (780, 1_560, 3_100), rightly(ORDINARY)),
+    Family("dense", "functions and classes in few bytes: 0.8, 1.6 and 3.3 MB", "of them", (1_700, 3_400, 6_800), rightly(DENSE)),
     Family("items", "items that derive nothing", "items", (200_000, 400_000, 800_000), of_many("x y z; ")),
     Family("members", "members that derive nothing, in classes of one", "classes", (50_000, 100_000, 200_000), of_many("class A{x y z;} ")),
     Family("parentheses", "parentheses in one another", "groups", (500_000, 1_000_000, 2_000_000), nested("(", ")", 1)),
@@ -117,7 +119,7 @@ def measure(binary: str, family: Family, start_up: float, runs: int) -> bool:
     right = True
     for size in family.sizes:
         text, faults = family.text(size)
-        run = best(binary, text.encode() + b"\n", runs)
+        run = best(binary, text.replace("\n", "¶").encode() + b"\n", runs)
         found = run.output.count(b"@")
         if run.status != 0 or found != faults:
             right = False
