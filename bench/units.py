@@ -69,7 +69,7 @@ class Family(Sizes):
 FAMILIES = (
     Family("ordinary", "classes and functions as people write them: 1, 2 and 4 MB", "of them", (780, 1_560, 3_100), rightly(ORDINARY)),
     Family("dense", "functions and classes in few bytes: 0.8, 1.6 and 3.3 MB", "of them", (1_700, 3_400, 6_800), rightly(DENSE)),
-    Family("items", "items that derive nothing", "items", (200_000, 400_000, 800_000), of_many("x y z; ")),
+    Family("items", "items that derive nothing", "items", (140_000, 280_000, 560_000), of_many("x y z; ")),
     Family("members", "members that derive nothing, in classes of one", "classes", (50_000, 100_000, 200_000), of_many("class A{x y z;} ")),
     Family("parentheses", "parentheses in one another", "groups", (500_000, 1_000_000, 2_000_000), nested("(", ")", 1)),
     Family("braces", "braces in one another", "groups", (500_000, 1_000_000, 2_000_000), nested("{", "}", 1)),

@@ -96,6 +96,9 @@ pub fn parse_unit(
     let scanned = scanned(alloc, text)?;
     let groups = group(alloc, scanned.tokens.as_slice())?;
     let read = read_tokens(alloc, text, scanned.tokens.as_slice(), &groups)?;
+    // Which brackets belong together stands in what was read, too.
+    let Groups { partner, faults } = groups;
+    drop(partner);
     let mut tree = parse_items(alloc, in_core, &read)?;
     few_nodes(text, in_core, scanned.tokens.as_slice(), &tree);
     number_unit(&mut tree);
@@ -105,6 +108,6 @@ pub fn parse_unit(
         tokens: scanned.tokens,
         words: scanned.words,
         lexical_faults: scanned.faults,
-        group_faults: groups.faults,
+        group_faults: faults,
     })
 }

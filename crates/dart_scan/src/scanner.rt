@@ -78,13 +78,14 @@ impl<'t> Found<'t> {
         push_faults(alloc, &mut self.faults, class, start, end, bytes.as_bytes())
     }
 
-    /// What was found, with words in memory of their own.
-    fn finished(self, alloc: Global) -> Result<Scanned, AllocError>
+    /// What was found, with words in memory of their own. Tokens take no more memory than they need.
+    fn finished(mut self, alloc: Global) -> Result<Scanned, AllocError>
         ensures tokens { IfOk result (λ scanned. scanned.tokens ≡ self.entry.tokens.items) }
         ensures words { IfOk result (λ scanned. scanned.words ≡ self.entry.places) }
         ensures faults { IfOk result (λ scanned. scanned.faults ≡ self.entry.faults.items) }
     {
         let words = self.places.copied(alloc)?;
+        self.tokens.shrink_to_fit();
         Ok(Scanned {
             tokens: Tokens::from_vec(self.tokens),
             words,

@@ -36,7 +36,7 @@ pub fn counts(
     requires partners { length tokens.now ≡ length partners.now }
     ensures { IfOk result (λ counts. IsCount tokens.now partners.now (length tokens.now) counts.items) }
 {
-    let mut counts = Vec::new(alloc);
+    let mut counts = Vec::with_capacity(alloc, tokens.len().saturating_add(1))?;
     counts.push(0)?;
     let mut count = 0;
     for place in 0..tokens.len() {

@@ -110,7 +110,7 @@ pub fn grouped(
 {
     let partners = groups.partner.as_slice();
     let counts = counts(alloc, tokens, partners)?;
-    let mut read = Vec::new(alloc);
+    let mut read = Vec::with_capacity(alloc, tokens.len())?;
     for place in 0..tokens.len() {
         let token = tokens[place];
         let partner = partners[place];

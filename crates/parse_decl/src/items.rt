@@ -123,7 +123,8 @@ pub fn unit_within<'k, B: Below<'k>, C: Below<'k>>(
     requires inner_sound { C.sound inner.now }
     ensures { IfOk result (λ unit. unit ≡ lower_unit in_core (lower (B.room below.now)) (lower (C.room inner.now)) tokens.now) }
 {
-    let items = items(below, inner, alloc, in_core, tokens)?;
+    let mut items = items(below, inner, alloc, in_core, tokens)?;
+    items.shrink_to_fit();
     let at = place_over(tokens, &[]);
     Ok(UnitTree { at, items })
 }

@@ -179,6 +179,7 @@ fn whole_statements<R: ReadsLists>(
     ensures { IfOk result (λ list. trees_of list.items ≡ all_with_lists (R.lists reader.now) room (trees_of (all_items ((lower room).statement) segment error_of tokens.now))) }
 {
     let mut list = statements(alloc, room, tokens)?;
+    list.shrink_to_fit();
     read_stmts(reader, alloc, room, &mut list)?;
     Ok(list)
 }

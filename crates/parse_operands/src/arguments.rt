@@ -121,7 +121,8 @@ pub fn argument_list<'k, B: Below<'k>>(
     ensures reading { Gives (λ x. (x.0, x.2.now)) result (take_arguments (lower (B.room below.now)) tokens.now) }
     ensures deep { IfOk result (λ x. IsDeep (B.room below.now) x.0 x.1) }
 {
-    let (_, arguments, height, rest) = argument_group(below, alloc, tokens)?;
+    let (_, mut arguments, height, rest) = argument_group(below, alloc, tokens)?;
+    arguments.shrink_to_fit();
     let at = place_over(tokens, rest);
     Ok((ArgumentList { at, arguments }, height, rest))
 }

@@ -144,6 +144,7 @@ fn with_ends(
     let mut behind = parts;
     elements.append(&mut behind)?;
     elements.push(string_text(closing))?;
+    elements.shrink_to_fit();
     Ok(elements)
 }
 
@@ -238,7 +239,7 @@ fn with_first(
     ensures reading { IfOk result (λ x. x.items ≡ first ∷ rest.items) }
     ensures whole { result ≢ Err NoReading }
 {
-    let mut strings = Vec::new(alloc);
+    let mut strings = Vec::with_capacity(alloc, 1)?;
     strings.push(first)?;
     let mut behind = rest;
     strings.append(&mut behind)?;

@@ -46,10 +46,10 @@ pub fn unread(alloc: Global, tokens: &[Token]) -> Result<Vec<Stmt>, Miss>
     ensures deep { IfOk result (λ x. heights (trees_of x.items) ≡ 0) }
     ensures whole { result ≢ Err NoReading }
 {
-    let mut list = Vec::new(alloc);
     if tokens.is_empty() {
-        return Ok(list);
+        return Ok(Vec::new(alloc));
     }
+    let mut list = Vec::with_capacity(alloc, 1)?;
     let error = unread_error(alloc, tokens)?;
     list.push(error)?;
     Ok(list)
@@ -181,7 +181,7 @@ fn variable_names<'k, B: Below<'k>>(
     ensures deep { IfOk result (λ x. AreDeep (B.room below.now) x.0.items x.1) }
 {
     let (first, mut height, mut rest) = variable(below, alloc, tokens)?;
-    let mut list = Vec::new(alloc);
+    let mut list = Vec::with_capacity(alloc, 1)?;
     list.push(first)?;
     let mut more = rest.len();
     while more > 0 {

@@ -384,6 +384,7 @@ pub fn parameter_list<'k, B: Below<'k>>(
     let mut parameters = required;
     let mut behind = listed_parameters(alloc, optional);
     parameters.append(&mut behind)?;
+    parameters.shrink_to_fit();
     let at = place_over(tokens, rest);
     Ok((ParameterList { at, parameters }, height, rest))
 }

@@ -37,7 +37,7 @@ pub fn type_list<'k, B: Below<'k>>(
     ensures deep { IfOk result (λ x. AreDeep (B.room below.now) x.0.items x.1) }
 {
     let (first, mut height, mut rest) = below.written(alloc, tokens)?;
-    let mut list = Vec::new(alloc);
+    let mut list = Vec::with_capacity(alloc, 1)?;
     list.push(first)?;
     let mut more = rest.len();
     while more > 0 {
