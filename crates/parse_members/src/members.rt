@@ -378,7 +378,6 @@ pub fn member_list<'k, B: Below<'k>>(
     let Some((opening, inside, rest)) = group(tokens, Kind::OpenBrace) else {
         return Err(Miss::NoReading);
     };
-    let mut list = member_items(below, alloc, in_core, class, inside)?;
-    list.shrink_to_fit();
+    let list = member_items(below, alloc, in_core, class, inside)?;
     Ok((opening, list, rest))
 }
