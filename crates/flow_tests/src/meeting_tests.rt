@@ -87,78 +87,44 @@ fn models_meet_as_the_rules_say(rt: HostRuntime) -> Result<(), Fail> {
     let alloc = rt.alloc();
     let rows = rows(alloc)?;
     let one = tested(alloc, &rows, b'n')?;
-    let other = tested(alloc, &rows, b's')?;
+    let mut other = tested(alloc, &rows, b's')?;
     let joined = Flow::join(alloc, &one, &other)?;
     assert!(rt; has(alloc, &joined, X, b'i', false)?);
     assert!(rt; has(alloc, &joined, Y, b'o', true)?);
     assert!(rt; joined.is_assigned(X) && !joined.is_unassigned(X) && joined.reachable());
-    let met = Flow::join(alloc, &both(alloc)?, &one)?;
-    assert!(rt; has(alloc, &met, X, b'i', true)? && has(alloc, &met, Y, b'o', true)?);
-    Ok(())
-}
-
-#[test]
-fn a_model_that_is_not_reached_leaves_the_other(rt: HostRuntime) -> Result<(), Fail> {
-    let alloc = rt.alloc();
-    let rows = rows(alloc)?;
-    let one = tested(alloc, &rows, b'n')?;
-    let mut other = tested(alloc, &rows, b's')?;
     other.exit();
     assert!(rt; !other.reachable());
     assert!(rt; Flow::join(alloc, &other, &one)?.is_same(&one));
     assert!(rt; Flow::join(alloc, &one, &other)?.is_same(&one));
     assert!(rt; Flow::join(alloc, &one, &one)?.is_same(&one.copy(alloc)?));
+    let before = both(alloc)?;
+    let met = Flow::join(alloc, &before, &one)?;
+    assert!(rt; has(alloc, &met, X, b'i', true)? && has(alloc, &met, Y, b'o', true)?);
     Ok(())
 }
 
-// The model of a local of the type `int?` that has no value yet.
-fn without_value(alloc: Global) -> Result<Flow, Fail> {
-    let int = type_of(alloc, b'i')?;
-    let mut empty = local(1, or_null(alloc, int)?);
-    empty.assigned = false;
-    empty.unassigned = true;
-    Ok(Flow::start(alloc, &[empty])?)
-}
-
-// The same, written with an `int`, beside a local that has a value.
-fn with_value(alloc: Global, rows: &Rows) -> Result<Flow, Fail> {
-    let mut flow = without_value(alloc)?;
-    flow.assign(alloc, rows, X, &type_of(alloc, b'i')?)?;
-    declare(alloc, &mut flow, &local(2, type_of(alloc, b's')?))?;
-    Ok(flow)
-}
-
+// A local that has no value yet, beside another that has one.
 #[test]
 fn a_local_has_a_value_where_it_is_written(rt: HostRuntime) -> Result<(), Fail> {
     let alloc = rt.alloc();
     let rows = rows(alloc)?;
-    let before = without_value(alloc)?;
-    assert!(rt; before.reachable() && before.is_in_scope(X) && !before.is_in_scope(Y));
-    assert!(rt; before.is_unassigned(X) && !before.is_assigned(X));
-    let flow = with_value(alloc, &rows)?;
+    let int = type_of(alloc, b'i')?;
+    let mut empty = local(1, or_null(alloc, int.copy(alloc)?)?);
+    empty.assigned = false;
+    empty.unassigned = true;
+    let mut flow = Flow::start(alloc, &[empty])?;
+    assert!(rt; flow.reachable() && flow.is_in_scope(X) && !flow.is_in_scope(Y));
+    assert!(rt; flow.is_unassigned(X) && !flow.is_assigned(X));
+    flow.assign(alloc, &rows, X, &int)?;
     assert!(rt; flow.is_assigned(X) && !flow.is_unassigned(X));
-    Ok(())
-}
-
-#[test]
-fn a_copy_is_written_alone(rt: HostRuntime) -> Result<(), Fail> {
-    let alloc = rt.alloc();
-    let rows = rows(alloc)?;
-    let flow = with_value(alloc, &rows)?;
+    declare(alloc, &mut flow, &local(2, type_of(alloc, b's')?))?;
     let mut after = flow.copy(alloc)?;
     assert!(rt; after.is_same(&flow) && after.is_in_scope(X));
     after.assign(alloc, &rows, X, &type_of(alloc, b'N')?)?;
     assert!(rt; !after.is_same(&flow));
     assert!(rt; has(alloc, &after, X, b'i', true)? && has(alloc, &flow, X, b'i', false)?);
-    Ok(())
-}
-
-#[test]
-fn locals_leave_their_scope(rt: HostRuntime) -> Result<(), Fail> {
-    let alloc = rt.alloc();
-    let mut flow = with_value(alloc, &rows(alloc)?)?;
-    flow.end(&[Y, LocalId(9), X]);
-    assert!(rt; !flow.is_in_scope(X) && !flow.is_in_scope(Y));
+    after.end(&[Y, LocalId(9), X]);
+    assert!(rt; !after.is_in_scope(X) && !after.is_in_scope(Y));
     Ok(())
 }
 
