@@ -71,6 +71,7 @@ FAMILIES = (
     Family("dense", "functions and classes in few bytes: 0.8, 1.6 and 3.3 MB", "of them", (1_700, 3_400, 6_800), rightly(DENSE)),
     Family("items", "items that derive nothing", "items", (140_000, 280_000, 560_000), of_many("x y z; ")),
     Family("members", "members that derive nothing, in classes of one", "classes", (50_000, 100_000, 200_000), of_many("class A{x y z;} ")),
+    Family("semicolons", "items of one byte that derive nothing", "items", (1_000_000, 2_000_000, 4_000_000), of_many(";")),
     Family("parentheses", "parentheses in one another", "groups", (500_000, 1_000_000, 2_000_000), nested("(", ")", 1)),
     Family("braces", "braces in one another", "groups", (500_000, 1_000_000, 2_000_000), nested("{", "}", 1)),
 )

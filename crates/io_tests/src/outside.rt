@@ -7,8 +7,8 @@ ghost use Rattle.std.specs.Prelude.{◌≤◌};
 
 use fault_io::{
     EntryKind, Files, HostFiles, Line, LineEnd, MemoryFiles, MemorySink, MemorySource, Sink,
-    Source, StdSink, StdSource, SteadyFiles, SteadySink, WriteRefusal, are_files, is_path,
-    is_under, read_line, write_all_of,
+    Source, StdSink, StdSource, SteadyFiles, SteadySink, SteadySource, WriteRefusal, are_files,
+    is_path, is_under, read_line, write_all_of,
 };
 use plain_text::{PlainBytes, PlainText};
 use std::alloc::{AllocError, Global};
@@ -35,16 +35,18 @@ pub(crate) fn bytes_in(alloc: Global, text: &str) -> Result<Vec<u8>, AllocError>
     Ok(bytes)
 }
 
-// Inputs, `INPUT|LINES|END`: the lines that are read of them, each behind `=` or, if it is too long,
-// behind `!`, and what ends them. A `/` is a line feed. A line has at most 4 bytes, and all lines 14.
+// Inputs, `INPUT|LINES|END TAKEN`: the lines that are read of them, each behind `=` or, if it is too
+// long, behind `!`, what ends them, and how many bytes were taken then. A `/` is a line feed. A line has
+// at most 4 bytes, and all lines 14.
 const INPUTS: &str = "\
-||End
-/|=|End
-a//bc/|=a==bc|End
-abc/def/gh|=abc=def=gh|End
-abcdefgh/ij/|!abcd=ij|End
-abcdefgh|!abcd|End
-abc/defg/hi/jk|=abc=defg=hi|InputSpent";
+||End 0
+/|=|End 1
+a//bc/|=a==bc|End 6
+abc/def/gh|=abc=def=gh|End 10
+abcdefgh/ij/|!abcd=ij|End 12
+abcdefgh|!abcd|End 8
+abc/defg/hi/jk|=abc=defg=hi|InputSpent 14
+abc/defg/hi/jklm|=abc=defg=hi|InputSpent 14";
 
 /// The lines that are read, as a line of the table tells them, and what ended them.
 fn lines_of<S: Source>(alloc: Global, source: &mut S) -> Result<String, Fail> {
@@ -61,7 +63,8 @@ fn lines_of<S: Source>(alloc: Global, source: &mut S) -> Result<String, Fail> {
         told.extend_from_slice(line.bytes())?;
     }
     let told = std::str::from_utf8(&told)?;
-    Ok(format!(in alloc; "{told}|{end:?}")?)
+    let taken = line.taken();
+    Ok(format!(in alloc; "{told}|{end:?} {taken}")?)
 }
 
 /// The same of a source that gives so many bytes at a time.
@@ -72,16 +75,18 @@ fn lines_by(alloc: Global, input: &[u8], piece: usize) -> Result<String, Fail>
     lines_of(alloc, &mut source)
 }
 
-/// Whether the lines of an input are those of its line in the table, in pieces of any length, and from
-/// a reader.
+/// Whether the lines of an input are those of its line in the table, in pieces of any length, from a
+/// source that never fails, and from a reader.
 fn are_lines(alloc: Global, line: &str) -> Result<bool, Fail> {
     let (input, lines) = cell(line)?;
     let input = bytes_in(alloc, input)?;
+    let mut steady = SteadySource::new(input.to_vec(alloc)?);
     let mut reader = StdSource::new(input.as_slice());
     Ok(
         lines_by(alloc, &input, 1)?.as_str() == lines
             && lines_by(alloc, &input, 3)?.as_str() == lines
             && lines_by(alloc, &input, 65_536)?.as_str() == lines
+            && lines_of(alloc, &mut steady)?.as_str() == lines
             && lines_of(alloc, &mut reader)?.as_str() == lines,
     )
 }

@@ -13,7 +13,7 @@ pub enum DiagnosticCode {
     ConditionNotBool,
     /// A directive stands where it may not.
     DirectiveOrder,
-    /// A name is declared again in one block.
+    /// A name is declared again in one block, or at the top of one library.
     DuplicateDefinition,
     /// The bytes of a file aren't UTF-8.
     FileNotUtf8,

@@ -4,7 +4,8 @@ ghost use Rattle.std.specs.Prelude.{◌≡◌};
 ghost use Rattle.proto_json.specs.Codes.{name_of, message_of};
 
 /// Why a line is refused: the `code` of the protocol's RequestError. Of several causes the one
-/// that stands first here is told.
+/// that stands first here is told; of those of an update's files the one that is found first, file by
+/// file.
 #[derive(Clone, Copy, Debug, PartialEq, Eq)]
 pub enum Code {
     /// The line is too long, isn't JSON, or isn't the object of a request.

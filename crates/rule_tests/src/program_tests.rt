@@ -2,8 +2,8 @@
 //!
 //! Points are in the order of their numbers, from 0: `TERM | FACTS`. A term is its name, its slots and
 //! operands, and the points that come next. The facts are those of slots, with `+` where the slot has a
-//! value for certain and `-` where it hasn't, before its type where that isn't the declared one of the
-//! slot. The slot of a node has the number of the node from the body on, which has 0: in
+//! value for certain and `-` where it hasn't, before its type, which is left out where nothing is said of
+//! it but what the slot declares. The slot of a node has the number of the node from the body on, which has 0: in
 //! `int x=1;x;` that is 5 for the local, whose name is the sixth node, and 8 for its value behind it.
 
 mod points;
