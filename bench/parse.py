@@ -111,6 +111,16 @@ def calls_that_fail(depth: int) -> Tuple[str, str]:
     return text + ";", "f .."
 
 
+def arrows_that_fail(depth: int) -> Tuple[str, str]:
+    """Calls in the bodies of closures with an arrow, in one another, of which the innermost derives nothing."""
+    return "()=>f(" * depth + ";", "(closure => f) .."
+
+
+def sections_that_fail(depth: int) -> Tuple[str, str]:
+    """Conditionals in the indices of sections behind their else branches, in one another, of which the innermost derives nothing."""
+    return "a?b:c..[" * depth + "@" + "]" * depth + ";", "(? a b c) .."
+
+
 def branches_that_fail(depth: int) -> Tuple[str, str]:
     """An `else` behind two `if`s, in one another, each before a loop that doesn't end."""
     return "if(a)if(b);else do " * depth + ";", "(if a (if b ;)) .."
@@ -145,6 +155,8 @@ FAMILIES = (
     Family("calls", "comparisons that look like calls, in one another", "levels", (4, 8, 16), calls_or_comparisons),
     Family("functions", "comparisons that look like types, in one another", "levels", (4, 8, 16), types_or_comparisons),
     Family("failing", "calls in one another, of which the innermost derives nothing", "levels", (10, 20, 40), calls_that_fail),
+    Family("arrows", "calls in closures with `=>` in one another, of which the innermost derives nothing", "levels", (24, 48, 96), arrows_that_fail),
+    Family("sections", "conditionals with sections in one another, of which the innermost derives nothing", "levels", (16, 32, 64), sections_that_fail),
     Family("branches", "an `else` that derives nothing behind two `if`s, in one another", "levels", (10, 20, 40), branches_that_fail),
     Family("comparisons", "comparisons in a list, each with `<`", "comparisons", MANY, comparisons),
 )

@@ -6,6 +6,7 @@ use Rattle.readings.specs.Combinators.{parses_none, parses_sole, sole_longest}
 use Rattle.dart_tokens.specs.declared.token.Kind.TheVariants as kind
 use Rattle.dart_tree.specs.Tree.{Tree}
 use Rattle.grammar.specs.declared.token.Token.{Token}
+use Rattle.grammar.specs.declared.level.Setting.TheVariants as setting
 use Rattle.grammar.specs.Tokens.{is, heads, anything}
 use Rattle.grammar.specs.Types.{heads_field}
 use Rattle.grammar.specs.Expressions.{heads_nullable}
@@ -46,7 +47,7 @@ all_parse (suc n) =
       expression = λ m. expression_sole n m (below n) (lower n) a;
       operand = λ m above. operand_sole n m (below n) (lower n) a above;
       unary = λ m. sole_longest (unary_parses n m (below n) (lower n) a);
-      section = λ m. sole_longest (section_parses n m (below n) (lower n) a _ _ (parses_sole (expression_sole n m (below n) (lower n) a)));
+      section = λ m. sole_longest (section_parses n m (below n) (lower n) a _ _ (parses_sole (expression_sole n setting.Plain (below n) (lower n) a)));
       simple = sole_longest simple_parses;
       block = sole_longest block_parses;
       statement = statement_sole (below n) (lower n) a;

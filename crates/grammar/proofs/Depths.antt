@@ -1,5 +1,5 @@
 -- No tree that is read is higher than the room that it was read in.
-use Rattle.std.proofs.Common.{◌≡◌, ℕ, suc, ◌≤◌, ◌++◌, Bool, true, false, not, List, [], ◌∷◌, Option, Some, None, nat_lt, if◌then◌else◌, arith}
+use Rattle.std.proofs.Common.{◌≡◌, ℕ, suc, ◌≤◌, ◌++◌, Bool, true, false, not, ◌&&◌, List, [], ◌∷◌, Option, Some, None, nat_lt, if◌then◌else◌, refl, arith}
 use Rattle.std.proofs.lemmas.Bool.Decides.{nat_tests}
 use Rattle.readings.specs.Readings.{Rule, Test, token, given, ◌▹◌, maybe, many, where_next, turn}
 use Rattle.readings.specs.Leading.{Each}
@@ -18,7 +18,7 @@ use Rattle.grammar.specs.declared.level.Setting.TheVariants as setting
 use Rattle.grammar.specs.Tokens.{is, is_either, is_name, is_type_name, width, past}
 use Rattle.grammar.specs.Types.{tail, Tail, function_type_with, listed_or_none, behind_token, Below, separated, separated_rule, inner, type_arguments_of, type_arguments_rule, type_parameter_of, type_parameter_rule, type_parameters_of, type_parameters_rule, void_of, type_name_rule, question_rule, named_type_of, plain_type_rule, annotation_rule, heads_required, heads_field, parameter_of, parameter_rule, parameters_rule, optional_parameters_rule, parameter_list_of, parameter_list_rule, parameter_type_of, parameter_type_rule, tail_of, tail_rule, tail_before_rule, first_tail_of, next_tail_of, every_time, type_rule}
 use Rattle.grammar.specs.Operators.{binary_rule, prefix_rule, postfix_rule, table, assignment_rule}
-use Rattle.grammar.specs.Expressions.{Selector, member, element, check, called, Side, operated, tested, cast, choices, Contents, listed, entries, collection_with, side_with, simple_string_of, string_text_of, simple_interpolation_of, interpolation_rule, string_part_rule, interpolated_of, string_rule, strings_of, strings_rule, heads_label, positional_of, named_of, argument_rule, arguments_of, arguments_rule, integer_of, boolean_of, null_of, this_of, super_of, identifier_of, simple_rule, generic_of, heads_generic, name_rule, parenthesis_of, parenthesis_rule, arrow_of, closure_of, heads_closure, closure_rule, new_of, new_rule, entry_of, entry_rule, listed_of, entries_of, collection_of, collection_rule, primary_rule, member_of, element_of, check_of, plain_call_of, generic_call_of, heads_call, selector_rule, select_with, selected_rule, one_time, postfix_of, unary_of, incremented_rule, unary_rule, operated_of, tested_of, cast_of, choices_of, operated_rule, right_rule, times, side_with, operand_rule, assign_of, assignment_expression_rule, throw_of, throw_rule, cascaded_name_of, cascaded_index_of, section_head_rule, section_rule, cascade_of, section_of, cascade_section_rule, cascade_rule, expression_rule}
+use Rattle.grammar.specs.Expressions.{Selector, member, element, check, called, Side, operated, tested, cast, choices, Contents, listed, entries, collection_with, side_with, simple_string_of, string_text_of, simple_interpolation_of, interpolation_rule, string_part_rule, interpolated_of, string_rule, strings_of, strings_rule, heads_label, positional_of, named_of, argument_rule, arguments_of, arguments_rule, integer_of, boolean_of, null_of, this_of, super_of, identifier_of, simple_rule, generic_of, heads_generic, name_rule, parenthesis_of, parenthesis_rule, arrow_of, closure_of, heads_closure, closure_rule, new_of, new_rule, entry_of, entry_rule, listed_of, entries_of, collection_of, collection_rule, primary_rule, member_of, element_of, check_of, plain_call_of, generic_call_of, heads_call, selector_rule, select_with, selected_rule, one_time, postfix_of, unary_of, incremented_rule, unary_rule, operated_of, tested_of, cast_of, choices_of, operated_rule, right_rule, times, side_with, operand_rule, assign_of, assignment_expression_rule, throw_of, throw_rule, cascaded_name_of, cascaded_index_of, section_head_rule, section_rule, cascade_of, section_of, cascade_section_rule, cascade_rule, expression_rule, reads_on, is_open}
 
 -- a tree of at most this height
 abbrev pub Low : ℕ → Tree → Type 0
@@ -61,6 +61,13 @@ fits_at n m e = grind (arith, nat_tests)
 
 low_fits : (n : ℕ) (t : Tree) → fits n t ≡ true → Low n t
 low_fits n t e = fits_at n (height t) e
+
+both_first : (a b : Bool) → (a && b) ≡ true → a ≡ true
+both_first true b e = refl
+both_first false b e = absurd (cc)
+
+low_open : (n : ℕ) (t : Tree) → is_open n t ≡ true → Low n t
+low_open n t e = low_fits n t (both_first (fits n t) (not (reads_on t)) e)
 
 -- no tree is higher than n
 pub record Lows (n : ℕ) (d : Below) : Type 0 where
@@ -269,13 +276,13 @@ select_low n read left (called type_arguments arguments) h k = up (hi {n = n} h 
 selected_low : (n : ℕ) (m : Setting) (d : Below) → Lows n d → Gives (Low (suc n)) (selected_rule n m d)
 unfolding selected_rule
 selected_low n m d a =
-    gives_chain every_time (fits n) select_with (gives_longest (primary_low n m d a)) (gives_longest (selector_low n m d a)) (λ read left side e h k. select_low n read left side (low_fits n left e) k)
+    gives_chain every_time (is_open n) select_with (gives_longest (primary_low n m d a)) (gives_longest (selector_low n m d a)) (λ read left side e h k. select_low n read left side (low_open n left e) k)
 
 pub unary_low : (n : ℕ) (m : Setting) (d : Below) → Lows n d → Gives (Low (suc n)) (unary_rule n m d)
 unfolding unary_rule incremented_rule
 unary_low n m d a =
     gives_or (gives_make unary_of (λ read x h. up h.1) (gives_seq (gives_any prefix_rule) (a.unary m)))
-    (gives_chain one_time (fits n) postfix_of (gives_longest (selected_low n m d a)) (gives_longest (gives_any postfix_rule)) (λ read left side e h k. up (low_fits n left e)))
+    (gives_chain one_time (is_open n) postfix_of (gives_longest (selected_low n m d a)) (gives_longest (gives_any postfix_rule)) (λ read left side e h k. up (low_open n left e)))
 
 abbrev SideLow : ℕ → Side → Type 0
 SideLow n (operated operator right) = Low n right
@@ -315,7 +322,7 @@ side_low n read left (choices then_value else_value) h k = up (hi {n = n} h (hi 
 pub operand_low : (n : ℕ) (m : Setting) (d : Below) → Lows n d → (above : List Level) → Gives (Low (suc n)) (operand_rule n m d above)
 unfolding operand_rule
 operand_low n m d a above =
-    gives_levels times (fits n) side_with (right_low n m d a) (λ read left side e h k. side_low n read left side (low_fits n left e) k) (gives_longest (unary_low n m d a)) above
+    gives_levels times (is_open n) side_with (right_low n m d a) (λ read left side e h k. side_low n read left side (low_open n left e) k) (gives_longest (unary_low n m d a)) above
 
 pub section_head_low : (n : ℕ) (p : Rule Token Tree) → Gives (Low n) p → Gives (Low n) (section_head_rule p)
 unfolding section_head_rule
@@ -325,18 +332,18 @@ section_head_low n p a =
 pub section_low : (n : ℕ) (m : Setting) (d : Below) → Lows n d → (p : Rule Token Tree) → Gives (Low (suc n)) p → Gives (Low (suc n)) (section_rule n m d p)
 unfolding section_rule
 section_low n m d a p b =
-    gives_chain one_time (fits n) assign_of
-    (gives_longest (gives_chain every_time (fits n) select_with (gives_longest (section_head_low (suc n) p b)) (gives_longest (selector_low n m d a)) (λ read left side e h k. select_low n read left side (low_fits n left e) k)))
-    (gives_longest (gives_seq (gives_any assignment_rule) (a.operand m table))) (λ read left side e h k. up (hi {n = n} (low_fits n left e) k.1))
+    gives_chain one_time (is_open n) assign_of
+    (gives_longest (gives_chain every_time (is_open n) select_with (gives_longest (section_head_low (suc n) p b)) (gives_longest (selector_low n m d a)) (λ read left side e h k. select_low n read left side (low_open n left e) k)))
+    (gives_longest (gives_seq (gives_any assignment_rule) (a.operand m table))) (λ read left side e h k. up (hi {n = n} (low_open n left e) k.1))
 
 pub expression_low : (n : ℕ) (m : Setting) (d : Below) → Lows n d → Gives (Low (suc n)) (expression_rule n m d)
 unfolding expression_rule assignment_expression_rule throw_rule cascade_rule cascade_section_rule
 expression_low n m d a =
     gives_longest
     (gives_or
-    (gives_once (fits n) assign_of (gives_longest (unary_low n m d a)) (gives_longest (gives_seq (gives_any assignment_rule) (a.expression m))) (λ read left side e h k. up (hi {n = n} (low_fits n left e) k.1)))
+    (gives_once (is_open n) assign_of (gives_longest (unary_low n m d a)) (gives_longest (gives_seq (gives_any assignment_rule) (a.expression m))) (λ read left side e h k. up (hi {n = n} (low_open n left e) k.1)))
     (gives_or (gives_make throw_of (λ read x h. up h.1) (gives_seq (tok (is kind.Throw)) (a.expression m)))
     (gives_longest
-    (gives_chain {Q = λ s. Low n s.1} every_time (fits n) cascade_of (operand_low n m d a table)
+    (gives_chain {Q = λ s. Low n s.1} every_time (is_open n) cascade_of (operand_low n m d a table)
     (gives_longest (gives_or (gives_turn {R = λ s. Low n s.1} (section_of false) (λ x h. h.1) (gives_seq (tok (is kind.PeriodPeriod)) (a.section m))) (gives_turn {R = λ s. Low n s.1} (section_of true) (λ x h. h.1) (gives_seq (tok (is kind.QuestionPeriodPeriod)) (a.section m)))))
-    (λ read left side e h k. up (hi {n = n} (low_fits n left e) k))))))
+    (λ read left side e h k. up (hi {n = n} (low_open n left e) k))))))

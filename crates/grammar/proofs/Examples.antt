@@ -14,7 +14,7 @@ use Rattle.grammar.specs.Rows.{ReadsExpression, ReadsStatement, ReadsUnit, Reads
 
 pub read_expressions : Each ReadsExpression expression_rows
 unfolding partners_from group_end statements_at below over_type behind_arguments heads_generic heads_call type_arguments_rule type_parameter_rule type_parameters_rule type_name_rule question_rule plain_type_rule annotation_rule parameter_rule optional_parameters_rule parameter_list_rule parameter_type_rule tail_rule tail_before_rule type_rule binary_rule assignment_rule prefix_rule postfix_rule interpolation_rule string_part_rule string_rule strings_rule argument_rule arguments_rule simple_rule name_rule parenthesis_rule closure_rule new_rule entry_rule collection_rule primary_rule selector_rule selected_rule incremented_rule unary_rule operated_rule right_rule operand_rule assignment_expression_rule throw_rule section_head_rule section_rule cascade_section_rule cascade_rule expression_rule block_rule declared_rule variable_rule variables_rule variable_statement_rule local_body_rule local_rest_rule local_function_rule function_statement_rule expression_statement_rule return_rule break_rule continue_rule rethrow_rule labeled_rule condition_rule if_rule while_rule do_rule each_rule start_rule counted_rule for_rule label_rule labels_rule case_rule cases_rule switch_rule catch_rule clause_rule try_rule other_statement_rule statement_rule
-read_expressions = (refl, (refl, (refl, (refl, (refl, (refl, (refl, (refl, (refl, (refl, (refl, (refl, tt))))))))))))
+read_expressions = (refl, (refl, (refl, (refl, (refl, (refl, (refl, (refl, (refl, (refl, (refl, (refl, (refl, tt)))))))))))))
 
 pub read_statements : Each ReadsStatement statement_rows
 unfolding partners_from group_end statements_at below over_type behind_arguments heads_generic heads_call type_arguments_rule type_parameter_rule type_parameters_rule type_name_rule question_rule plain_type_rule annotation_rule parameter_rule optional_parameters_rule parameter_list_rule parameter_type_rule tail_rule tail_before_rule type_rule binary_rule assignment_rule prefix_rule postfix_rule interpolation_rule string_part_rule string_rule strings_rule argument_rule arguments_rule simple_rule name_rule parenthesis_rule closure_rule new_rule entry_rule collection_rule primary_rule selector_rule selected_rule incremented_rule unary_rule operated_rule right_rule operand_rule assignment_expression_rule throw_rule section_head_rule section_rule cascade_section_rule cascade_rule expression_rule block_rule declared_rule variable_rule variables_rule variable_statement_rule local_body_rule local_rest_rule local_function_rule function_statement_rule expression_statement_rule return_rule break_rule continue_rule rethrow_rule labeled_rule condition_rule if_rule while_rule do_rule each_rule start_rule counted_rule for_rule label_rule labels_rule case_rule cases_rule switch_rule catch_rule clause_rule try_rule other_statement_rule statement_rule

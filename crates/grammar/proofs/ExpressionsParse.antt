@@ -18,11 +18,10 @@ use Rattle.grammar.specs.declared.level.Level.{Level}
 use Rattle.grammar.specs.declared.level.Level.TheVariants as level
 use Rattle.grammar.specs.declared.level.Setting.{Setting}
 use Rattle.grammar.specs.declared.level.Setting.TheVariants as setting
-use Rattle.dart_tree.specs.Heights.{fits}
 use Rattle.grammar.specs.Tokens.{is, is_either, is_name, heads, heads_name, width, past}
 use Rattle.grammar.specs.Operators.{table, heads_sign, is_binary, is_assignment, take_assignment, assignment_rule}
 use Rattle.grammar.specs.Types.{Below, every_time, type_arguments_rule}
-use Rattle.grammar.specs.Expressions.{begins_expression, simple_string_of, string_text_of, simple_interpolation_of, interpolation_rule, string_part_rule, interpolated_of, string_rule, strings_of, strings_rule, heads_label, positional_of, named_of, argument_rule, arguments_of, arguments_rule, integer_of, boolean_of, null_of, this_of, super_of, identifier_of, simple_rule, generic_of, heads_generic, name_rule, parenthesis_of, parenthesis_rule, arrow_of, closure_of, heads_closure, closure_rule, new_of, new_rule, entry_of, entry_rule, listed_of, entries_of, collection_of, collection_rule, primary_rule, member_of, element_of, check_of, plain_call_of, generic_call_of, heads_call, selector_rule, select_with, selected_rule, one_time, postfix_of, unary_of, incremented_rule, unary_rule, operated_of, tested_of, cast_of, choices_of, operated_rule, right_rule, times, side_with, operand_rule, assign_of, assignment_expression_rule, throw_of, throw_rule, cascaded_name_of, cascaded_index_of, section_head_rule, section_rule, cascade_of, section_of, cascade_section_rule, cascade_rule, expression_rule}
+use Rattle.grammar.specs.Expressions.{begins_expression, simple_string_of, string_text_of, simple_interpolation_of, interpolation_rule, string_part_rule, interpolated_of, string_rule, strings_of, strings_rule, heads_label, positional_of, named_of, argument_rule, arguments_of, arguments_rule, integer_of, boolean_of, null_of, this_of, super_of, identifier_of, simple_rule, generic_of, heads_generic, name_rule, parenthesis_of, parenthesis_rule, arrow_of, closure_of, heads_closure, closure_rule, new_of, new_rule, entry_of, entry_rule, listed_of, entries_of, collection_of, collection_rule, primary_rule, member_of, element_of, check_of, plain_call_of, generic_call_of, heads_call, selector_rule, select_with, selected_rule, one_time, postfix_of, unary_of, incremented_rule, unary_rule, operated_of, tested_of, cast_of, choices_of, operated_rule, right_rule, times, side_with, operand_rule, assign_of, assignment_expression_rule, throw_of, throw_rule, cascaded_name_of, cascaded_index_of, section_head_rule, section_rule, cascade_of, section_of, cascade_section_rule, cascade_rule, expression_rule, is_open}
 use Rattle.grammar.specs.Descents.{Lower, begins_string, take_type_arguments, take_interpolation, take_string_part, take_string, take_strings, take_argument, take_arguments, take_simple, take_name, take_parenthesis, take_closure, take_new, take_entry, take_collection, take_primary, take_selector, take_selected, take_incremented, take_unary, take_operated, take_right, take_operand, take_assignment_expression, take_throw, take_section_head, take_section, take_cascade_section, take_cascade, take_expression}
 use Rattle.grammar.proofs.KindTests.{far, far_second, within, settled, still}
 use Rattle.grammar.proofs.TypesParse.{AllParse, begins_type, begins_primary, begins_operand, begins_section, begins_simple, type_arguments_parses, parameter_list_parses}
@@ -197,11 +196,11 @@ selector_parses m d l a =
 
 selected_parses : (n : ℕ) (m : Setting) (d : Below) (l : Lower) → AllParse d l → Parses (next begins_selector) (next begins_primary) (selected_rule n m d) (take_selected n m l)
 unfolding selected_rule take_selected
-selected_parses n m d l a = parses_chain every_time (fits n) select_with (sole_longest (primary_parses m d l a)) (sole_longest (selector_parses m d l a))
+selected_parses n m d l a = parses_chain every_time (is_open n) select_with (sole_longest (primary_parses m d l a)) (sole_longest (selector_parses m d l a))
 
 incremented_parses : (n : ℕ) (m : Setting) (d : Below) (l : Lower) → AllParse d l → Parses (next begins_postfix) (next begins_primary) (incremented_rule n m d) (take_incremented n m l)
 unfolding incremented_rule take_incremented
-incremented_parses n m d l a = parses_chain one_time (fits n) postfix_of (sole_longest (selected_parses n m d l a)) (sole_longest postfix_parses)
+incremented_parses n m d l a = parses_chain one_time (is_open n) postfix_of (sole_longest (selected_parses n m d l a)) (sole_longest postfix_parses)
 
 pub unary_parses : (n : ℕ) (m : Setting) (d : Below) (l : Lower) → AllParse d l → Parses (next begins_postfix) (next begins_operand) (unary_rule n m d) (take_unary n m l)
 unfolding unary_rule take_unary
@@ -259,7 +258,7 @@ right_parses m d l a level.Product above = operated_parses m d l a level.Product
 
 pub operand_sole : (n : ℕ) (m : Setting) (d : Below) (l : Lower) → AllParse d l → (above : List Level) → Sole (next begins_operand) (operand_rule n m d above) (take_operand n m l above)
 unfolding operand_rule take_operand
-operand_sole n m d l a above = sole_levels times (fits n) side_with (right_parses m d l a) (sole_longest (unary_parses n m d l a)) above
+operand_sole n m d l a above = sole_levels times (is_open n) side_with (right_parses m d l a) (sole_longest (unary_parses n m d l a)) above
 
 -- Assignments and cascades.
 
@@ -268,7 +267,7 @@ assigned_parses m d l a = parses_seq (parses_sole assignment_sole) (parses_sole 
 
 pub assignment_expression_sole : (n : ℕ) (m : Setting) (d : Below) (l : Lower) → AllParse d l → Sole (next begins_operand) (assignment_expression_rule n m d) (take_assignment_expression n m l)
 unfolding assignment_expression_rule take_assignment_expression
-assignment_expression_sole n m d l a = sole_once (fits n) assign_of (sole_longest (unary_parses n m d l a)) (sole_longest (assigned_parses m d l a))
+assignment_expression_sole n m d l a = sole_once (is_open n) assign_of (sole_longest (unary_parses n m d l a)) (sole_longest (assigned_parses m d l a))
 
 throw_parses : (m : Setting) (d : Below) (l : Lower) → AllParse d l → Parses nothing (heads kind.Throw) (throw_rule m d) (take_throw m l)
 unfolding throw_rule take_throw
@@ -285,8 +284,8 @@ pub section_parses : {s f : Test Token} (n : ℕ) (m : Setting) (d : Below) (l :
     Parses (heads_sign is_assignment) (next begins_section) (section_rule n m d p) (take_section n m l g)
 unfolding section_rule take_section
 section_parses n m d l a p g b =
-    parses_chain one_time (fits n) assign_of
-    (sole_longest (parses_chain every_time (fits n) select_with (sole_longest (section_head_parses p g b)) (sole_longest (selector_parses m d l a))))
+    parses_chain one_time (is_open n) assign_of
+    (sole_longest (parses_chain every_time (is_open n) select_with (sole_longest (section_head_parses p g b)) (sole_longest (selector_parses m d l a))))
     (sole_longest (parses_seq (parses_sole assignment_sole) (parses_sole (a.operand m table)) (still _)))
 
 abbrev begins_cascade : Test Token
@@ -302,7 +301,7 @@ cascade_section_parses m d l a =
 
 cascade_sole : (n : ℕ) (m : Setting) (d : Below) (l : Lower) → AllParse d l → Sole (next begins_operand) (cascade_rule n m d) (take_cascade n m l)
 unfolding cascade_rule take_cascade
-cascade_sole n m d l a = sole_longest (parses_chain every_time (fits n) cascade_of (operand_sole n m d l a table) (sole_longest (cascade_section_parses m d l a)))
+cascade_sole n m d l a = sole_longest (parses_chain every_time (is_open n) cascade_of (operand_sole n m d l a table) (sole_longest (cascade_section_parses m d l a)))
 
 -- Where an assignment comes behind an operand, nothing else goes on there.
 
@@ -329,21 +328,21 @@ no_side level.Product ts e = assignment_apart level.Product ts e
 operand_stays : (n : ℕ) (m : Setting) (d : Below) (l : Lower) → AllParse d l → (ts : List Token) (x : Reading Token Tree) → take_unary n m l ts ≡ Some x → heads_sign is_assignment x.1 ≡ true → take_operand n m l table ts ≡ Some x
 unfolding take_operand
 operand_stays n m d l a ts x e heads =
-    levels_climb times (fits n) side_with (take_right m l) (take_unary n m l) table ts
-    ∙ ap (λ (o : Option (Reading Token Tree)). bind o (climb times (fits n) side_with (take_right m l) ts table)) e
-    ∙ climb_stays times (fits n) side_with (take_right m l) ts table x (λ which above. parses_misses (right_parses m d l a which above) x.1 (no_side which x.1 heads))
+    levels_climb times (is_open n) side_with (take_right m l) (take_unary n m l) table ts
+    ∙ ap (λ (o : Option (Reading Token Tree)). bind o (climb times (is_open n) side_with (take_right m l) ts table)) e
+    ∙ climb_stays times (is_open n) side_with (take_right m l) ts table x (λ which above. parses_misses (right_parses m d l a which above) x.1 (no_side which x.1 heads))
 
 cascade_stays : (n : ℕ) (m : Setting) (d : Below) (l : Lower) → AllParse d l → (ts : List Token) (x : Reading Token Tree) → take_unary n m l ts ≡ Some x → heads_sign is_assignment x.1 ≡ true → take_cascade n m l ts ≡ Some x
 unfolding take_cascade
 cascade_stays n m d l a ts x e heads =
-    ap (λ (o : Option (Reading Token Tree)). bind o (λ y. take_onto ts (every_time y.1) (fits n) cascade_of (take_cascade_section m l) y.0 y.1)) (operand_stays n m d l a ts x e heads)
-    ∙ onto_stays ts (every_time x.1) (fits n) cascade_of (take_cascade_section m l) x.0 x.1 (parses_misses (cascade_section_parses m d l a) x.1 (far_second (heads_sign is_assignment) begins_cascade refl (λ t ts. refl) x.1 heads))
+    ap (λ (o : Option (Reading Token Tree)). bind o (λ y. take_onto ts (every_time y.1) (is_open n) cascade_of (take_cascade_section m l) y.0 y.1)) (operand_stays n m d l a ts x e heads)
+    ∙ onto_stays ts (every_time x.1) (is_open n) cascade_of (take_cascade_section m l) x.0 x.1 (parses_misses (cascade_section_parses m d l a) x.1 (far_second (heads_sign is_assignment) begins_cascade refl (λ t ts. refl) x.1 heads))
 
 -- an assignment is longer than what else is read
 assignment_wins : (n : ℕ) (m : Setting) (d : Below) (l : Lower) → AllParse d l → Wins (heads_sign is_assignment) (take_assignment_expression n m l) (throw_rule m d ∣ cascade_rule n m d)
 unfolding take_assignment_expression
 assignment_wins n m d l a ts b e =
-    let r = once_found (fits n) assign_of (take_unary n m l) (take_assignment ▸ l.expression m) ts b e in
+    let r = once_found (is_open n) assign_of (take_unary n m l) (take_assignment ▸ l.expression m) ts b e in
     let follows : heads_sign is_assignment r.0.1 ≡ true = parses_begins (assigned_parses m d l a) r.0.1 r.1 r.3 in
     let shorter : length r.1.1 < length r.0.1 = parses_falls (assigned_parses m d l a) r.0.1 r.1 r.3 in
     let begins : next begins_operand ts ≡ true = parses_begins (unary_parses n m d l a) ts r.0 r.2 in

@@ -2,6 +2,7 @@
 use Rattle.std.specs.Prelude.{ℕ, zero, suc, []}
 use Rattle.readings.specs.Readings.{longest_of}
 use Rattle.dart_tokens.specs.declared.token.Kind.TheVariants as kind
+use Rattle.grammar.specs.declared.level.Setting.TheVariants as setting
 use Rattle.grammar.specs.Tokens.{heads, anything}
 use Rattle.grammar.specs.Types.{Below, heads_field, plain_type_rule, type_rule}
 use Rattle.grammar.specs.Expressions.{heads_nullable, simple_rule, unary_rule, operand_rule, section_head_rule, section_rule, expression_rule}
@@ -30,7 +31,7 @@ below (suc n) = record {
   expression = λ m. expression_rule n m (below n);
   operand = λ m above. operand_rule n m (below n) above;
   unary = λ m. longest_of (unary_rule n m (below n));
-  section = λ m. longest_of (section_rule n m (below n) (expression_rule n m (below n)));
+  section = λ m. longest_of (section_rule n m (below n) (expression_rule n setting.Plain (below n)));
   simple = longest_of simple_rule;
   block = longest_of block_rule;
   statement = statement_rule (below n);

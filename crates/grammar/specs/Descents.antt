@@ -19,7 +19,7 @@ use Rattle.dart_tree.specs.Heights.{fits}
 use Rattle.grammar.specs.Tokens.{is, is_either, is_name, is_type_name, heads, heads_name, anything, width, past}
 use Rattle.grammar.specs.Types.{separated, inner, type_arguments_of, type_parameter_of, type_parameters_of, void_of, heads_qualified, qualified_of, unqualified_of, named_type_of, annotation_of, heads_required, heads_field, parameter_of, parameter_list_of, parameter_type_of, Tail, tail_of, first_tail_of, next_tail_of, every_time}
 use Rattle.grammar.specs.Operators.{table, heads_sign, is_binary, take_binary, take_assignment, unary_at, postfix_at}
-use Rattle.grammar.specs.Expressions.{heads_nullable, simple_string_of, string_text_of, simple_interpolation_of, interpolated_of, strings_of, heads_label, positional_of, named_of, arguments_of, integer_of, boolean_of, null_of, this_of, super_of, identifier_of, heads_generic, generic_of, parenthesis_of, arrow_of, closure_of, heads_closure, new_of, entry_of, listed_of, entries_of, collection_of, Selector, member_of, element_of, check_of, plain_call_of, generic_call_of, heads_call, select_with, one_time, postfix_of, unary_of, Side, operated_of, tested_of, cast_of, choices_of, times, side_with, assign_of, throw_of, cascaded_name_of, cascaded_index_of, cascade_of, section_of}
+use Rattle.grammar.specs.Expressions.{heads_nullable, simple_string_of, string_text_of, simple_interpolation_of, interpolated_of, strings_of, heads_label, positional_of, named_of, arguments_of, integer_of, boolean_of, null_of, this_of, super_of, identifier_of, heads_generic, generic_of, parenthesis_of, arrow_of, closure_of, heads_closure, new_of, entry_of, listed_of, entries_of, collection_of, Selector, member_of, element_of, check_of, plain_call_of, generic_call_of, heads_call, select_with, one_time, postfix_of, unary_of, Side, operated_of, tested_of, cast_of, choices_of, times, side_with, assign_of, throw_of, cascaded_name_of, cascaded_index_of, cascade_of, section_of, is_open}
 use Rattle.grammar.specs.Statements.{error_of, block_of, final_of, var_of, typed_of, variable_of, variables_of, ended, variable_statement_of, arrow_body_of, plain_function_of, function_statement_of, expression_statement_of, return_of, break_of, continue_of, rethrow_of, labeled_of, without_else, is_nearest, with_else, if_of, while_of, do_of, Header, each_of, counted_of, for_of, label_of, labels_of, default_of, case_of, case_size, cases_end_with_default, switch_of, catch_of, on_of, clause_of, has_clause, try_of}
 
 -- a string begins with this token
@@ -144,10 +144,10 @@ unfoldable pub take_selector : Setting → Lower → Descent Token Selector
 take_selector m l = take_where (heads kind.Period) (take_turn (member_of false) (take_token (is kind.Period) ▸ take_token is_name)) (take_where (heads kind.QuestionPeriod) (take_turn (member_of true) (take_token (is kind.QuestionPeriod) ▸ take_token is_name)) (take_where (heads kind.OpenBracket) (take_turn (element_of false) (take_inside (is kind.OpenBracket) width past (l.expression setting.Plain))) (take_where (heads kind.QuestionBracket) (take_turn (element_of true) (take_inside (is kind.QuestionBracket) width past (l.expression setting.Plain))) (take_where (heads kind.Bang) (take_turn check_of (take_token (is kind.Bang))) (take_where (heads kind.OpenParenthesis) (take_turn plain_call_of (take_arguments l)) (take_where (heads_call m) (take_turn generic_call_of (take_type_arguments l ▸ take_arguments l)) (λ ts. None)))))))
 
 unfoldable pub take_selected : ℕ → Setting → Lower → Descent Token Tree
-take_selected n m l = take_chain every_time (fits n) select_with (take_primary m l) (take_selector m l)
+take_selected n m l = take_chain every_time (is_open n) select_with (take_primary m l) (take_selector m l)
 
 unfoldable pub take_incremented : ℕ → Setting → Lower → Descent Token Tree
-take_incremented n m l = take_chain one_time (fits n) postfix_of (take_selected n m l) (take_postfix)
+take_incremented n m l = take_chain one_time (is_open n) postfix_of (take_selected n m l) (take_postfix)
 
 unfoldable pub take_unary : ℕ → Setting → Lower → Descent Token Tree
 take_unary n m l = take_where (next begins_prefix) (take_make unary_of (take_prefix ▸ l.unary m)) (take_incremented n m l)
@@ -170,10 +170,10 @@ take_right m l level.Sum above = take_operated m l level.Sum above
 take_right m l level.Product above = take_operated m l level.Product above
 
 unfoldable pub take_operand : ℕ → Setting → Lower → List Level → Descent Token Tree
-take_operand n m l above = take_levels times (fits n) side_with (take_right m l) (take_unary n m l) above
+take_operand n m l above = take_levels times (is_open n) side_with (take_right m l) (take_unary n m l) above
 
 unfoldable pub take_assignment_expression : ℕ → Setting → Lower → Descent Token Tree
-take_assignment_expression n m l = take_once (fits n) assign_of (take_unary n m l) (take_assignment ▸ l.expression m)
+take_assignment_expression n m l = take_once (is_open n) assign_of (take_unary n m l) (take_assignment ▸ l.expression m)
 
 unfoldable pub take_throw : Setting → Lower → Descent Token Tree
 take_throw m l = take_make throw_of (take_token (is kind.Throw) ▸ l.expression m)
@@ -182,13 +182,13 @@ unfoldable pub take_section_head : Descent Token Tree → Descent Token Tree
 take_section_head expression = take_where (heads_name) (take_turn cascaded_name_of (take_token is_name)) (take_make cascaded_index_of (take_inside (is kind.OpenBracket) width past expression))
 
 unfoldable pub take_section : ℕ → Setting → Lower → (expression : Descent Token Tree) → Descent Token Tree
-take_section n m l expression = take_chain one_time (fits n) assign_of ((take_chain every_time (fits n) select_with (take_section_head expression) (take_selector m l))) (take_assignment ▸ l.operand m table)
+take_section n m l expression = take_chain one_time (is_open n) assign_of ((take_chain every_time (is_open n) select_with (take_section_head expression) (take_selector m l))) (take_assignment ▸ l.operand m table)
 
 unfoldable pub take_cascade_section : Setting → Lower → Descent Token (Bool × Tree)
 take_cascade_section m l = take_where (heads kind.PeriodPeriod) (take_turn (section_of false) (take_token (is kind.PeriodPeriod) ▸ l.section m)) (take_turn (section_of true) (take_token (is kind.QuestionPeriodPeriod) ▸ l.section m))
 
 unfoldable pub take_cascade : ℕ → Setting → Lower → Descent Token Tree
-take_cascade n m l = (take_chain every_time (fits n) cascade_of (take_operand n m l table) (take_cascade_section m l))
+take_cascade n m l = (take_chain every_time (is_open n) cascade_of (take_operand n m l table) (take_cascade_section m l))
 
 unfoldable pub take_expression : ℕ → Setting → Lower → Descent Token Tree
 take_expression n m l = take_assignment_expression n m l ⊘ take_where (heads kind.Throw) (take_throw m l) (take_cascade n m l)
@@ -319,7 +319,7 @@ lower (suc n) = record {
   expression = λ m. take_expression n m (lower n);
   operand = λ m above. take_operand n m (lower n) above;
   unary = λ m. take_unary n m (lower n);
-  section = λ m. take_section n m (lower n) (take_expression n m (lower n));
+  section = λ m. take_section n m (lower n) (take_expression n setting.Plain (lower n));
   simple = take_simple;
   block = take_block;
   statement = take_statement (lower n);

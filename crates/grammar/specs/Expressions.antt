@@ -28,11 +28,15 @@ abbrev pub goes_on : Token → Bool
 goes_on t =
     is kind.Semicolon t || is kind.Comma t || is kind.OpenBrace t || is kind.Colon t || is kind.Question t || is kind.Period t || is kind.QuestionPeriod t
     || is kind.PeriodPeriod t || is kind.QuestionPeriodPeriod t || is kind.OpenBracket t || is kind.QuestionBracket t || is kind.OpenParenthesis t || is kind.Bang t
-    || is kind.PlusPlus t || is kind.MinusMinus t || is kind.Is t || is kind.As t
+    || is kind.PlusPlus t || is kind.MinusMinus t || is kind.Is t
+
+-- an `as` comes next that a type may stand behind: before `(` or `<` it is a method's name
+abbrev pub heads_cast : Test Token
+heads_cast = first_then (is kind.As) (λ ts. not (next (is_either kind.OpenParenthesis kind.Less) ts))
 
 -- an expression goes on with these tokens
 abbrev pub heads_rest : Test Token
-heads_rest ts = next goes_on ts || is_some (sign_at ts)
+heads_rest ts = next goes_on ts || heads_cast ts || is_some (sign_at ts)
 
 -- A `{` comes next that belongs to an expression: in an initializer list it may also be the constructor's body, and is that where no expression goes on behind its group.
 abbrev pub heads_brace : Setting → Test Token
@@ -231,6 +235,23 @@ primary_rule m d =
     ∣ turn null_of (token (is kind.Null)) ∣ turn this_of (token (is kind.This)) ∣ turn super_of (token (is kind.Super)) ∣ name_rule d
     ∣ where_next (heads_closure m) (closure_rule m d) (parenthesis_rule d) ∣ new_rule d ∣ collection_rule d
 
+-- What nothing is read behind.
+
+-- The expression has taken all that can stand behind it, or its last part has: a closure with `=>`, whose body takes it; a conditional, whose else branch takes it; an operator's operand on the right, an assigned value, and a section of a cascade that end in one.
+abbrev pub reads_on : Tree → Bool
+reads_on (function_expression at parameters body) = reads_on body
+reads_on (expression_body at value) = true
+reads_on (conditional at condition then_value else_value) = true
+reads_on (unary_expression at operator operand) = reads_on operand
+reads_on (binary_expression at operator left right) = reads_on right
+reads_on (assignment at operator target value) = reads_on value
+reads_on (cascade at receiver null_aware section) = reads_on section
+reads_on t = false
+
+-- something may stand behind the expression: it has not read on, and its node may lie one deeper
+abbrev pub is_open : ℕ → Tree → Bool
+is_open n t = fits n t && not (reads_on t)
+
 -- Selectors.
 
 -- what a selector adds
@@ -281,7 +302,7 @@ select_with read left (called type_arguments arguments) = call (place_over read)
 
 -- primary selector*
 unfoldable pub selected_rule : ℕ → Setting → Below → Rule Token Tree
-selected_rule n m d = chain every_time (fits n) select_with (longest_of (primary_rule m d)) (longest_of (selector_rule m d))
+selected_rule n m d = chain every_time (is_open n) select_with (longest_of (primary_rule m d)) (longest_of (selector_rule m d))
 
 -- Operands.
 
@@ -297,7 +318,7 @@ unary_of read (operator, operand) = unary_expression (place_over read) operator 
 
 -- primary selector* ('++' | '--')?
 unfoldable pub incremented_rule : ℕ → Setting → Below → Rule Token Tree
-incremented_rule n m d = chain one_time (fits n) postfix_of (longest_of (selected_rule n m d)) (longest_of postfix_rule)
+incremented_rule n m d = chain one_time (is_open n) postfix_of (longest_of (selected_rule n m d)) (longest_of postfix_rule)
 
 -- unary: prefix-operator unary | primary selector* ('++' | '--')?
 unfoldable pub unary_rule : ℕ → Setting → Below → Rule Token Tree
@@ -366,7 +387,7 @@ side_with read left (choices then_value else_value) = conditional (place_over re
 
 -- an operand of the levels of a table
 unfoldable pub operand_rule : ℕ → Setting → Below → List Level → Rule Token Tree
-operand_rule n m d above = levels times (fits n) side_with (right_rule m d) (longest_of (unary_rule n m d)) above
+operand_rule n m d above = levels times (is_open n) side_with (right_rule m d) (longest_of (unary_rule n m d)) above
 
 -- Expressions.
 
@@ -375,7 +396,7 @@ assign_of read target (operator, value) = assignment (place_over read) operator 
 
 -- assignment: unary assignment-operator expression
 unfoldable pub assignment_expression_rule : ℕ → Setting → Below → Rule Token Tree
-assignment_expression_rule n m d = once (fits n) assign_of (longest_of (unary_rule n m d)) (longest_of (assignment_rule ▹ d.expression m))
+assignment_expression_rule n m d = once (is_open n) assign_of (longest_of (unary_rule n m d)) (longest_of (assignment_rule ▹ d.expression m))
 
 abbrev pub throw_of : List Token → Token × Tree → Tree
 throw_of read (word, value) = throw_expression (place_over read) value
@@ -397,8 +418,8 @@ section_head_rule expression = turn cascaded_name_of (token is_name) ∣ make ca
 -- section: (identifier | '[' expression ']') selector* (assignment-operator conditional)?
 unfoldable pub section_rule : ℕ → Setting → Below → (expression : Rule Token Tree) → Rule Token Tree
 section_rule n m d expression =
-    chain one_time (fits n) assign_of
-    (longest_of (chain every_time (fits n) select_with (longest_of (section_head_rule expression)) (longest_of (selector_rule m d))))
+    chain one_time (is_open n) assign_of
+    (longest_of (chain every_time (is_open n) select_with (longest_of (section_head_rule expression)) (longest_of (selector_rule m d))))
     (longest_of (assignment_rule ▹ d.operand m table))
 
 abbrev pub cascade_of : List Token → Tree → Bool × Tree → Tree
@@ -415,7 +436,7 @@ cascade_section_rule m d =
 
 -- cascade: conditional (('..' | '?..') section)*
 unfoldable pub cascade_rule : ℕ → Setting → Below → Rule Token Tree
-cascade_rule n m d = longest_of (chain every_time (fits n) cascade_of (operand_rule n m d table) (longest_of (cascade_section_rule m d)))
+cascade_rule n m d = longest_of (chain every_time (is_open n) cascade_of (operand_rule n m d table) (longest_of (cascade_section_rule m d)))
 
 -- expression: assignment | 'throw' expression | cascade
 unfoldable pub expression_rule : ℕ → Setting → Below → Rule Token Tree

@@ -151,6 +151,13 @@ closure =
     (function_expression (over 0 6) (parameter_list (over 0 2) (trees_of []))
     (expression_body (over 2 6) (binary_expression (over 3 6) (operator Add 4 5) (name 3) (integer_literal (over 5 6) 5)))) 6
 
+-- `()=>a<b<c`: nothing is read behind a closure with `=>`
+abbrev closure_alone : Row
+closure_alone =
+    row (OpenParenthesis ∷ CloseParenthesis ∷ Arrow ∷ Identifier ∷ Less ∷ Identifier ∷ Less ∷ Identifier ∷ [])
+    (function_expression (over 0 6) (parameter_list (over 0 2) (trees_of []))
+    (expression_body (over 2 6) (binary_expression (over 3 6) (operator LessThan 4 5) (name 3) (name 5)))) 6
+
 -- `a..b()..c()`: a section over a section
 abbrev cascades : Row
 cascades =
@@ -179,7 +186,7 @@ two_arguments =
 
 -- how expressions are read
 abbrev pub expression_rows : List Row
-expression_rows = differences ∷ either_of ∷ generic_call ∷ called_member ∷ compared_choice ∷ comparison ∷ tested_choice ∷ tested_nullable ∷ closure ∷ cascades ∷ shifted ∷ two_arguments ∷ []
+expression_rows = differences ∷ either_of ∷ generic_call ∷ called_member ∷ compared_choice ∷ comparison ∷ tested_choice ∷ tested_nullable ∷ closure ∷ closure_alone ∷ cascades ∷ shifted ∷ two_arguments ∷ []
 
 -- `if(a)if(b);else;`: the `else` belongs to the nearest `if`
 abbrev dangling_else : Row

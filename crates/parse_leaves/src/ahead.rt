@@ -4,7 +4,7 @@ ghost use Rattle.std.specs.Prelude.{◌≡◌, ◌||◌};
 ghost use Rattle.readings.specs.Readings.{next};
 ghost use Rattle.grammar.specs.Tokens.{is, is_name, is_type_name, is_either, heads, heads_name, first_then, group_then};
 ghost use Rattle.grammar.specs.Types.{heads_qualified, heads_required, heads_field, goes_on_parameter};
-ghost use Rattle.grammar.specs.Expressions.{goes_on, heads_rest, heads_brace, heads_body, heads_closure, begins_expression, heads_tail, heads_choice, heads_nullable, heads_label, heads_use, behind_call};
+ghost use Rattle.grammar.specs.Expressions.{goes_on, heads_cast, heads_rest, heads_brace, heads_body, heads_closure, begins_expression, heads_tail, heads_choice, heads_nullable, heads_label, heads_use, behind_call};
 ghost use Rattle.grammar.specs.Descents.{begins_string, begins_prefix};
 
 use crate::leaves::tokens_behind;
@@ -129,7 +129,18 @@ fn goes_on(token: Token) -> bool
         || token.kind == Kind::PlusPlus
         || token.kind == Kind::MinusMinus
         || token.kind == Kind::Is
-        || token.kind == Kind::As
+}
+
+/// An `as` comes next that a type may stand behind.
+fn heads_cast(tokens: &[Token]) -> bool
+    ensures { result ≡ heads_cast tokens.now }
+{
+    match tokens.split_first() {
+        Some((first, rest)) => {
+            first.kind == Kind::As && !heads_either(rest, Kind::OpenParenthesis, Kind::Less)
+        }
+        None => false,
+    }
 }
 
 /// An expression goes on with these tokens.
@@ -140,7 +151,7 @@ fn heads_rest(tokens: &[Token]) -> bool
         Some((first, _)) => goes_on(*first),
         None => false,
     };
-    goes || sign_at(tokens).is_some()
+    goes || heads_cast(tokens) || sign_at(tokens).is_some()
 }
 
 /// A `{` comes next, and what comes behind its group goes on with an expression.

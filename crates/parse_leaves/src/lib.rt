@@ -3,7 +3,8 @@
 //!
 //! `leaves.rt` reads single tokens and groups, `operators.rt` operators, also those whose lexemes
 //! stand side by side, and `type_leaves.rt` the parts of types that hold no other node; `ahead.rt`
-//! has the tests of the tokens that come next, `outline.rt` the one of type arguments, and `places.rt` where what was read stands. Each
+//! has the tests of the tokens that come next, `outline.rt` the one of type arguments, `behind.rt` whether anything may stand
+//! behind an expression, and `places.rt` where what was read stands. Each
 //! contract states that the answer is exactly what the way down of `grammar` finds or tests there
 //! (`specs/Answers.antt` says how answers and findings agree).
 //!
@@ -15,6 +16,7 @@
 #![tactic(auto)]
 
 mod ahead;
+mod behind;
 mod below;
 mod filled;
 mod leaves;
@@ -29,6 +31,7 @@ pub use ahead::{
     heads, heads_closure, heads_either, heads_field, heads_label, heads_name, heads_nullable,
     heads_prefix, heads_qualified, heads_required, heads_string,
 };
+pub use behind::is_open;
 pub use below::Below;
 pub use filled::{block_body, expression_group};
 pub use leaves::{

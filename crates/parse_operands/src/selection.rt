@@ -3,9 +3,9 @@
 ghost use Rattle.std.specs.Prelude.{◌≡◌, ◌≢◌, ◌+◌, ◌≤◌, Err, length, IfOk};
 ghost use Rattle.readings.specs.Readings.{tokens_read};
 ghost use Rattle.readings.specs.Descent.{take_token, take_inside, take_turn, take_make, take_onto, ◌▸◌};
-ghost use Rattle.dart_tree.specs.Heights.{higher, height, fits};
+ghost use Rattle.dart_tree.specs.Heights.{higher, height};
 ghost use Rattle.grammar.specs.Tokens.{is, is_name, width, past};
-ghost use Rattle.grammar.specs.Expressions.{member_of, element_of, check_of, plain_call_of, generic_call_of, select_with, postfix_of, unary_of};
+ghost use Rattle.grammar.specs.Expressions.{member_of, element_of, check_of, plain_call_of, generic_call_of, select_with, postfix_of, unary_of, is_open};
 ghost use Rattle.grammar.specs.Descents.{lower, take_type_arguments, take_arguments, take_selector, take_selected, take_incremented, take_prefix, take_unary};
 ghost use Rattle.parse_leaves.specs.declared.miss.Miss.TheVariants.{NoReading};
 ghost use Rattle.parse_leaves.specs.Answers.{Gives, IsDeep};
@@ -18,7 +18,7 @@ use dart_tree::{Expr, ExprNode, PostfixOperator};
 use grammar::{Setting, Token};
 use parse_leaves::{
     Below, Miss, Selector, expression_group, heads, heads_call, heads_prefix, higher,
-    identifier_at, name, place_over, postfix_operator, prefix_operator, span_of, token,
+    identifier_at, is_open, name, place_over, postfix_operator, prefix_operator, span_of, token,
 };
 use parse_types::type_arguments;
 use std::alloc::Global;
@@ -192,7 +192,7 @@ fn selected_node(
 }
 
 /// The selectors behind an operand.
-#[tactic(auto, using(parse_leaves::specs::Loops::chain_out, parse_leaves::specs::Loops::chain_deep, parse_leaves::specs::Loops::chain_ends, parse_leaves::specs::Loops::chain_goes, parse_leaves::specs::Loops::fits_deep, parse_leaves::specs::Loops::fits_not, parse_leaves::specs::Sizes::higher_within))]
+#[tactic(auto, using(parse_leaves::specs::Loops::chain_out, parse_leaves::specs::Loops::chain_deep, parse_leaves::specs::Loops::chain_ends, parse_leaves::specs::Loops::chain_goes, parse_leaves::specs::Sizes::higher_within))]
 pub fn selectors<'k, B: Below<'k>>(
     below: &B,
     alloc: Global,
@@ -205,7 +205,7 @@ pub fn selectors<'k, B: Below<'k>>(
     requires limit { B.room below.now ≤ 200 }
     requires sound { B.sound below.now }
     requires known { IsDeep (B.room below.now + 1) first reach }
-    ensures reading { Gives (λ x. (x.0, x.2.now)) result (take_onto start.now (length tokens.now) (fits (B.room below.now)) select_with (take_selector setting (lower (B.room below.now))) first tokens.now) }
+    ensures reading { Gives (λ x. (x.0, x.2.now)) result (take_onto start.now (length tokens.now) (is_open (B.room below.now)) select_with (take_selector setting (lower (B.room below.now))) first tokens.now) }
     ensures deep { IfOk result (λ x. IsDeep (B.room below.now + 1) x.0 x.1) }
 {
     let room = below.room();
@@ -214,7 +214,7 @@ pub fn selectors<'k, B: Below<'k>>(
     let mut rest = tokens;
     let mut more = tokens.len();
     while more > 0 {
-        if height > room {
+        if !is_open(room, height, &left) {
             return Ok((left, height, rest));
         }
         match selector(below, alloc, setting, rest) {
@@ -271,7 +271,7 @@ fn postfix_node(
 }
 
 /// An operand, and maybe `++` or `--` behind it.
-#[tactic(auto, unfolding(grammar::specs::Descents::take_incremented), using(parse_leaves::specs::Loops::fits_deep, parse_leaves::specs::Loops::fits_not))]
+#[tactic(auto, unfolding(grammar::specs::Descents::take_incremented))]
 fn incremented<'k, B: Below<'k>>(
     below: &B,
     alloc: Global,
@@ -284,7 +284,7 @@ fn incremented<'k, B: Below<'k>>(
     ensures deep { IfOk result (λ x. IsDeep (B.room below.now + 1) x.0 x.1) }
 {
     let (operand, height, rest) = selected(below, alloc, setting, tokens)?;
-    if height > below.room() {
+    if !is_open(below.room(), height, &operand) {
         return Ok((operand, height, rest));
     }
     match postfix_operator(rest) {

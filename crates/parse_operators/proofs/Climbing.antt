@@ -2,18 +2,17 @@
 use Rattle.std.proofs.Common.{◌≡◌, ℕ, suc, ◌-◌, ◌<◌, ◌≤◌, List, [], ◌∷◌, length, drop, get_or, Option, Some, refl, sym, ap, ◌∙◌, arith}
 use Rattle.std.proofs.Math.Seq.{drop-cons}
 use Rattle.dart_tree.specs.Tree.{Tree}
-use Rattle.dart_tree.specs.Heights.{fits}
 use Rattle.readings.specs.Readings.{Reading}
 use Rattle.readings.specs.Descent.{bind, take_onto, climb}
 use Rattle.grammar.specs.declared.token.Token.{Token}
 use Rattle.grammar.specs.declared.level.Level.{Level}
 use Rattle.grammar.specs.declared.level.Setting.{Setting}
-use Rattle.grammar.specs.Expressions.{times, side_with}
+use Rattle.grammar.specs.Expressions.{times, side_with, is_open}
 use Rattle.grammar.specs.Descents.{Lower, take_right}
 
 -- what the levels behind so many of a table make of an operand
 abbrev pub climbed : ℕ → Setting → Lower → List Token → ℕ → List Level → Reading Token Tree → Option (Reading Token Tree)
-climbed n m l start less levels x = climb times (fits n) side_with (take_right m l) start (drop less levels) x
+climbed n m l start less levels x = climb times (is_open n) side_with (take_right m l) start (drop less levels) x
 
 none_behind : {A : Type 0} (n : ℕ) (xs : List A) → n ≡ length xs → drop n xs ≡ []
 none_behind n [] e = rw e refl
@@ -27,17 +26,17 @@ level_at levels less more which some few last at =
 
 -- behind all levels the operand stays as it is
 pub climb_begins : (n : ℕ) (m : Setting) (l : Lower) (start : List Token) (more : ℕ) (levels : List Level) (left : Tree) (ts : List Token) → more ≡ length levels → climbed n m l start more levels (left, ts) ≡ Some (left, ts)
-climb_begins n m l start more levels left ts e = ap (λ (rs : List Level). climb times (fits n) side_with (take_right m l) start rs (left, ts)) (none_behind more levels e)
+climb_begins n m l start more levels left ts e = ap (λ (rs : List Level). climb times (is_open n) side_with (take_right m l) start rs (left, ts)) (none_behind more levels e)
 
 -- one more level
 pub climb_goes : (n : ℕ) (m : Setting) (l : Lower) (start : List Token) (less more : ℕ) (levels : List Level) (which : Level) (x : Reading Token Tree) (left new : Tree) (us vs : List Token) → climbed n m l start more levels x ≡ Some (left, us) →
-    0 < more → more ≤ length levels → less ≡ more - 1 → which ≡ get_or levels less which → take_onto start (times which us) (fits n) side_with (take_right m l which (drop more levels)) left us ≡ Some (new, vs) →
+    0 < more → more ≤ length levels → less ≡ more - 1 → which ≡ get_or levels less which → take_onto start (times which us) (is_open n) side_with (take_right m l which (drop more levels)) left us ≡ Some (new, vs) →
     climbed n m l start less levels x ≡ Some (new, vs)
 climb_goes n m l start less more levels which x left new us vs so some few last at found =
-    ap (λ (rs : List Level). climb times (fits n) side_with (take_right m l) start rs x) (level_at levels less more which some few last at)
-    ∙ ap (λ o. bind o (λ y. take_onto start (times which y.1) (fits n) side_with (take_right m l which (drop more levels)) y.0 y.1)) so ∙ found
+    ap (λ (rs : List Level). climb times (is_open n) side_with (take_right m l) start rs x) (level_at levels less more which some few last at)
+    ∙ ap (λ o. bind o (λ y. take_onto start (times which y.1) (is_open n) side_with (take_right m l which (drop more levels)) y.0 y.1)) so ∙ found
 
 -- with no level left it is the whole table
 pub climb_ends : (n : ℕ) (m : Setting) (l : Lower) (start : List Token) (more : ℕ) (levels : List Level) (x : Reading Token Tree) (left : Tree) (us : List Token) → climbed n m l start more levels x ≡ Some (left, us) → more ≡ 0 →
-    climb times (fits n) side_with (take_right m l) start levels x ≡ Some (left, us)
-climb_ends n m l start more levels x left us so e = ap (λ k. climb times (fits n) side_with (take_right m l) start (drop k levels) x) (sym e) ∙ so
+    climb times (is_open n) side_with (take_right m l) start levels x ≡ Some (left, us)
+climb_ends n m l start more levels x left us so e = ap (λ k. climb times (is_open n) side_with (take_right m l) start (drop k levels) x) (sym e) ∙ so

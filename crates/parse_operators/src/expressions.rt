@@ -3,9 +3,9 @@
 ghost use Rattle.std.specs.Prelude.{◌≡◌, ◌≢◌, ℕ, ◌+◌, ◌≤◌, Some, Err, drop, length, IfOk};
 ghost use Rattle.readings.specs.Readings.{tokens_read};
 ghost use Rattle.readings.specs.Descent.{take_token, take_maybe, take_turn, take_where, take_onto, climb, ◌▸◌};
-ghost use Rattle.dart_tree.specs.Heights.{higher, height, fits};
+ghost use Rattle.dart_tree.specs.Heights.{higher, height};
 ghost use Rattle.grammar.specs.Tokens.{is, heads};
-ghost use Rattle.grammar.specs.Expressions.{choices_of, tested_of, cast_of, times, side_with, assign_of, cascade_of};
+ghost use Rattle.grammar.specs.Expressions.{choices_of, tested_of, cast_of, times, side_with, assign_of, cascade_of, is_open};
 ghost use Rattle.grammar.specs.Descents.{lower, take_operated, take_right, take_unary, take_operand, take_throw, take_cascade_section, take_cascade, take_expression};
 ghost use Rattle.grammar.specs.Operators.{take_assignment};
 ghost use Rattle.parse_leaves.specs.declared.miss.Miss.TheVariants.{NoReading};
@@ -18,7 +18,7 @@ use dart_tree::{AssignmentOperator, Expr, ExprNode};
 use grammar::{Level, Setting, Token};
 use parse_leaves::{
     Below, Miss, Side, assignment_operator, binary_operator, heads, heads_binary, heads_call,
-    higher, place_over, token,
+    higher, is_open, place_over, token,
 };
 use parse_operands::unary_within;
 use std::alloc::Global;
@@ -247,7 +247,7 @@ fn times(level: Level, tokens: &[Token]) -> usize
 }
 
 /// The right sides of a level behind an operand.
-#[tactic(auto, using(parse_leaves::specs::Loops::chain_out, parse_leaves::specs::Loops::chain_deep, parse_leaves::specs::Loops::chain_ends, parse_leaves::specs::Loops::chain_goes, parse_leaves::specs::Loops::fits_deep, parse_leaves::specs::Loops::fits_not, parse_leaves::specs::Sizes::higher_within))]
+#[tactic(auto, using(parse_leaves::specs::Loops::chain_out, parse_leaves::specs::Loops::chain_deep, parse_leaves::specs::Loops::chain_ends, parse_leaves::specs::Loops::chain_goes, parse_leaves::specs::Sizes::higher_within))]
 fn repeat<'k, B: Below<'k>>(
     below: &B,
     alloc: Global,
@@ -263,7 +263,7 @@ fn repeat<'k, B: Below<'k>>(
     requires sound { B.sound below.now }
     requires last { AreLastLevels above.now }
     requires known { IsDeep (B.room below.now + 1) first reach }
-    ensures reading { Gives (λ x. (x.0, x.2.now)) result (take_onto start.now (times level tokens.now) (fits (B.room below.now)) side_with (take_right setting (lower (B.room below.now)) level above.now) first tokens.now) }
+    ensures reading { Gives (λ x. (x.0, x.2.now)) result (take_onto start.now (times level tokens.now) (is_open (B.room below.now)) side_with (take_right setting (lower (B.room below.now)) level above.now) first tokens.now) }
     ensures deep { IfOk result (λ x. IsDeep (B.room below.now + 1) x.0 x.1) }
     ensures whole { result ≢ Err NoReading }
 {
@@ -273,7 +273,7 @@ fn repeat<'k, B: Below<'k>>(
     let mut rest = tokens;
     let mut more = times(level, tokens);
     while more > 0 {
-        if height > room {
+        if !is_open(room, height, &left) {
             return Ok((left, height, rest));
         }
         match right_side(below, alloc, setting, level, above, rest) {
@@ -314,7 +314,7 @@ fn climb<'k, B: Below<'k>>(
     requires sound { B.sound below.now }
     requires last { AreLastLevels levels.now }
     requires known { IsDeep (B.room below.now + 1) first reach }
-    ensures reading { Gives (λ x. (x.0, x.2.now)) result (climb times (fits (B.room below.now)) side_with (take_right setting (lower (B.room below.now))) start.now levels.now (first, tokens.now)) }
+    ensures reading { Gives (λ x. (x.0, x.2.now)) result (climb times (is_open (B.room below.now)) side_with (take_right setting (lower (B.room below.now))) start.now levels.now (first, tokens.now)) }
     ensures deep { IfOk result (λ x. IsDeep (B.room below.now + 1) x.0 x.1) }
     ensures whole { result ≢ Err NoReading }
 {
@@ -476,7 +476,7 @@ fn cascade_node(
 }
 
 /// The sections behind what a cascade is of.
-#[tactic(auto, using(parse_leaves::specs::Loops::chain_out, parse_leaves::specs::Loops::chain_deep, parse_leaves::specs::Loops::chain_ends, parse_leaves::specs::Loops::chain_goes, parse_leaves::specs::Loops::fits_deep, parse_leaves::specs::Loops::fits_not, parse_leaves::specs::Sizes::higher_within))]
+#[tactic(auto, using(parse_leaves::specs::Loops::chain_out, parse_leaves::specs::Loops::chain_deep, parse_leaves::specs::Loops::chain_ends, parse_leaves::specs::Loops::chain_goes, parse_leaves::specs::Sizes::higher_within))]
 fn cascades<'k, B: Below<'k>>(
     below: &B,
     alloc: Global,
@@ -489,7 +489,7 @@ fn cascades<'k, B: Below<'k>>(
     requires limit { B.room below.now ≤ 200 }
     requires sound { B.sound below.now }
     requires known { IsDeep (B.room below.now + 1) first reach }
-    ensures reading { Gives (λ x. (x.0, x.2.now)) result (take_onto start.now (length tokens.now) (fits (B.room below.now)) cascade_of (take_cascade_section setting (lower (B.room below.now))) first tokens.now) }
+    ensures reading { Gives (λ x. (x.0, x.2.now)) result (take_onto start.now (length tokens.now) (is_open (B.room below.now)) cascade_of (take_cascade_section setting (lower (B.room below.now))) first tokens.now) }
     ensures deep { IfOk result (λ x. IsDeep (B.room below.now + 1) x.0 x.1) }
 {
     let room = below.room();
@@ -498,7 +498,7 @@ fn cascades<'k, B: Below<'k>>(
     let mut rest = tokens;
     let mut more = tokens.len();
     while more > 0 {
-        if height > room {
+        if !is_open(room, height, &left) {
             return Ok((left, height, rest));
         }
         match cascade_section(below, alloc, setting, rest) {
@@ -579,7 +579,7 @@ fn expression_behind<'k, B: Below<'k>>(
     ensures reading { Gives (λ x. (x.0, x.2.now)) result (take_expression (B.room below.now) setting (lower (B.room below.now)) start.now) }
     ensures deep { IfOk result (λ x. IsDeep (B.room below.now + 1) x.0 x.1) }
 {
-    if reach > below.room() {
+    if !is_open(below.room(), reach, &first) {
         return unassigned_behind(below, alloc, setting, start, first, reach, tokens);
     }
     match assigned(below, alloc, setting, tokens) {

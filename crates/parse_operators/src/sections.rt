@@ -2,11 +2,11 @@
 
 ghost use Rattle.std.specs.Prelude.{◌≡◌, ◌+◌, ◌≤◌, IfOk};
 ghost use Rattle.readings.specs.Descent.{take_token, take_inside, take_turn, take_make, take_chain, ◌▸◌};
-ghost use Rattle.dart_tree.specs.Heights.{height, fits};
+ghost use Rattle.dart_tree.specs.Heights.{height};
 ghost use Rattle.grammar.specs.Tokens.{is, is_name, width, past};
 ghost use Rattle.grammar.specs.Types.{every_time};
 ghost use Rattle.grammar.specs.Operators.{table, take_assignment};
-ghost use Rattle.grammar.specs.Expressions.{select_with, cascaded_name_of, cascaded_index_of};
+ghost use Rattle.grammar.specs.Expressions.{select_with, cascaded_name_of, cascaded_index_of, is_open};
 ghost use Rattle.grammar.specs.Descents.{lower, take_selector, take_expression, take_section_head, take_section};
 ghost use Rattle.parse_leaves.specs.Answers.{Gives, IsDeep};
 
@@ -15,8 +15,8 @@ use dart_tokens::Kind;
 use dart_tree::{AssignmentOperator, Expr, ExprNode};
 use grammar::{Setting, Token};
 use parse_leaves::{
-    Below, Miss, assignment_operator, group, heads_name, higher, identifier_at, name, place_of,
-    place_over, span_of,
+    Below, Miss, assignment_operator, group, heads_name, higher, identifier_at, is_open, name,
+    place_of, place_over, span_of,
 };
 use parse_operands::selectors;
 use std::alloc::Global;
@@ -25,15 +25,14 @@ use std::alloc::Global;
 fn section_index<'k, B: Below<'k>>(
     below: &B,
     alloc: Global,
-    setting: Setting,
     tokens: &'k [Token],
 ) -> Result<(Expr, u32, &'k [Token]), Miss>
     requires limit { B.room below.now ≤ 200 }
     requires sound { B.sound below.now }
-    ensures reading { Gives (λ x. (x.0, x.2.now)) result (take_make cascaded_index_of (take_inside (is Kind.OpenBracket) width past (take_expression (B.room below.now) setting (lower (B.room below.now)))) tokens.now) }
+    ensures reading { Gives (λ x. (x.0, x.2.now)) result (take_make cascaded_index_of (take_inside (is Kind.OpenBracket) width past (take_expression (B.room below.now) Setting.Plain (lower (B.room below.now)))) tokens.now) }
     ensures deep { IfOk result (λ x. IsDeep (B.room below.now + 1) x.0 x.1) }
 {
-    let (bracket, index, height, rest) = index_group(below, alloc, setting, tokens)?;
+    let (bracket, index, height, rest) = index_group(below, alloc, tokens)?;
     let node = Box::new(
         alloc,
         ExprNode::CascadedIndex {
@@ -50,18 +49,17 @@ fn section_index<'k, B: Below<'k>>(
 fn index_group<'k, B: Below<'k>>(
     below: &B,
     alloc: Global,
-    setting: Setting,
     tokens: &'k [Token],
 ) -> Result<(Token, Expr, u32, &'k [Token]), Miss>
     requires limit { B.room below.now ≤ 200 }
     requires sound { B.sound below.now }
-    ensures reading { Gives (λ x. ((x.0, x.1), x.3.now)) result (take_inside (is Kind.OpenBracket) width past (take_expression (B.room below.now) setting (lower (B.room below.now))) tokens.now) }
+    ensures reading { Gives (λ x. ((x.0, x.1), x.3.now)) result (take_inside (is Kind.OpenBracket) width past (take_expression (B.room below.now) Setting.Plain (lower (B.room below.now))) tokens.now) }
     ensures deep { IfOk result (λ x. IsDeep (B.room below.now + 1) x.1 x.2) }
 {
     let Some((opening, inside, rest)) = group(tokens, Kind::OpenBracket) else {
         return Err(Miss::NoReading);
     };
-    match expression_within(below, alloc, setting, inside) {
+    match expression_within(below, alloc, Setting::Plain, inside) {
         Ok((found, height, left)) => {
             if !left.is_empty() {
                 return Err(Miss::NoReading);
@@ -94,18 +92,17 @@ pub fn section_name(alloc: Global, tokens: &[Token]) -> Result<(Expr, u32, &[Tok
 fn section_head<'k, B: Below<'k>>(
     below: &B,
     alloc: Global,
-    setting: Setting,
     tokens: &'k [Token],
 ) -> Result<(Expr, u32, &'k [Token]), Miss>
     requires limit { B.room below.now ≤ 200 }
     requires sound { B.sound below.now }
-    ensures reading { Gives (λ x. (x.0, x.2.now)) result (take_section_head (take_expression (B.room below.now) setting (lower (B.room below.now))) tokens.now) }
+    ensures reading { Gives (λ x. (x.0, x.2.now)) result (take_section_head (take_expression (B.room below.now) Setting.Plain (lower (B.room below.now))) tokens.now) }
     ensures deep { IfOk result (λ x. IsDeep (B.room below.now + 1) x.0 x.1) }
 {
     if heads_name(tokens) {
         section_name(alloc, tokens)
     } else {
-        section_index(below, alloc, setting, tokens)
+        section_index(below, alloc, tokens)
     }
 }
 
@@ -137,10 +134,10 @@ fn section_target<'k, B: Below<'k>>(
 ) -> Result<(Expr, u32, &'k [Token]), Miss>
     requires limit { B.room below.now ≤ 200 }
     requires sound { B.sound below.now }
-    ensures reading { Gives (λ x. (x.0, x.2.now)) result (take_chain every_time (fits (B.room below.now)) select_with (take_section_head (take_expression (B.room below.now) setting (lower (B.room below.now)))) (take_selector setting (lower (B.room below.now))) tokens.now) }
+    ensures reading { Gives (λ x. (x.0, x.2.now)) result (take_chain every_time (is_open (B.room below.now)) select_with (take_section_head (take_expression (B.room below.now) Setting.Plain (lower (B.room below.now)))) (take_selector setting (lower (B.room below.now))) tokens.now) }
     ensures deep { IfOk result (λ x. IsDeep (B.room below.now + 1) x.0 x.1) }
 {
-    let (first, height, rest) = section_head(below, alloc, setting, tokens)?;
+    let (first, height, rest) = section_head(below, alloc, tokens)?;
     selectors(below, alloc, setting, tokens, first, height, rest)
 }
 
@@ -154,11 +151,11 @@ pub fn section_within<'k, B: Below<'k>>(
 ) -> Result<(Expr, u32, &'k [Token]), Miss>
     requires limit { B.room below.now ≤ 200 }
     requires sound { B.sound below.now }
-    ensures reading { Gives (λ x. (x.0, x.2.now)) result (take_section (B.room below.now) setting (lower (B.room below.now)) (take_expression (B.room below.now) setting (lower (B.room below.now))) tokens.now) }
+    ensures reading { Gives (λ x. (x.0, x.2.now)) result (take_section (B.room below.now) setting (lower (B.room below.now)) (take_expression (B.room below.now) Setting.Plain (lower (B.room below.now))) tokens.now) }
     ensures deep { IfOk result (λ x. IsDeep (B.room below.now + 1) x.0 x.1) }
 {
     let (target, height, rest) = section_target(below, alloc, setting, tokens)?;
-    if height > below.room() {
+    if !is_open(below.room(), height, &target) {
         return Ok((target, height, rest));
     }
     match section_value(below, alloc, setting, rest) {

@@ -142,6 +142,18 @@ x as a.T<U,void>; :: (as x a.T<U void>);
 ()=>a..b=c; :: (closure => (.. a (= .b c)));
 ()=>a=b; :: (closure => (= a b));
 ()=>()=>a,b; :: (closure => (closure => a)) ..
+()=>a==b==c; :: (closure => (== a b)) ..
+()=>a<b<c; :: (closure => (< a b)) ..
+()=>a++.b; :: (closure => (a ++)) ..
+()=>a?b; :: (closure => a) ..
+()=>a?b:c..d; :: (closure => (? a b (.. c .d)));
+-()=>a++.b; :: (- (closure => (a ++))) ..
+a+()=>b++.c; :: (+ a (closure => (b ++))) ..
+a..b=()=>c++..d; :: (.. a (= .b (closure => (.. (c ++) .d))));
+a..b=()=>c==d==e; :: (.. a (= .b (closure => (== c d)))) ..
+a?b:c..[d e]; :: (? a b c) ..
+(){a;}==b==c; :: (== (closure {a;}) b) ..
+f(()=>a==b==c); :: f ..
 (){}(); :: (call (closure {}));
 (a){b;}.c; :: (. (closure (a) {b;}) c);
 a-(){b;}-(){c;}; :: (- (- a (closure {b;})) (closure {c;}));

@@ -30,7 +30,7 @@ use Rattle.grammar.specs.Descents.{Lower}
 use Rattle.grammar.specs.DeclarationDescents.{take_body, take_signature, take_function, take_constructor_name, take_constructed, take_initializer, take_constructor, take_factory, take_operator, take_operator_member, take_plain_member, take_static_member, take_member, take_types_behind, take_members, take_class_with, take_class, take_mixin, take_alias, take_plain_declaration, take_declaration, take_library_names, take_library, take_combinator, take_import, take_export, take_part, take_part_of, take_directive, take_item}
 
 empty_follows : (r : Readers) → Follows r (Same r) (take_turn empty_of (take_token (is kind.Semicolon)))
-empty_follows r = follows_turn (Same r) empty_of (mark r kind.Semicolon) (λ x y p. record { shown = λ n. refl; high = refl; open_end = refl })
+empty_follows r = follows_turn (Same r) empty_of (mark r kind.Semicolon) (λ x y p. record { shown = λ n. refl; high = refl; open_end = refl; last = refl })
 
 body_follows : (r : Readers) (in_core without_body : Bool) (l : Lower) → Followed r l → Follows r (Same r) (take_body in_core without_body l)
 unfolding take_body
@@ -38,7 +38,7 @@ body_follows r in_core without_body l a =
     follows_where (either (heads kind.OpenBrace) (heads kind.Arrow)) (blind_body r) (local_body_follows r l a)
     (follows_where (heads kind.Native) (blind_heads r kind.Native)
     (follows_where (λ ts. in_core) (λ ts us s. refl)
-    (follows_make (Same r) native_of (follows_seq (mark r kind.Native) (mark r kind.Semicolon)) (λ read other x y p. record { shown = λ n. refl; high = refl; open_end = refl })) (follows_none r (Same r)))
+    (follows_make (Same r) native_of (follows_seq (mark r kind.Native) (mark r kind.Semicolon)) (λ read other x y p. record { shown = λ n. refl; high = refl; open_end = refl; last = refl })) (follows_none r (Same r)))
     (follows_where (λ ts. without_body) (λ ts us s. refl) (empty_follows r) (follows_none r (Same r))))
 
 -- Functions.
@@ -55,20 +55,20 @@ SignatureSame r (plain name types parameters body) (setting_of name_ parameters_
 SignatureSame r (plain name types parameters body) (plain name_ types_ parameters_ body_) = Twins name name_ × (Alls (Same r) types types_ × (Same r parameters parameters_ × Same r body body_))
 
 function_same : (r : Readers) (read other : List Token) (o p : Option Tree) → Both (Same r) o p → (s t : Signature) → SignatureSame r s t → Same r (function_with read o s) (function_with other p t)
-function_same r read other o p b (getting name body) (getting name_ body_) q = let result = part_same r o p b in record { shown = λ n. rw (result.shown n, q.0.word, q.1.shown n) refl; high = rw (result.high, q.1.high) refl; open_end = refl }
+function_same r read other o p b (getting name body) (getting name_ body_) q = let result = part_same r o p b in record { shown = λ n. rw (result.shown n, q.0.word, q.1.shown n) refl; high = rw (result.high, q.1.high) refl; open_end = refl; last = refl }
 function_same r read other o p b (getting name body) (setting_of name_ parameters_ body_) q = absurd q
 function_same r read other o p b (getting name body) (plain name_ types_ parameters_ body_) q = absurd q
 function_same r read other o p b (setting_of name parameters body) (getting name_ body_) q = absurd q
 function_same r read other o p b (setting_of name parameters body) (setting_of name_ parameters_ body_) q =
     let result = part_same r o p b in
-    record { shown = λ n. rw (result.shown n, q.0.word, q.1.0.shown n, q.1.1.shown n) refl; high = rw (result.high, q.1.0.high, q.1.1.high) refl; open_end = refl }
+    record { shown = λ n. rw (result.shown n, q.0.word, q.1.0.shown n, q.1.1.shown n) refl; high = rw (result.high, q.1.0.high, q.1.1.high) refl; open_end = refl; last = refl }
 function_same r read other o p b (setting_of name parameters body) (plain name_ types_ parameters_ body_) q = absurd q
 function_same r read other o p b (plain name types parameters body) (getting name_ body_) q = absurd q
 function_same r read other o p b (plain name types parameters body) (setting_of name_ parameters_ body_) q = absurd q
 function_same r read other o p b (plain name types parameters body) (plain name_ types_ parameters_ body_) q =
     let result = part_same r o p b in
     let all = all_same r types types_ q.1.0 in
-    record { shown = λ n. rw (result.shown n, q.0.word, all.shown n, q.1.1.0.shown n, q.1.1.1.shown n) refl; high = rw (result.high, all.high, q.1.1.0.high, q.1.1.1.high) refl; open_end = refl }
+    record { shown = λ n. rw (result.shown n, q.0.word, all.shown n, q.1.1.0.shown n, q.1.1.1.shown n) refl; high = rw (result.high, all.high, q.1.1.0.high, q.1.1.1.high) refl; open_end = refl; last = refl }
 
 signature_follows : (r : Readers) (body : Descent Token Tree) → Follows r (Same r) body → (l : Lower) → Followed r l → Follows r (SignatureSame r) (take_signature body l)
 unfolding take_signature
@@ -107,12 +107,12 @@ initializer_follows r l a =
     (follows_make (Same r) field_initializer_of
     (follows_seq (follows_maybe (follows_seq (mark r kind.This) (mark r kind.Period)))
     (follows_seq (named r) (follows_seq (mark r kind.Equals) (a.operand setting.Initializer table))))
-    (λ read other x y p. record { shown = λ n. rw (p.1.0.word, p.1.1.1.shown n) refl; high = p.1.1.1.high; open_end = refl }))
+    (λ read other x y p. record { shown = λ n. rw (p.1.0.word, p.1.1.1.shown n) refl; high = p.1.1.1.high; open_end = refl; last = refl }))
     (follows_where (heads kind.Super) (blind_heads r kind.Super)
     (follows_make (Same r) super_of (follows_seq (mark r kind.Super) (constructed_follows r l a))
-    (λ read other x y p. record { shown = λ n. rw (option_bare (behind_token x.1.0) (behind_token y.1.0) (behind_related Twins x.1.0 y.1.0 p.1.0), p.1.1.shown n) refl; high = p.1.1.high; open_end = refl }))
+    (λ read other x y p. record { shown = λ n. rw (option_bare (behind_token x.1.0) (behind_token y.1.0) (behind_related Twins x.1.0 y.1.0 p.1.0), p.1.1.shown n) refl; high = p.1.1.high; open_end = refl; last = refl }))
     (follows_make (Same r) redirection_of (follows_seq (mark r kind.This) (constructed_follows r l a))
-    (λ read other x y p. record { shown = λ n. rw (option_bare (behind_token x.1.0) (behind_token y.1.0) (behind_related Twins x.1.0 y.1.0 p.1.0), p.1.1.shown n) refl; high = p.1.1.high; open_end = refl })))
+    (λ read other x y p. record { shown = λ n. rw (option_bare (behind_token x.1.0) (behind_token y.1.0) (behind_related Twins x.1.0 y.1.0 p.1.0), p.1.1.shown n) refl; high = p.1.1.high; open_end = refl; last = refl })))
 
 abbrev pub MemberSame : Readers → Member → Member → Type 0
 MemberSame r (constructed name parameters initializers body) (constructed name_ parameters_ initializers_ body_) = NameSame name name_ × (Same r parameters parameters_ × (Alls (Same r) initializers initializers_ × Same r body body_))
@@ -148,6 +148,7 @@ member_same r read other xs ys p (constructed name parameters initializers body)
       shown = λ n. rw (all_plain xs ys p, q.0.0, q.0.1, q.1.0.shown (n - 1), all.shown (n - 1), q.1.1.1.shown (n - 1)) refl;
       high = rw (q.1.0.high, all.high, q.1.1.1.high) refl;
       open_end = refl;
+      last = refl;
     }
 member_same r read other xs ys p (constructed name parameters initializers body) (made_by_factory name_ parameters_ body_) q = absurd q
 member_same r read other xs ys p (constructed name parameters initializers body) (method is_static_ function_) q = absurd q
@@ -155,19 +156,19 @@ member_same r read other xs ys p (constructed name parameters initializers body)
 member_same r read other xs ys p (constructed name parameters initializers body) (operated_by result_ name_ parameters_ body_) q = absurd q
 member_same r read other xs ys p (made_by_factory name parameters body) (constructed name_ parameters_ initializers_ body_) q = absurd q
 member_same r read other xs ys p (made_by_factory name parameters body) (made_by_factory name_ parameters_ body_) q =
-    record { shown = λ n. rw (all_plain xs ys p, q.0.0, q.0.1, q.1.0.shown (n - 1), q.1.1.shown (n - 1)) refl; high = rw (q.1.0.high, q.1.1.high) refl; open_end = refl }
+    record { shown = λ n. rw (all_plain xs ys p, q.0.0, q.0.1, q.1.0.shown (n - 1), q.1.1.shown (n - 1)) refl; high = rw (q.1.0.high, q.1.1.high) refl; open_end = refl; last = refl }
 member_same r read other xs ys p (made_by_factory name parameters body) (method is_static_ function_) q = absurd q
 member_same r read other xs ys p (made_by_factory name parameters body) (fields is_static_ variables_) q = absurd q
 member_same r read other xs ys p (made_by_factory name parameters body) (operated_by result_ name_ parameters_ body_) q = absurd q
 member_same r read other xs ys p (method is_static function) (constructed name_ parameters_ initializers_ body_) q = absurd q
 member_same r read other xs ys p (method is_static function) (made_by_factory name_ parameters_ body_) q = absurd q
-member_same r read other xs ys p (method is_static function) (method is_static_ function_) q = record { shown = λ n. rw (all_plain xs ys p, q.0, q.1.shown (n - 1)) refl; high = rw q.1.high refl; open_end = refl }
+member_same r read other xs ys p (method is_static function) (method is_static_ function_) q = record { shown = λ n. rw (all_plain xs ys p, q.0, q.1.shown (n - 1)) refl; high = rw q.1.high refl; open_end = refl; last = refl }
 member_same r read other xs ys p (method is_static function) (fields is_static_ variables_) q = absurd q
 member_same r read other xs ys p (method is_static function) (operated_by result_ name_ parameters_ body_) q = absurd q
 member_same r read other xs ys p (fields is_static variables) (constructed name_ parameters_ initializers_ body_) q = absurd q
 member_same r read other xs ys p (fields is_static variables) (made_by_factory name_ parameters_ body_) q = absurd q
 member_same r read other xs ys p (fields is_static variables) (method is_static_ function_) q = absurd q
-member_same r read other xs ys p (fields is_static variables) (fields is_static_ variables_) q = record { shown = λ n. rw (all_plain xs ys p, q.0, q.1.shown (n - 1)) refl; high = rw q.1.high refl; open_end = refl }
+member_same r read other xs ys p (fields is_static variables) (fields is_static_ variables_) q = record { shown = λ n. rw (all_plain xs ys p, q.0, q.1.shown (n - 1)) refl; high = rw q.1.high refl; open_end = refl; last = refl }
 member_same r read other xs ys p (fields is_static variables) (operated_by result_ name_ parameters_ body_) q = absurd q
 member_same r read other xs ys p (operated_by result name parameters body) (constructed name_ parameters_ initializers_ body_) q = absurd q
 member_same r read other xs ys p (operated_by result name parameters body) (made_by_factory name_ parameters_ body_) q = absurd q
@@ -179,6 +180,7 @@ member_same r read other xs ys p (operated_by result name parameters body) (oper
       shown = λ n. rw (all_plain xs ys p, part.shown (n - 1), q.1.0, q.1.1.0.shown (n - 1), q.1.1.1.shown (n - 1)) refl;
       high = rw (part.high, q.1.1.0.high, q.1.1.1.high) refl;
       open_end = refl;
+      last = refl;
     }
 
 constructor_follows : (r : Readers) (class : Option ℕ) (l : Lower) → Followed r l → Follows r (MemberSame r) (take_constructor class l)
@@ -280,6 +282,7 @@ declaration_same r read other xs ys p (of_class partial name types superclass mi
       shown = λ n. rw (all_plain xs ys p, q.0, q.1.0.word, one.shown (n - 1), above.shown (n - 1), two.shown (n - 1), three.shown (n - 1), four.shown (n - 1)) refl;
       high = rw (one.high, above.high, two.high, three.high, four.high) refl;
       open_end = refl;
+      last = refl;
     }
 declaration_same r read other xs ys p (of_class partial name types superclass mixins interfaces members) (of_mixin name_ types_ constraints_ interfaces_ members_) q = absurd q
 declaration_same r read other xs ys p (of_class partial name types superclass mixins interfaces members) (of_type name_ written_) q = absurd q
@@ -295,25 +298,26 @@ declaration_same r read other xs ys p (of_mixin name types constraints interface
       shown = λ n. rw (all_plain xs ys p, q.0.word, one.shown (n - 1), two.shown (n - 1), three.shown (n - 1), four.shown (n - 1)) refl;
       high = rw (one.high, two.high, three.high, four.high) refl;
       open_end = refl;
+      last = refl;
     }
 declaration_same r read other xs ys p (of_mixin name types constraints interfaces members) (of_type name_ written_) q = absurd q
 declaration_same r read other xs ys p (of_mixin name types constraints interfaces members) (of_function function_) q = absurd q
 declaration_same r read other xs ys p (of_mixin name types constraints interfaces members) (of_variables variables_) q = absurd q
 declaration_same r read other xs ys p (of_type name written) (of_class partial_ name_ types_ superclass_ mixins_ interfaces_ members_) q = absurd q
 declaration_same r read other xs ys p (of_type name written) (of_mixin name_ types_ constraints_ interfaces_ members_) q = absurd q
-declaration_same r read other xs ys p (of_type name written) (of_type name_ written_) q = record { shown = λ n. rw (all_plain xs ys p, q.0.word, q.1.shown (n - 1)) refl; high = rw q.1.high refl; open_end = refl }
+declaration_same r read other xs ys p (of_type name written) (of_type name_ written_) q = record { shown = λ n. rw (all_plain xs ys p, q.0.word, q.1.shown (n - 1)) refl; high = rw q.1.high refl; open_end = refl; last = refl }
 declaration_same r read other xs ys p (of_type name written) (of_function function_) q = absurd q
 declaration_same r read other xs ys p (of_type name written) (of_variables variables_) q = absurd q
 declaration_same r read other xs ys p (of_function function) (of_class partial_ name_ types_ superclass_ mixins_ interfaces_ members_) q = absurd q
 declaration_same r read other xs ys p (of_function function) (of_mixin name_ types_ constraints_ interfaces_ members_) q = absurd q
 declaration_same r read other xs ys p (of_function function) (of_type name_ written_) q = absurd q
-declaration_same r read other xs ys p (of_function function) (of_function function_) q = record { shown = λ n. rw (all_plain xs ys p, q.shown (n - 1)) refl; high = rw q.high refl; open_end = refl }
+declaration_same r read other xs ys p (of_function function) (of_function function_) q = record { shown = λ n. rw (all_plain xs ys p, q.shown (n - 1)) refl; high = rw q.high refl; open_end = refl; last = refl }
 declaration_same r read other xs ys p (of_function function) (of_variables variables_) q = absurd q
 declaration_same r read other xs ys p (of_variables variables) (of_class partial_ name_ types_ superclass_ mixins_ interfaces_ members_) q = absurd q
 declaration_same r read other xs ys p (of_variables variables) (of_mixin name_ types_ constraints_ interfaces_ members_) q = absurd q
 declaration_same r read other xs ys p (of_variables variables) (of_type name_ written_) q = absurd q
 declaration_same r read other xs ys p (of_variables variables) (of_function function_) q = absurd q
-declaration_same r read other xs ys p (of_variables variables) (of_variables variables_) q = record { shown = λ n. rw (all_plain xs ys p, q.shown (n - 1)) refl; high = rw q.high refl; open_end = refl }
+declaration_same r read other xs ys p (of_variables variables) (of_variables variables_) q = record { shown = λ n. rw (all_plain xs ys p, q.shown (n - 1)) refl; high = rw q.high refl; open_end = refl; last = refl }
 
 types_follow : (r : Readers) (k : Kind) (l : Lower) → Followed r l → Follows r (Pair Twins (Alls (Same r))) (take_types_behind (is k) l)
 types_follow r k l a = follows_seq (mark r k) (follows_separated a.written)
@@ -424,7 +428,7 @@ library_follows : (r : Readers) → Follows r (Same r) take_library
 unfolding take_library
 library_follows r =
     follows_make (Same r) library_of (follows_seq (mark r kind.Library) (follows_seq (library_names_follow r) (mark r kind.Semicolon)))
-    (λ read other x y p. record { shown = λ n. rw (all_plain x.1.0 y.1.0 p.1.0) refl; high = refl; open_end = refl })
+    (λ read other x y p. record { shown = λ n. rw (all_plain x.1.0 y.1.0 p.1.0) refl; high = refl; open_end = refl; last = refl })
 
 import_follows : (r : Readers) (l : Lower) → Followed r l → Follows r (Same r) (take_import l)
 unfolding take_import
@@ -434,25 +438,25 @@ import_follows r l a =
     (follows_seq (string_follows r l a)
     (follows_seq (follows_maybe (follows_seq (mark r kind.As) (named r))) (follows_seq (follows_many (combinator_follows r)) (mark r kind.Semicolon)))))
     (λ read other x y p.
-    record { shown = λ n. rw (p.1.0.shown (n - 1), prefix_same x.1.1.0 y.1.1.0 p.1.1.0, all_plain x.1.1.1.0 y.1.1.1.0 p.1.1.1.0) refl; high = rw p.1.0.high refl; open_end = refl })
+    record { shown = λ n. rw (p.1.0.shown (n - 1), prefix_same x.1.1.0 y.1.1.0 p.1.1.0, all_plain x.1.1.1.0 y.1.1.1.0 p.1.1.1.0) refl; high = rw p.1.0.high refl; open_end = refl; last = refl })
 
 export_follows : (r : Readers) (l : Lower) → Followed r l → Follows r (Same r) (take_export l)
 unfolding take_export
 export_follows r l a =
     follows_make (Same r) export_of (follows_seq (mark r kind.Export) (follows_seq (string_follows r l a) (follows_seq (follows_many (combinator_follows r)) (mark r kind.Semicolon))))
-    (λ read other x y p. record { shown = λ n. rw (p.1.0.shown (n - 1), all_plain x.1.1.0 y.1.1.0 p.1.1.0) refl; high = rw p.1.0.high refl; open_end = refl })
+    (λ read other x y p. record { shown = λ n. rw (p.1.0.shown (n - 1), all_plain x.1.1.0 y.1.1.0 p.1.1.0) refl; high = rw p.1.0.high refl; open_end = refl; last = refl })
 
 part_follows : (r : Readers) (l : Lower) → Followed r l → Follows r (Same r) (take_part l ⊘ take_part_of l)
 unfolding take_part take_part_of
 part_follows r l a =
     follows_or
     (follows_make (Same r) part_directive_of (follows_seq (mark r kind.Part) (follows_seq (string_follows r l a) (mark r kind.Semicolon)))
-    (λ read other x y p. record { shown = λ n. rw (p.1.0.shown (n - 1)) refl; high = rw p.1.0.high refl; open_end = refl }))
+    (λ read other x y p. record { shown = λ n. rw (p.1.0.shown (n - 1)) refl; high = rw p.1.0.high refl; open_end = refl; last = refl }))
     (follows_or
     (follows_make (Same r) part_of_uri_of (follows_seq (mark r kind.Part) (follows_seq (mark r kind.Of) (follows_seq (string_follows r l a) (mark r kind.Semicolon))))
-    (λ read other x y p. record { shown = λ n. rw (p.1.1.0.shown (n - 1)) refl; high = rw p.1.1.0.high refl; open_end = refl }))
+    (λ read other x y p. record { shown = λ n. rw (p.1.1.0.shown (n - 1)) refl; high = rw p.1.1.0.high refl; open_end = refl; last = refl }))
     (follows_make (Same r) part_of_library_of (follows_seq (mark r kind.Part) (follows_seq (mark r kind.Of) (follows_seq (library_names_follow r) (mark r kind.Semicolon))))
-    (λ read other x y p. record { shown = λ n. rw (all_plain x.1.1.0 y.1.1.0 p.1.1.0) refl; high = refl; open_end = refl })))
+    (λ read other x y p. record { shown = λ n. rw (all_plain x.1.1.0 y.1.1.0 p.1.1.0) refl; high = refl; open_end = refl; last = refl })))
 
 directive_follows : (r : Readers) (l : Lower) → Followed r l → Follows r (Same r) (take_directive l)
 unfolding take_directive

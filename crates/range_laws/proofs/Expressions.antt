@@ -35,7 +35,7 @@ use Rattle.grammar.specs.declared.level.Setting.TheVariants as setting
 use Rattle.grammar.specs.Tokens.{is, is_either, is_name, is_type_name, heads, heads_name}
 use Rattle.grammar.specs.Types.{separated, inner, listed_or_none, type_arguments_of, type_parameter_of, type_parameters_of, void_of, heads_qualified, qualified_of, unqualified_of, named_type_of, annotation_of, heads_required, heads_field, parameter_of, parameter_list_of, parameter_type_of, Tail, tail, tail_of, function_type_with, first_tail_of, next_tail_of, every_time}
 use Rattle.grammar.specs.Operators.{table, heads_sign, is_binary, binary_of, assignment_of, unary_at, postfix_at}
-use Rattle.grammar.specs.Expressions.{simple_string_of, string_text_of, simple_interpolation_of, interpolated_of, strings_of, heads_label, positional_of, named_of, arguments_of, integer_of, boolean_of, null_of, this_of, super_of, identifier_of, heads_generic, generic_of, parenthesis_of, arrow_of, closure_of, heads_closure, new_of, entry_of, Contents, listed, entries, listed_of, entries_of, collection_with, collection_of, Selector, member, element, check, called, member_of, element_of, check_of, plain_call_of, generic_call_of, heads_call, select_with, one_time, postfix_of, unary_of, Side, operated, tested, cast, choices, operated_of, tested_of, cast_of, choices_of, times, side_with, assign_of, throw_of, cascaded_name_of, cascaded_index_of, cascade_of, section_of}
+use Rattle.grammar.specs.Expressions.{simple_string_of, string_text_of, simple_interpolation_of, interpolated_of, strings_of, heads_label, positional_of, named_of, arguments_of, integer_of, boolean_of, null_of, this_of, super_of, identifier_of, heads_generic, generic_of, parenthesis_of, arrow_of, closure_of, heads_closure, new_of, entry_of, Contents, listed, entries, listed_of, entries_of, collection_with, collection_of, Selector, member, element, check, called, member_of, element_of, check_of, plain_call_of, generic_call_of, heads_call, select_with, one_time, postfix_of, unary_of, Side, operated, tested, cast, choices, operated_of, tested_of, cast_of, choices_of, times, side_with, assign_of, throw_of, cascaded_name_of, cascaded_index_of, cascade_of, section_of, is_open}
 use Rattle.grammar.specs.Descents.{Lower, begins_string, begins_prefix, take_separated, take_type_arguments, take_type_parameter, take_type_parameters, take_type_name, take_question, take_plain_type, take_annotation, take_parameter, take_parameters, take_optional_parameters, take_parameter_list, take_parameter_type, take_tail, take_tail_before, take_type, take_prefix, take_postfix, take_interpolation, take_string_part, take_string, take_strings, take_argument, take_arguments, take_simple, take_name, take_parenthesis, take_closure, take_new, take_entry, take_collection, take_primary, take_selector, take_selected, take_incremented, take_unary, take_operated, take_right, take_operand, take_assignment_expression, take_throw, take_section_head, take_section, take_cascade_section, take_cascade, take_expression}
 
 -- what lies in the room below is found the same
@@ -106,19 +106,22 @@ follows_mark r t k b = follows_where t b (follows_turn (Both Twins) (λ t. Some 
 fits_same : (r : Readers) (n : ℕ) (x y : Tree) → Same r x y → fits n x ≡ fits n y
 fits_same r n x y p = rw p.high refl
 
+open_same : (r : Readers) (n : ℕ) (x y : Tree) → Same r x y → is_open n x ≡ is_open n y
+open_same r n x y p = rw (p.high, p.last) refl
+
 -- Types.
 
 pub type_arguments_follow : (r : Readers) (l : Lower) → Followed r l → Follows r (Same r) (take_type_arguments l)
 unfolding take_type_arguments
 type_arguments_follow r l a =
     follows_make (Same r) type_arguments_of (follows_seq (mark r kind.Less) (follows_seq (follows_separated a.written) (mark r kind.Greater)))
-    (λ read other x y p. let types = all_same r x.1.0 y.1.0 p.1.0 in record { shown = λ n. rw (types.shown n) refl; high = types.high; open_end = refl })
+    (λ read other x y p. let types = all_same r x.1.0 y.1.0 p.1.0 in record { shown = λ n. rw (types.shown n) refl; high = types.high; open_end = refl; last = refl })
 
 type_parameter_follows : (r : Readers) (l : Lower) → Followed r l → Follows r (Same r) (take_type_parameter l)
 unfolding take_type_parameter
 type_parameter_follows r l a =
     follows_make (Same r) type_parameter_of (follows_seq (type_named r) (follows_maybe (follows_seq (mark r kind.Extends) a.written)))
-    (λ read other x y p. let bound = behind_same r x.1 y.1 p.1 in record { shown = λ n. rw (p.0.word, bound.shown n) refl; high = bound.high; open_end = refl })
+    (λ read other x y p. let bound = behind_same r x.1 y.1 p.1 in record { shown = λ n. rw (p.0.word, bound.shown n) refl; high = bound.high; open_end = refl; last = refl })
 
 pub type_parameters_follow : (r : Readers) (l : Lower) → Followed r l → Follows r (Alls (Same r)) (take_type_parameters l)
 unfolding take_type_parameters
@@ -138,11 +141,11 @@ question_follows r question b = follows_mark r question kind.Question b
 pub plain_type_follows : (r : Readers) (l : Lower) → Followed r l → (question : Test Token) → Blind r question → Follows r (Same r) (take_plain_type l question)
 unfolding take_plain_type
 plain_type_follows r l a question b =
-    follows_where (heads kind.Void) (blind_heads r kind.Void) (follows_turn (Same r) void_of (mark r kind.Void) (λ x y p. record { shown = λ n. refl; high = refl; open_end = refl }))
+    follows_where (heads kind.Void) (blind_heads r kind.Void) (follows_turn (Same r) void_of (mark r kind.Void) (λ x y p. record { shown = λ n. refl; high = refl; open_end = refl; last = refl }))
     (follows_make (Same r) named_type_of (follows_seq (type_name_follows r) (follows_seq (follows_maybe (type_arguments_follow r l a)) (question_follows r question b)))
     (λ read other x y p.
     let arguments = part_same r x.1.0 y.1.0 p.1.0 in
-    record { shown = λ n. rw (option_bare x.0.0 y.0.0 p.0.0, p.0.1.word, arguments.shown (n - 1), some_same Twins x.1.1 y.1.1 p.1.1) refl; high = rw arguments.high refl; open_end = refl }))
+    record { shown = λ n. rw (option_bare x.0.0 y.0.0 p.0.0, p.0.1.word, arguments.shown (n - 1), some_same Twins x.1.1 y.1.1 p.1.1) refl; high = rw arguments.high refl; open_end = refl; last = refl }))
 
 pub annotation_follows : (r : Readers) → Follows r Plain take_annotation
 unfolding take_annotation
@@ -165,6 +168,7 @@ parameter_follows r l a which =
       shown = λ n. rw (all_plain x.0 y.0 p.0, some_same Twins x.1.0 y.1.0 p.1.0, final_same x.1.1.0 y.1.1.0 p.1.1.0, written.shown n, some_same (Pair Twins Twins) x.1.1.1.1.0 y.1.1.1.1.0 p.1.1.1.1.0, p.1.1.1.1.1.0.word, value.shown n) refl;
       high = rw (written.high, value.high) refl;
       open_end = refl;
+      last = refl;
     })
 
 parameters_follow : (r : Readers) (l : Lower) → Followed r l → (which : ParameterKind) → Follows r (Alls (Same r)) (take_parameters l which)
@@ -182,13 +186,13 @@ parameter_list_follows r l a =
     follows_make (Same r) parameter_list_of (follows_inside (is kind.OpenParenthesis) (blind_is kind.OpenParenthesis) (follows_seq (parameters_follow r l a parameter_kind.Positional) (follows_maybe (optional_parameters_follow r l a))))
     (λ read other x y p.
     let all = all_same r (x.1.0 ++ listed_or_none x.1.1) (y.1.0 ++ listed_or_none y.1.1) (append_related (Same r) x.1.0 y.1.0 (listed_or_none x.1.1) (listed_or_none y.1.1) p.1.0 (listed_related (Same r) x.1.1 y.1.1 p.1.1)) in
-    record { shown = λ n. rw (all.shown n) refl; high = all.high; open_end = refl })
+    record { shown = λ n. rw (all.shown n) refl; high = all.high; open_end = refl; last = refl })
 
 parameter_type_follows : (r : Readers) (l : Lower) → Followed r l → Follows r (Same r) (take_parameter_type l)
 unfolding take_parameter_type
 parameter_type_follows r l a =
     follows_make (Same r) parameter_type_of (follows_seq a.written (follows_maybe (named r)))
-    (λ read other x y p. record { shown = λ n. rw (p.0.shown n, option_bare x.1 y.1 p.1) refl; high = p.0.high; open_end = refl })
+    (λ read other x y p. record { shown = λ n. rw (p.0.shown n, option_bare x.1 y.1 p.1) refl; high = p.0.high; open_end = refl; last = refl })
 
 abbrev pub TailSame : Readers → Tail → Tail → Type 0
 TailSame r (tail a b c d) (tail e f g h) = Alls (Same r) a e × (Alls (Same r) b f × (Alls (Same r) c g × (d ≡ h)))
@@ -209,7 +213,7 @@ function_type_same r read other o p b (tail c d e f) (tail g h i j) q =
     let one = all_same r c g q.0 in
     let two = all_same r d h q.1.0 in
     let three = all_same r e i q.1.1.0 in
-    record { shown = λ n. rw (result.shown (n - 1), one.shown (n - 1), two.shown (n - 1), three.shown (n - 1), q.1.1.1) refl; high = rw (result.high, one.high, two.high, three.high) refl; open_end = refl }
+    record { shown = λ n. rw (result.shown (n - 1), one.shown (n - 1), two.shown (n - 1), three.shown (n - 1), q.1.1.1) refl; high = rw (result.high, one.high, two.high, three.high) refl; open_end = refl; last = refl }
 
 pub type_follows : (r : Readers) (n : ℕ) (l : Lower) → Followed r l → (question ends : Test Token) → Blind r question → Blind r ends → Follows r (Same r) (take_type n l question ends)
 unfolding take_type
@@ -262,16 +266,16 @@ postfix_follows r =
 -- Expressions.
 
 interpolation_same : (r : Readers) (read other : List Token) (x y : Token × Tree) → Pair Twins (Same r) x y → Same r (simple_interpolation_of read x) (simple_interpolation_of other y)
-interpolation_same r read other x y p = record { shown = λ n. rw (p.1.shown n) refl; high = p.1.high; open_end = refl }
+interpolation_same r read other x y p = record { shown = λ n. rw (p.1.shown n) refl; high = p.1.high; open_end = refl; last = refl }
 
 text_same : (r : Readers) (t u : Token) → Twins t u → Same r (string_text_of t) (string_text_of u)
-text_same r t u p = record { shown = λ n. rw (p.kind, p.word) refl; high = refl; open_end = refl }
+text_same r t u p = record { shown = λ n. rw (p.kind, p.word) refl; high = refl; open_end = refl; last = refl }
 
 identifier_same : (r : Readers) (t u : Token) → Twins t u → Same r (identifier_of t) (identifier_of u)
-identifier_same r t u p = record { shown = λ n. rw p.word refl; high = refl; open_end = refl }
+identifier_same r t u p = record { shown = λ n. rw p.word refl; high = refl; open_end = refl; last = refl }
 
 this_same : (r : Readers) (t u : Token) → Twins t u → Same r (this_of t) (this_of u)
-this_same r t u p = record { shown = λ n. refl; high = refl; open_end = refl }
+this_same r t u p = record { shown = λ n. refl; high = refl; open_end = refl; last = refl }
 
 string_part_follows : (r : Readers) (l : Lower) → Followed r l → Follows r (Same r) (take_string_part l)
 unfolding take_string_part take_interpolation
@@ -285,31 +289,31 @@ unfolding take_string
 string_follows r l a =
     let whole = is_either kind.StringLiteral kind.UnterminatedString in
     let blind = blind_either kind.StringLiteral kind.UnterminatedString in
-    follows_where (next whole) (blind_next r whole blind) (follows_turn (Same r) simple_string_of (follows_token r whole blind) (λ x y p. record { shown = λ n. rw (p.kind, p.word) refl; high = refl; open_end = refl }))
+    follows_where (next whole) (blind_next r whole blind) (follows_turn (Same r) simple_string_of (follows_token r whole blind) (λ x y p. record { shown = λ n. rw (p.kind, p.word) refl; high = refl; open_end = refl; last = refl }))
     (follows_make (Same r) interpolated_of (follows_seq (mark r kind.StringOpening) (follows_seq (follows_many (string_part_follows r l a)) (mark r kind.StringClosing)))
     (λ read other x y p.
     let all = all_same r (string_text_of x.0 ∷ (x.1.0 ++ string_text_of x.1.1 ∷ [])) (string_text_of y.0 ∷ (y.1.0 ++ string_text_of y.1.1 ∷ []))
     (text_same r x.0 y.0 p.0, append_related (Same r) x.1.0 y.1.0 (string_text_of x.1.1 ∷ []) (string_text_of y.1.1 ∷ []) p.1.0 (text_same r x.1.1 y.1.1 p.1.1, tt)) in
-    record { shown = λ n. rw (all.shown n) refl; high = all.high; open_end = refl }))
+    record { shown = λ n. rw (all.shown n) refl; high = all.high; open_end = refl; last = refl }))
 
 strings_follow : (r : Readers) (l : Lower) → Followed r l → Follows r (Same r) (take_strings l)
 unfolding take_strings
 strings_follow r l a =
     follows_make (Same r) strings_of (follows_seq (string_follows r l a) (follows_many (string_follows r l a)))
-    (λ read other x y p. let all = all_same r (x.0 ∷ x.1) (y.0 ∷ y.1) p in record { shown = λ n. rw (all.shown (n - 1)) refl; high = rw all.high refl; open_end = refl })
+    (λ read other x y p. let all = all_same r (x.0 ∷ x.1) (y.0 ∷ y.1) p in record { shown = λ n. rw (all.shown (n - 1)) refl; high = rw all.high refl; open_end = refl; last = refl })
 
 argument_follows : (r : Readers) (l : Lower) → Followed r l → Follows r (Same r) (take_argument l)
 unfolding take_argument
 argument_follows r l a =
     follows_where heads_label (blind_label r)
-    (follows_make (Same r) named_of (follows_seq (named r) (follows_seq (mark r kind.Colon) (a.expression setting.Listed))) (λ read other x y p. record { shown = λ n. rw (p.0.word, p.1.1.shown n) refl; high = p.1.1.high; open_end = refl }))
-    (follows_make (Same r) positional_of (a.expression setting.Listed) (λ read other x y p. record { shown = λ n. rw (p.shown n) refl; high = p.high; open_end = refl }))
+    (follows_make (Same r) named_of (follows_seq (named r) (follows_seq (mark r kind.Colon) (a.expression setting.Listed))) (λ read other x y p. record { shown = λ n. rw (p.0.word, p.1.1.shown n) refl; high = p.1.1.high; open_end = refl; last = refl }))
+    (follows_make (Same r) positional_of (a.expression setting.Listed) (λ read other x y p. record { shown = λ n. rw (p.shown n) refl; high = p.high; open_end = refl; last = refl }))
 
 pub arguments_follow : (r : Readers) (l : Lower) → Followed r l → Follows r (Same r) (take_arguments l)
 unfolding take_arguments
 arguments_follow r l a =
     follows_make (Same r) arguments_of (follows_inside (is kind.OpenParenthesis) (blind_is kind.OpenParenthesis) (follows_elements (argument_follows r l a) (mark r kind.Comma)))
-    (λ read other x y p. let all = all_same r x.1 y.1 p.1 in record { shown = λ n. rw (all.shown n) refl; high = all.high; open_end = refl })
+    (λ read other x y p. let all = all_same r x.1 y.1 p.1 in record { shown = λ n. rw (all.shown n) refl; high = all.high; open_end = refl; last = refl })
 
 pub simple_follows : (r : Readers) → Follows r (Same r) take_simple
 unfolding take_simple
@@ -319,14 +323,14 @@ name_follows : (r : Readers) (l : Lower) → Followed r l → Follows r (Same r)
 unfolding take_name
 name_follows r l a =
     follows_where heads_generic (blind_generic r)
-    (follows_make (Same r) generic_of (follows_seq (named r) (type_arguments_follow r l a)) (λ read other x y p. record { shown = λ n. rw (p.0.word, p.1.shown (n - 1)) refl; high = rw p.1.high refl; open_end = refl }))
+    (follows_make (Same r) generic_of (follows_seq (named r) (type_arguments_follow r l a)) (λ read other x y p. record { shown = λ n. rw (p.0.word, p.1.shown (n - 1)) refl; high = rw p.1.high refl; open_end = refl; last = refl }))
     (follows_turn (Same r) identifier_of (named r) (identifier_same r))
 
 parenthesis_follows : (r : Readers) (l : Lower) → Followed r l → Follows r (Same r) (take_parenthesis l)
 unfolding take_parenthesis
 parenthesis_follows r l a =
     follows_make (Same r) parenthesis_of (follows_inside (is kind.OpenParenthesis) (blind_is kind.OpenParenthesis) (a.expression setting.Plain))
-    (λ read other x y p. record { shown = λ n. rw (p.1.shown (n - 1)) refl; high = rw p.1.high refl; open_end = refl })
+    (λ read other x y p. record { shown = λ n. rw (p.1.shown (n - 1)) refl; high = rw p.1.high refl; open_end = refl; last = refl })
 
 closure_follows : (r : Readers) (m : Setting) (l : Lower) → Followed r l → Follows r (Same r) (take_closure m l)
 unfolding take_closure
@@ -334,21 +338,21 @@ closure_follows r m l a =
     follows_make (Same r) closure_of
     (follows_seq (parameter_list_follows r l a)
     (follows_where (heads kind.Arrow) (blind_heads r kind.Arrow)
-    (follows_make (Same r) arrow_of (follows_seq (mark r kind.Arrow) (a.expression m)) (λ read other x y p. record { shown = λ n. rw (p.1.shown n) refl; high = p.1.high; open_end = refl })) a.block))
-    (λ read other x y p. record { shown = λ n. rw (p.0.shown (n - 1), p.1.shown (n - 1)) refl; high = rw (p.0.high, p.1.high) refl; open_end = refl })
+    (follows_make (Same r) arrow_of (follows_seq (mark r kind.Arrow) (a.expression m)) (λ read other x y p. record { shown = λ n. rw (p.1.shown n) refl; high = p.1.high; open_end = refl; last = refl })) a.block))
+    (λ read other x y p. record { shown = λ n. rw (p.0.shown (n - 1), p.1.shown (n - 1)) refl; high = rw (p.0.high, p.1.high) refl; open_end = refl; last = p.1.last })
 
 new_follows : (r : Readers) (l : Lower) → Followed r l → Follows r (Same r) (take_new l)
 unfolding take_new
 new_follows r l a =
     follows_make (Same r) new_of
     (follows_seq (mark r kind.New) (follows_seq a.constructed (follows_seq (follows_maybe (follows_seq (mark r kind.Period) (named r))) (arguments_follow r l a))))
-    (λ read other x y p. record { shown = λ n. rw (p.1.0.shown (n - 1), behind_bare x.1.1.0 y.1.1.0 p.1.1.0, p.1.1.1.shown (n - 1)) refl; high = rw (p.1.0.high, p.1.1.1.high) refl; open_end = refl })
+    (λ read other x y p. record { shown = λ n. rw (p.1.0.shown (n - 1), behind_bare x.1.1.0 y.1.1.0 p.1.1.0, p.1.1.1.shown (n - 1)) refl; high = rw (p.1.0.high, p.1.1.1.high) refl; open_end = refl; last = refl })
 
 entry_follows : (r : Readers) (l : Lower) → Followed r l → Follows r (Same r) (take_entry l)
 unfolding take_entry
 entry_follows r l a =
     follows_make (Same r) entry_of (follows_seq (a.expression setting.Listed) (follows_maybe (follows_seq (mark r kind.Colon) (a.expression setting.Listed))))
-    (λ read other x y p. let value = behind_same r x.1 y.1 p.1 in record { shown = λ n. rw (p.0.shown n, value.shown n) refl; high = rw (p.0.high, value.high) refl; open_end = refl })
+    (λ read other x y p. let value = behind_same r x.1 y.1 p.1 in record { shown = λ n. rw (p.0.shown n, value.shown n) refl; high = rw (p.0.high, value.high) refl; open_end = refl; last = refl })
 
 abbrev pub ContentsSame : Readers → Contents → Contents → Type 0
 ContentsSame r (listed x) (listed y) = Alls (Same r) x y
@@ -360,13 +364,13 @@ collection_same : (r : Readers) (read other : List Token) (o p : Option Tree) �
 collection_same r read other o p b (listed x) (listed y) q =
     let arguments = part_same r o p b in
     let all = all_same r x y q in
-    record { shown = λ n. rw (arguments.shown (n - 1), all.shown (n - 1)) refl; high = rw (arguments.high, all.high) refl; open_end = refl }
+    record { shown = λ n. rw (arguments.shown (n - 1), all.shown (n - 1)) refl; high = rw (arguments.high, all.high) refl; open_end = refl; last = refl }
 collection_same r read other o p b (listed x) (entries y) q = absurd q
 collection_same r read other o p b (entries x) (listed y) q = absurd q
 collection_same r read other o p b (entries x) (entries y) q =
     let arguments = part_same r o p b in
     let all = all_same r x y q in
-    record { shown = λ n. rw (arguments.shown (n - 1), all.shown (n - 1)) refl; high = rw (arguments.high, all.high) refl; open_end = refl }
+    record { shown = λ n. rw (arguments.shown (n - 1), all.shown (n - 1)) refl; high = rw (arguments.high, all.high) refl; open_end = refl; last = refl }
 
 collection_follows : (r : Readers) (l : Lower) → Followed r l → Follows r (Same r) (take_collection l)
 unfolding take_collection
@@ -381,13 +385,13 @@ collection_follows r l a =
 primary_follows : (r : Readers) (m : Setting) (l : Lower) → Followed r l → Follows r (Same r) (take_primary m l)
 unfolding take_primary
 primary_follows r m l a =
-    follows_where (heads kind.Integer) (blind_heads r kind.Integer) (follows_turn (Same r) integer_of (mark r kind.Integer) (λ x y p. record { shown = λ n. rw p.word refl; high = refl; open_end = refl }))
+    follows_where (heads kind.Integer) (blind_heads r kind.Integer) (follows_turn (Same r) integer_of (mark r kind.Integer) (λ x y p. record { shown = λ n. rw p.word refl; high = refl; open_end = refl; last = refl }))
     (follows_where (next begins_string) (blind_next r begins_string blind_string) (strings_follow r l a)
-    (follows_where (heads kind.True) (blind_heads r kind.True) (follows_turn (Same r) (boolean_of true) (mark r kind.True) (λ x y p. record { shown = λ n. refl; high = refl; open_end = refl }))
-    (follows_where (heads kind.False) (blind_heads r kind.False) (follows_turn (Same r) (boolean_of false) (mark r kind.False) (λ x y p. record { shown = λ n. refl; high = refl; open_end = refl }))
-    (follows_where (heads kind.Null) (blind_heads r kind.Null) (follows_turn (Same r) null_of (mark r kind.Null) (λ x y p. record { shown = λ n. refl; high = refl; open_end = refl }))
+    (follows_where (heads kind.True) (blind_heads r kind.True) (follows_turn (Same r) (boolean_of true) (mark r kind.True) (λ x y p. record { shown = λ n. refl; high = refl; open_end = refl; last = refl }))
+    (follows_where (heads kind.False) (blind_heads r kind.False) (follows_turn (Same r) (boolean_of false) (mark r kind.False) (λ x y p. record { shown = λ n. refl; high = refl; open_end = refl; last = refl }))
+    (follows_where (heads kind.Null) (blind_heads r kind.Null) (follows_turn (Same r) null_of (mark r kind.Null) (λ x y p. record { shown = λ n. refl; high = refl; open_end = refl; last = refl }))
     (follows_where (heads kind.This) (blind_heads r kind.This) (follows_turn (Same r) this_of (mark r kind.This) (this_same r))
-    (follows_where (heads kind.Super) (blind_heads r kind.Super) (follows_turn (Same r) super_of (mark r kind.Super) (λ x y p. record { shown = λ n. refl; high = refl; open_end = refl }))
+    (follows_where (heads kind.Super) (blind_heads r kind.Super) (follows_turn (Same r) super_of (mark r kind.Super) (λ x y p. record { shown = λ n. refl; high = refl; open_end = refl; last = refl }))
     (follows_where heads_name (blind_heads_name r) (name_follows r l a)
     (follows_where (heads kind.OpenParenthesis) (blind_heads r kind.OpenParenthesis) (follows_where (heads_closure m) (blind_closure r m) (closure_follows r m l a) (parenthesis_follows r l a))
     (follows_where (heads kind.New) (blind_heads r kind.New) (new_follows r l a) (collection_follows r l a))))))))))
@@ -411,22 +415,22 @@ SelectorSame r (called types arguments) check = ⊥
 SelectorSame r (called types arguments) (called types_ arguments_) = Both (Same r) types types_ × Same r arguments arguments_
 
 selected_same : (r : Readers) (read other : List Token) (x y : Tree) → Same r x y → (s t : Selector) → SelectorSame r s t → Same r (select_with read x s) (select_with other y t)
-selected_same r read other x y p (member null_aware name) (member null_aware_ name_) q = record { shown = λ n. rw (p.shown (n - 1), q.0, q.1) refl; high = rw p.high refl; open_end = refl }
+selected_same r read other x y p (member null_aware name) (member null_aware_ name_) q = record { shown = λ n. rw (p.shown (n - 1), q.0, q.1) refl; high = rw p.high refl; open_end = refl; last = refl }
 selected_same r read other x y p (member null_aware name) (element null_aware_ bracket_ index_) q = absurd q
 selected_same r read other x y p (member null_aware name) check q = absurd q
 selected_same r read other x y p (member null_aware name) (called types_ arguments_) q = absurd q
 selected_same r read other x y p (element null_aware bracket index) (member null_aware_ name_) q = absurd q
-selected_same r read other x y p (element null_aware bracket index) (element null_aware_ bracket_ index_) q = record { shown = λ n. rw (p.shown (n - 1), q.0, q.1.shown (n - 1)) refl; high = rw (p.high, q.1.high) refl; open_end = refl }
+selected_same r read other x y p (element null_aware bracket index) (element null_aware_ bracket_ index_) q = record { shown = λ n. rw (p.shown (n - 1), q.0, q.1.shown (n - 1)) refl; high = rw (p.high, q.1.high) refl; open_end = refl; last = refl }
 selected_same r read other x y p (element null_aware bracket index) check q = absurd q
 selected_same r read other x y p (element null_aware bracket index) (called types_ arguments_) q = absurd q
 selected_same r read other x y p check (member null_aware_ name_) q = absurd q
 selected_same r read other x y p check (element null_aware_ bracket_ index_) q = absurd q
-selected_same r read other x y p check check q = record { shown = λ n. rw (p.shown (n - 1)) refl; high = rw p.high refl; open_end = refl }
+selected_same r read other x y p check check q = record { shown = λ n. rw (p.shown (n - 1)) refl; high = rw p.high refl; open_end = refl; last = refl }
 selected_same r read other x y p check (called types_ arguments_) q = absurd q
 selected_same r read other x y p (called types arguments) (member null_aware_ name_) q = absurd q
 selected_same r read other x y p (called types arguments) (element null_aware_ bracket_ index_) q = absurd q
 selected_same r read other x y p (called types arguments) check q = absurd q
-selected_same r read other x y p (called types arguments) (called types_ arguments_) q = let part = part_same r types types_ q.0 in record { shown = λ n. rw (p.shown (n - 1), part.shown (n - 1), q.1.shown (n - 1)) refl; high = rw (p.high, part.high, q.1.high) refl; open_end = refl }
+selected_same r read other x y p (called types arguments) (called types_ arguments_) q = let part = part_same r types types_ q.0 in record { shown = λ n. rw (p.shown (n - 1), part.shown (n - 1), q.1.shown (n - 1)) refl; high = rw (p.high, part.high, q.1.high) refl; open_end = refl; last = refl }
 
 selector_follows : (r : Readers) (m : Setting) (l : Lower) → Followed r l → Follows r (SelectorSame r) (take_selector m l)
 unfolding take_selector
@@ -442,15 +446,15 @@ selector_follows r m l a =
 selected_follows : (r : Readers) (n : ℕ) (m : Setting) (l : Lower) → Followed r l → Follows r (Same r) (take_selected n m l)
 unfolding take_selected
 selected_follows r n m l a =
-    follows_chain every_time (fits n) select_with (λ ts us s. agree_length ts us s.agree) (primary_follows r m l a) (selector_follows r m l a) (fits_same r n) (λ read other x y z w p q. selected_same r read other x y p z w q)
+    follows_chain every_time (is_open n) select_with (λ ts us s. agree_length ts us s.agree) (primary_follows r m l a) (selector_follows r m l a) (open_same r n) (λ read other x y z w p q. selected_same r read other x y p z w q)
 
 pub unary_follows : (r : Readers) (n : ℕ) (m : Setting) (l : Lower) → Followed r l → Follows r (Same r) (take_unary n m l)
 unfolding take_unary take_incremented
 unary_follows r n m l a =
     follows_where (next begins_prefix) (blind_next r begins_prefix blind_prefix)
-    (follows_make (Same r) unary_of (follows_seq (prefix_follows r) (a.unary m)) (λ read other x y p. record { shown = λ n. rw (p.0, p.1.shown (n - 1)) refl; high = rw p.1.high refl; open_end = refl }))
-    (follows_chain one_time (fits n) postfix_of (λ ts us s. refl) (selected_follows r n m l a) (postfix_follows r) (fits_same r n)
-    (λ read other x y z w p q. record { shown = λ n. rw (q, p.shown (n - 1)) refl; high = rw p.high refl; open_end = refl }))
+    (follows_make (Same r) unary_of (follows_seq (prefix_follows r) (a.unary m)) (λ read other x y p. record { shown = λ n. rw (p.0, p.1.shown (n - 1)) refl; high = rw p.1.high refl; open_end = refl; last = p.1.last }))
+    (follows_chain one_time (is_open n) postfix_of (λ ts us s. refl) (selected_follows r n m l a) (postfix_follows r) (open_same r n)
+    (λ read other x y z w p q. record { shown = λ n. rw (q, p.shown (n - 1)) refl; high = rw p.high refl; open_end = refl; last = refl }))
 
 abbrev pub SideSame : Readers → Side → Side → Type 0
 SideSame r (operated operator right) (operated operator_ right_) = (operator.kind ≡ operator_.kind) × Same r right right_
@@ -471,22 +475,22 @@ SideSame r (choices one two) (cast written_) = ⊥
 SideSame r (choices one two) (choices one_ two_) = Same r one one_ × Same r two two_
 
 sided_same : (r : Readers) (read other : List Token) (x y : Tree) → Same r x y → (s t : Side) → SideSame r s t → Same r (side_with read x s) (side_with other y t)
-sided_same r read other x y p (operated operator right) (operated operator_ right_) q = record { shown = λ n. rw (q.0, p.shown (n - 1), q.1.shown (n - 1)) refl; high = rw (p.high, q.1.high) refl; open_end = refl }
+sided_same r read other x y p (operated operator right) (operated operator_ right_) q = record { shown = λ n. rw (q.0, p.shown (n - 1), q.1.shown (n - 1)) refl; high = rw (p.high, q.1.high) refl; open_end = refl; last = q.1.last }
 sided_same r read other x y p (operated operator right) (tested negated_ written_) q = absurd q
 sided_same r read other x y p (operated operator right) (cast written_) q = absurd q
 sided_same r read other x y p (operated operator right) (choices one_ two_) q = absurd q
 sided_same r read other x y p (tested negated written) (operated operator_ right_) q = absurd q
-sided_same r read other x y p (tested negated written) (tested negated_ written_) q = record { shown = λ n. rw (q.0, p.shown (n - 1), q.1.shown (n - 1)) refl; high = rw (p.high, q.1.high) refl; open_end = refl }
+sided_same r read other x y p (tested negated written) (tested negated_ written_) q = record { shown = λ n. rw (q.0, p.shown (n - 1), q.1.shown (n - 1)) refl; high = rw (p.high, q.1.high) refl; open_end = refl; last = refl }
 sided_same r read other x y p (tested negated written) (cast written_) q = absurd q
 sided_same r read other x y p (tested negated written) (choices one_ two_) q = absurd q
 sided_same r read other x y p (cast written) (operated operator_ right_) q = absurd q
 sided_same r read other x y p (cast written) (tested negated_ written_) q = absurd q
-sided_same r read other x y p (cast written) (cast written_) q = record { shown = λ n. rw (p.shown (n - 1), q.shown (n - 1)) refl; high = rw (p.high, q.high) refl; open_end = refl }
+sided_same r read other x y p (cast written) (cast written_) q = record { shown = λ n. rw (p.shown (n - 1), q.shown (n - 1)) refl; high = rw (p.high, q.high) refl; open_end = refl; last = refl }
 sided_same r read other x y p (cast written) (choices one_ two_) q = absurd q
 sided_same r read other x y p (choices one two) (operated operator_ right_) q = absurd q
 sided_same r read other x y p (choices one two) (tested negated_ written_) q = absurd q
 sided_same r read other x y p (choices one two) (cast written_) q = absurd q
-sided_same r read other x y p (choices one two) (choices one_ two_) q = record { shown = λ n. rw (p.shown (n - 1), q.0.shown (n - 1), q.1.shown (n - 1)) refl; high = rw (p.high, q.0.high, q.1.high) refl; open_end = refl }
+sided_same r read other x y p (choices one two) (choices one_ two_) q = record { shown = λ n. rw (p.shown (n - 1), q.0.shown (n - 1), q.1.shown (n - 1)) refl; high = rw (p.high, q.0.high, q.1.high) refl; open_end = refl; last = refl }
 
 operated_follows : (r : Readers) (m : Setting) (l : Lower) → Followed r l → (which : Level) (above : List Level) → Follows r (SideSame r) (take_operated m l which above)
 unfolding take_operated
@@ -528,23 +532,23 @@ times_same r level.Product ts us s = agree_length ts us s.agree
 pub operand_follows : (r : Readers) (n : ℕ) (m : Setting) (l : Lower) → Followed r l → (above : List Level) → Follows r (Same r) (take_operand n m l above)
 unfolding take_operand
 operand_follows r n m l a above =
-    follows_levels times (fits n) side_with (times_same r) (right_follows r m l a) (fits_same r n) (λ read other x y z w p q. sided_same r read other x y p z w q) (unary_follows r n m l a) above
+    follows_levels times (is_open n) side_with (times_same r) (right_follows r m l a) (open_same r n) (λ read other x y z w p q. sided_same r read other x y p z w q) (unary_follows r n m l a) above
 
 assigned_same : (r : Readers) (read other : List Token) (x y : Tree) (z w : AssignmentOperator × Tree) → Same r x y → Pair SameAssignment (Same r) z w → Same r (assign_of read x z) (assign_of other y w)
-assigned_same r read other x y z w p q = record { shown = λ n. rw (q.0, p.shown (n - 1), q.1.shown (n - 1)) refl; high = rw (p.high, q.1.high) refl; open_end = refl }
+assigned_same r read other x y z w p q = record { shown = λ n. rw (q.0, p.shown (n - 1), q.1.shown (n - 1)) refl; high = rw (p.high, q.1.high) refl; open_end = refl; last = q.1.last }
 
 pub section_head_follows : (r : Readers) (expression : Descent Token Tree) → Follows r (Same r) expression → Follows r (Same r) (take_section_head expression)
 unfolding take_section_head
 section_head_follows r expression e =
-    follows_where heads_name (blind_heads_name r) (follows_turn (Same r) cascaded_name_of (named r) (λ x y p. record { shown = λ n. rw p.word refl; high = refl; open_end = refl }))
-    (follows_make (Same r) cascaded_index_of (follows_inside (is kind.OpenBracket) (blind_is kind.OpenBracket) e) (λ read other x y p. record { shown = λ n. rw (p.1.shown n) refl; high = p.1.high; open_end = refl }))
+    follows_where heads_name (blind_heads_name r) (follows_turn (Same r) cascaded_name_of (named r) (λ x y p. record { shown = λ n. rw p.word refl; high = refl; open_end = refl; last = refl }))
+    (follows_make (Same r) cascaded_index_of (follows_inside (is kind.OpenBracket) (blind_is kind.OpenBracket) e) (λ read other x y p. record { shown = λ n. rw (p.1.shown n) refl; high = p.1.high; open_end = refl; last = refl }))
 
 pub section_follows : (r : Readers) (n : ℕ) (m : Setting) (l : Lower) → Followed r l → (expression : Descent Token Tree) → Follows r (Same r) expression → Follows r (Same r) (take_section n m l expression)
 unfolding take_section
 section_follows r n m l a expression e =
-    follows_chain one_time (fits n) assign_of (λ ts us s. refl)
-    (follows_chain every_time (fits n) select_with (λ ts us s. agree_length ts us s.agree) (section_head_follows r expression e) (selector_follows r m l a) (fits_same r n) (λ read other x y z w p q. selected_same r read other x y p z w q))
-    (follows_seq (assignment_follows r) (a.operand m table)) (fits_same r n) (assigned_same r)
+    follows_chain one_time (is_open n) assign_of (λ ts us s. refl)
+    (follows_chain every_time (is_open n) select_with (λ ts us s. agree_length ts us s.agree) (section_head_follows r expression e) (selector_follows r m l a) (open_same r n) (λ read other x y z w p q. selected_same r read other x y p z w q))
+    (follows_seq (assignment_follows r) (a.operand m table)) (open_same r n) (assigned_same r)
 
 cascade_section_follows : (r : Readers) (m : Setting) (l : Lower) → Followed r l → Follows r (Pair Equal (Same r)) (take_cascade_section m l)
 unfolding take_cascade_section
@@ -555,8 +559,8 @@ cascade_section_follows r m l a =
 pub expression_follows : (r : Readers) (n : ℕ) (m : Setting) (l : Lower) → Followed r l → Follows r (Same r) (take_expression n m l)
 unfolding take_expression take_assignment_expression take_throw take_cascade
 expression_follows r n m l a =
-    follows_or (follows_once (fits n) assign_of (unary_follows r n m l a) (follows_seq (assignment_follows r) (a.expression m)) (fits_same r n) (assigned_same r))
+    follows_or (follows_once (is_open n) assign_of (unary_follows r n m l a) (follows_seq (assignment_follows r) (a.expression m)) (open_same r n) (assigned_same r))
     (follows_where (heads kind.Throw) (blind_heads r kind.Throw)
-    (follows_make (Same r) throw_of (follows_seq (mark r kind.Throw) (a.expression m)) (λ read other x y p. record { shown = λ n. rw (p.1.shown (n - 1)) refl; high = rw p.1.high refl; open_end = refl }))
-    (follows_chain every_time (fits n) cascade_of (λ ts us s. agree_length ts us s.agree) (operand_follows r n m l a table) (cascade_section_follows r m l a) (fits_same r n)
-    (λ read other x y z w p q. record { shown = λ n. rw (p.shown (n - 1), q.0, q.1.shown (n - 1)) refl; high = rw (p.high, q.1.high) refl; open_end = refl })))
+    (follows_make (Same r) throw_of (follows_seq (mark r kind.Throw) (a.expression m)) (λ read other x y p. record { shown = λ n. rw (p.1.shown (n - 1)) refl; high = rw p.1.high refl; open_end = refl; last = refl }))
+    (follows_chain every_time (is_open n) cascade_of (λ ts us s. agree_length ts us s.agree) (operand_follows r n m l a table) (cascade_section_follows r m l a) (open_same r n)
+    (λ read other x y z w p q. record { shown = λ n. rw (p.shown (n - 1), q.0, q.1.shown (n - 1)) refl; high = rw (p.high, q.1.high) refl; open_end = refl; last = q.1.last })))

@@ -6,6 +6,7 @@ use Rattle.dart_tree.specs.Heights.{height, heights, height_of_part}
 use Rattle.unread_lists.specs.WithLists.{list_read, with_lists, all_with_lists, part_with_lists}
 use Rattle.grammar.specs.declared.token.Token.{Token}
 use Rattle.grammar.specs.Types.{behind_token, listed_or_none}
+use Rattle.grammar.specs.Expressions.{reads_on}
 use Rattle.grammar.specs.Statements.{ends_open}
 use Rattle.range_laws.specs.Agreeing.{Twins}
 use Rattle.range_laws.proofs.Follow.{Readers, Both, Pair, Alls}
@@ -15,6 +16,7 @@ pub record Same (r : Readers) (t u : Tree) : Type 0 where
   pub shown : (n : ℕ) → bare_with (λ word. word) (with_lists r.one n t) ≡ bare_with (λ word. word) (with_lists r.other n u)
   pub high : height t ≡ height u
   pub open_end : ends_open t ≡ ends_open u
+  pub last : reads_on t ≡ reads_on u
 
 -- so of the trees of a list
 pub record AllSame (r : Readers) (ts us : Trees) : Type 0 where

@@ -26,7 +26,7 @@ use Rattle.grammar.specs.Descents.{Lower, lower, take_unread, take_block, take_d
 -- Statements.
 
 pub error_same : (r : Readers) (read other : List Token) → Same r (error_of read) (error_of other)
-error_same r read other = record { shown = λ n. refl; high = refl; open_end = refl }
+error_same r read other = record { shown = λ n. refl; high = refl; open_end = refl; last = refl }
 
 -- Lists that aren't read yet.
 
@@ -53,7 +53,7 @@ pub block_follows : (r : Readers) → Follows r (Same r) take_block
 unfolding take_block
 block_follows r =
     follows_make (Same r) block_of (follows_inside (is kind.OpenBrace) (blind_is kind.OpenBrace) (unread_follows r))
-    (λ read other x y p. record { shown = λ n. rw (p.1.shown (n - 1)) refl; high = rw p.1.high refl; open_end = refl })
+    (λ read other x y p. record { shown = λ n. rw (p.1.shown (n - 1)) refl; high = rw p.1.high refl; open_end = refl; last = refl })
 
 -- Variables and functions.
 
@@ -68,7 +68,7 @@ variable_follows : (r : Readers) (l : Lower) → Followed r l → Follows r (Sam
 unfolding take_variable
 variable_follows r l a =
     follows_make (Same r) variable_of (follows_seq (named r) (follows_maybe (follows_seq (mark r kind.Equals) (a.expression setting.Plain))))
-    (λ read other x y p. let value = behind_same r x.1 y.1 p.1 in record { shown = λ n. rw (p.0.word, value.shown n) refl; high = value.high; open_end = refl })
+    (λ read other x y p. let value = behind_same r x.1 y.1 p.1 in record { shown = λ n. rw (p.0.word, value.shown n) refl; high = value.high; open_end = refl; last = refl })
 
 pub variables_follow : (r : Readers) (l : Lower) → Followed r l → Follows r (Same r) (take_variables l)
 unfolding take_variables
@@ -77,14 +77,14 @@ variables_follow r l a =
     (λ read other x y p.
     let written = part_same r x.0.1 y.0.1 p.0.1 in
     let all = all_same r x.1 y.1 p.1 in
-    record { shown = λ n. rw (p.0.0, written.shown n, all.shown n) refl; high = rw (written.high, all.high) refl; open_end = refl })
+    record { shown = λ n. rw (p.0.0, written.shown n, all.shown n) refl; high = rw (written.high, all.high) refl; open_end = refl; last = refl })
 
 pub local_body_follows : (r : Readers) (l : Lower) → Followed r l → Follows r (Same r) (take_local_body l)
 unfolding take_local_body
 local_body_follows r l a =
     follows_where (heads kind.OpenBrace) (blind_heads r kind.OpenBrace) a.block
     (follows_make (Same r) arrow_body_of (follows_seq (mark r kind.Arrow) (follows_seq (a.expression setting.Plain) (mark r kind.Semicolon)))
-    (λ read other x y p. record { shown = λ n. rw (p.1.0.shown n) refl; high = p.1.0.high; open_end = refl }))
+    (λ read other x y p. record { shown = λ n. rw (p.1.0.shown n) refl; high = p.1.0.high; open_end = refl; last = refl }))
 
 function_statement_follows : (r : Readers) (l : Lower) → Followed r l → Follows r (Same r) (take_function_statement l)
 unfolding take_function_statement take_local_function take_local_rest
@@ -102,19 +102,20 @@ function_statement_follows r l a =
       shown = λ n. rw (result.shown n, p.1.0.word, types.shown n, p.1.1.1.0.shown n, p.1.1.1.1.shown n) refl;
       high = rw (result.high, types.high, p.1.1.1.0.high, p.1.1.1.1.high) refl;
       open_end = refl;
+      last = refl;
     }))
-    (λ read other x y p. record { shown = λ n. rw (p.shown (n - 1)) refl; high = rw p.high refl; open_end = refl })
+    (λ read other x y p. record { shown = λ n. rw (p.shown (n - 1)) refl; high = rw p.high refl; open_end = refl; last = refl })
 
 variable_statement_follows : (r : Readers) (l : Lower) → Followed r l → Follows r (Same r) (take_variable_statement l)
 unfolding take_variable_statement
 variable_statement_follows r l a =
-    follows_make (Same r) variable_statement_of (follows_seq (variables_follow r l a) (mark r kind.Semicolon)) (λ read other x y p. record { shown = λ n. rw (p.0.shown (n - 1)) refl; high = rw p.0.high refl; open_end = refl })
+    follows_make (Same r) variable_statement_of (follows_seq (variables_follow r l a) (mark r kind.Semicolon)) (λ read other x y p. record { shown = λ n. rw (p.0.shown (n - 1)) refl; high = rw p.0.high refl; open_end = refl; last = refl })
 
 expression_statement_follows : (r : Readers) (l : Lower) → Followed r l → Follows r (Same r) (take_expression_statement l)
 unfolding take_expression_statement
 expression_statement_follows r l a =
     follows_make (Same r) expression_statement_of (follows_seq (follows_maybe (a.expression setting.Plain)) (mark r kind.Semicolon))
-    (λ read other x y p. let value = part_same r x.0 y.0 p.0 in record { shown = λ n. rw (value.shown (n - 1)) refl; high = rw value.high refl; open_end = refl })
+    (λ read other x y p. let value = part_same r x.0 y.0 p.0 in record { shown = λ n. rw (value.shown (n - 1)) refl; high = rw value.high refl; open_end = refl; last = refl })
 
 condition_follows : (r : Readers) (l : Lower) → Followed r l → Follows r (Same r) (take_condition l)
 unfolding take_condition
@@ -143,20 +144,21 @@ if_follows r l a =
       shown = λ n. rw (p.0.1.0.shown (n - 1), p.0.1.1.shown (n - 1), otherwise.shown (n - 1)) refl;
       high = rw (p.0.1.0.high, p.0.1.1.high, otherwise.high) refl;
       open_end = if_ends r (place_over read) (place_over other) x.0.1.0 y.0.1.0 x.0.1.1 y.0.1.1 x.1 y.1 p.1;
+      last = refl;
     })
 
 while_follows : (r : Readers) (l : Lower) → Followed r l → Follows r (Same r) (take_while l)
 unfolding take_while
 while_follows r l a =
     follows_make (Same r) while_of (follows_seq (mark r kind.While) (follows_seq (condition_follows r l a) a.statement))
-    (λ read other x y p. record { shown = λ n. rw (p.1.0.shown (n - 1), p.1.1.shown (n - 1)) refl; high = rw (p.1.0.high, p.1.1.high) refl; open_end = p.1.1.open_end })
+    (λ read other x y p. record { shown = λ n. rw (p.1.0.shown (n - 1), p.1.1.shown (n - 1)) refl; high = rw (p.1.0.high, p.1.1.high) refl; open_end = p.1.1.open_end; last = refl })
 
 do_follows : (r : Readers) (l : Lower) → Followed r l → Follows r (Same r) (take_do l)
 unfolding take_do
 do_follows r l a =
     follows_make (Same r) do_of
     (follows_seq (mark r kind.Do) (follows_seq a.statement (follows_seq (mark r kind.While) (follows_seq (condition_follows r l a) (mark r kind.Semicolon)))))
-    (λ read other x y p. record { shown = λ n. rw (p.1.0.shown (n - 1), p.1.1.1.0.shown (n - 1)) refl; high = rw (p.1.0.high, p.1.1.1.0.high) refl; open_end = refl })
+    (λ read other x y p. record { shown = λ n. rw (p.1.0.shown (n - 1), p.1.1.1.0.shown (n - 1)) refl; high = rw (p.1.0.high, p.1.1.1.0.high) refl; open_end = refl; last = refl })
 
 abbrev pub HeaderSame : Readers → Header → Header → Type 0
 HeaderSame r (counted one two all) (counted one_ two_ all_) = Both (Same r) one one_ × (Both (Same r) two two_ × Alls (Same r) all all_)
@@ -174,17 +176,17 @@ for_same r read other x y p (counted one two all) (counted one_ two_ all_) q =
     let start = part_same r one one_ q.0 in
     let condition = part_same r two two_ q.1.0 in
     let updates = all_same r all all_ q.1.1 in
-    record { shown = λ n. rw (start.shown (n - 1), condition.shown (n - 1), updates.shown (n - 1), p.shown (n - 1)) refl; high = rw (start.high, condition.high, updates.high, p.high) refl; open_end = p.open_end }
+    record { shown = λ n. rw (start.shown (n - 1), condition.shown (n - 1), updates.shown (n - 1), p.shown (n - 1)) refl; high = rw (start.high, condition.high, updates.high, p.high) refl; open_end = p.open_end; last = refl }
 for_same r read other x y p (counted one two all) (assigned name_ iterable_) q = absurd q
 for_same r read other x y p (counted one two all) (declaring final_ written_ name_ iterable_) q = absurd q
 for_same r read other x y p (assigned name iterable) (counted one_ two_ all_) q = absurd q
-for_same r read other x y p (assigned name iterable) (assigned name_ iterable_) q = record { shown = λ n. rw (q.0.word, q.1.shown (n - 1), p.shown (n - 1)) refl; high = rw (q.1.high, p.high) refl; open_end = p.open_end }
+for_same r read other x y p (assigned name iterable) (assigned name_ iterable_) q = record { shown = λ n. rw (q.0.word, q.1.shown (n - 1), p.shown (n - 1)) refl; high = rw (q.1.high, p.high) refl; open_end = p.open_end; last = refl }
 for_same r read other x y p (assigned name iterable) (declaring final_ written_ name_ iterable_) q = absurd q
 for_same r read other x y p (declaring final written name iterable) (counted one_ two_ all_) q = absurd q
 for_same r read other x y p (declaring final written name iterable) (assigned name_ iterable_) q = absurd q
 for_same r read other x y p (declaring final written name iterable) (declaring final_ written_ name_ iterable_) q =
     let part = part_same r written written_ q.1.0 in
-    record { shown = λ n. rw (q.0, part.shown (n - 1), q.1.1.0.word, q.1.1.1.shown (n - 1), p.shown (n - 1)) refl; high = rw (part.high, q.1.1.1.high, p.high) refl; open_end = p.open_end }
+    record { shown = λ n. rw (q.0, part.shown (n - 1), q.1.1.0.word, q.1.1.1.shown (n - 1), p.shown (n - 1)) refl; high = rw (part.high, q.1.1.1.high, p.high) refl; open_end = p.open_end; last = refl }
 
 each_same : (r : Readers) (o p : Option (Bool × Option Tree)) → Both (Pair Equal (Both (Same r))) o p → (t u : Token) → Twins t u → (x y : Tree) → Same r x y → HeaderSame r (each_with o t x) (each_with p u y)
 each_same r None None b t u h x y k = (h, k)
@@ -231,7 +233,7 @@ case_follows r l a =
     follows_make (Pair (Same r) Equal) case_of (follows_seq (labels_follow r l a) (follows_within case_size (same_case_size r) (unread_follows r)))
     (λ read other x y p.
     let values = all_same r x.0.0 y.0.0 p.0.0 in
-    (record { shown = λ n. rw (values.shown n, p.0.1, p.1.shown n) refl; high = rw (values.high, p.1.high) refl; open_end = refl }, p.0.1))
+    (record { shown = λ n. rw (values.shown n, p.0.1, p.1.shown n) refl; high = rw (values.high, p.1.high) refl; open_end = refl; last = refl }, p.0.1))
 
 cases_same : (r : Readers) (xs ys : List (Tree × Bool)) → Alls (Pair (Same r) Equal) xs ys → Alls (Same r) (map (λ c. c.0) xs) (map (λ c. c.0) ys)
 cases_same r [] [] p = tt
@@ -257,7 +259,7 @@ switch_follows r l a =
     (follows_only cases_end_with_default (λ x y p. defaults_same r x.1 y.1 p.1) (follows_inside (is kind.OpenBrace) (blind_is kind.OpenBrace) (follows_many (case_follows r l a))))))
     (λ read other x y p.
     let cases = all_same r (map (λ c. c.0) x.1.1.1) (map (λ c. c.0) y.1.1.1) (cases_same r x.1.1.1 y.1.1.1 p.1.1.1) in
-    record { shown = λ n. rw (p.1.0.shown (n - 1), cases.shown (n - 1)) refl; high = rw (p.1.0.high, cases.high) refl; open_end = refl })
+    record { shown = λ n. rw (p.1.0.shown (n - 1), cases.shown (n - 1)) refl; high = rw (p.1.0.high, cases.high) refl; open_end = refl; last = refl })
 
 -- Exceptions.
 
@@ -276,12 +278,12 @@ caught_same (Some x) (Some y) b = rw b.word refl
 
 clause_same : (r : Readers) (read other : List Token) (o p : Option Tree) → Both (Same r) o p → (c d : Option (Token × Option Token)) → Both (Pair Twins (Both Twins)) c d → (x y : Tree) → Same r x y → Same r (clause_with read o c x) (clause_with other p d y)
 clause_same r read other o p b None None q x y h =
-    let written = part_same r o p b in record { shown = λ n. rw (written.shown n, h.shown n) refl; high = rw (written.high, h.high) refl; open_end = refl }
+    let written = part_same r o p b in record { shown = λ n. rw (written.shown n, h.shown n) refl; high = rw (written.high, h.high) refl; open_end = refl; last = refl }
 clause_same r read other o p b None (Some (u, trace)) q x y h = absurd q
 clause_same r read other o p b (Some (t, trace)) None q x y h = absurd q
 clause_same r read other o p b (Some (t, trace)) (Some (u, stack)) q x y h =
     let written = part_same r o p b in
-    record { shown = λ n. rw (written.shown n, q.0.word, caught_same trace stack q.1, h.shown n) refl; high = rw (written.high, h.high) refl; open_end = refl }
+    record { shown = λ n. rw (written.shown n, q.0.word, caught_same trace stack q.1, h.shown n) refl; high = rw (written.high, h.high) refl; open_end = refl; last = refl }
 
 clause_follows : (r : Readers) (l : Lower) → Followed r l → Follows r (Same r) (take_clause l)
 unfolding take_clause
@@ -306,7 +308,7 @@ try_follows r l a =
     (λ read other x y p.
     let clauses = all_same r x.0.1.1 y.0.1.1 p.0.1.1 in
     let final = behind_same r x.1 y.1 p.1 in
-    record { shown = λ n. rw (p.0.1.0.shown (n - 1), clauses.shown (n - 1), final.shown (n - 1)) refl; high = rw (p.0.1.0.high, clauses.high, final.high) refl; open_end = refl })
+    record { shown = λ n. rw (p.0.1.0.shown (n - 1), clauses.shown (n - 1), final.shown (n - 1)) refl; high = rw (p.0.1.0.high, clauses.high, final.high) refl; open_end = refl; last = refl })
 
 -- All statements.
 
@@ -315,30 +317,30 @@ unfolding take_other_statement take_labeled
 other_statement_follows r l a =
     follows_where heads_label (blind_label r)
     (follows_make (Same r) labeled_of (follows_seq (named r) (follows_seq (mark r kind.Colon) a.statement))
-    (λ read other x y p. record { shown = λ n. rw (p.0.word, p.1.1.shown (n - 1)) refl; high = rw p.1.1.high refl; open_end = p.1.1.open_end }))
+    (λ read other x y p. record { shown = λ n. rw (p.0.word, p.1.1.shown (n - 1)) refl; high = rw p.1.1.high refl; open_end = p.1.1.open_end; last = refl }))
     (follows_or (function_statement_follows r l a) (follows_or (variable_statement_follows r l a) (expression_statement_follows r l a)))
 
 return_follows : (r : Readers) (l : Lower) → Followed r l → Follows r (Same r) (take_return l)
 unfolding take_return
 return_follows r l a =
     follows_make (Same r) return_of (follows_seq (mark r kind.Return) (follows_seq (follows_maybe (a.expression setting.Plain)) (mark r kind.Semicolon)))
-    (λ read other x y p. let value = part_same r x.1.0 y.1.0 p.1.0 in record { shown = λ n. rw (value.shown (n - 1)) refl; high = rw value.high refl; open_end = refl })
+    (λ read other x y p. let value = part_same r x.1.0 y.1.0 p.1.0 in record { shown = λ n. rw (value.shown (n - 1)) refl; high = rw value.high refl; open_end = refl; last = refl })
 
 break_follows : (r : Readers) → Follows r (Same r) take_break
 unfolding take_break
 break_follows r =
     follows_make (Same r) break_of (follows_seq (mark r kind.Break) (follows_seq (follows_maybe (named r)) (mark r kind.Semicolon)))
-    (λ read other x y p. record { shown = λ n. rw (option_bare x.1.0 y.1.0 p.1.0) refl; high = refl; open_end = refl })
+    (λ read other x y p. record { shown = λ n. rw (option_bare x.1.0 y.1.0 p.1.0) refl; high = refl; open_end = refl; last = refl })
 
 continue_follows : (r : Readers) → Follows r (Same r) take_continue
 unfolding take_continue
 continue_follows r =
     follows_make (Same r) continue_of (follows_seq (mark r kind.Continue) (follows_seq (follows_maybe (named r)) (mark r kind.Semicolon)))
-    (λ read other x y p. record { shown = λ n. rw (option_bare x.1.0 y.1.0 p.1.0) refl; high = refl; open_end = refl })
+    (λ read other x y p. record { shown = λ n. rw (option_bare x.1.0 y.1.0 p.1.0) refl; high = refl; open_end = refl; last = refl })
 
 rethrow_follows : (r : Readers) → Follows r (Same r) take_rethrow
 unfolding take_rethrow
-rethrow_follows r = follows_make (Same r) rethrow_of (follows_seq (mark r kind.Rethrow) (mark r kind.Semicolon)) (λ read other x y p. record { shown = λ n. refl; high = refl; open_end = refl })
+rethrow_follows r = follows_make (Same r) rethrow_of (follows_seq (mark r kind.Rethrow) (mark r kind.Semicolon)) (λ read other x y p. record { shown = λ n. refl; high = refl; open_end = refl; last = refl })
 
 statement_follows : (r : Readers) (l : Lower) → Followed r l → Follows r (Same r) (take_statement l)
 unfolding take_statement
@@ -381,7 +383,7 @@ followed r (suc n) =
       expression = λ m. expression_follows r n m (lower n) a;
       operand = λ m above. operand_follows r n m (lower n) a above;
       unary = λ m. unary_follows r n m (lower n) a;
-      section = λ m. section_follows r n m (lower n) a (take_expression n m (lower n)) (expression_follows r n m (lower n) a);
+      section = λ m. section_follows r n m (lower n) a (take_expression n setting.Plain (lower n)) (expression_follows r n setting.Plain (lower n) a);
       simple = simple_follows r;
       block = block_follows r;
       statement = statement_follows r (lower n) a;

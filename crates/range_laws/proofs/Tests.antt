@@ -15,7 +15,7 @@ use Rattle.grammar.specs.Tokens.{adjoins, is, is_either, is_name, is_type_name, 
 use Rattle.grammar.specs.Types.{heads_qualified, heads_required, heads_field, goes_on_parameter}
 use Rattle.grammar.specs.Outline.{Way, onward, ◌⨾◌, way_or, either_way, behind_or, perhaps, go_on, repeated, some_more, over, over_group, over_name, over_angles, over_parameter, over_tail, over_plain, over_type, behind_arguments}
 use Rattle.grammar.specs.Operators.{shift_at, greater_at, sign_at, heads_sign, read_sign, take_sign}
-use Rattle.grammar.specs.Expressions.{goes_on, heads_rest, heads_brace, heads_body, heads_closure, begins_expression, heads_tail, heads_choice, heads_nullable, heads_label, heads_use, heads_generic, behind_call, heads_call}
+use Rattle.grammar.specs.Expressions.{goes_on, heads_cast, heads_rest, heads_brace, heads_body, heads_closure, begins_expression, heads_tail, heads_choice, heads_nullable, heads_label, heads_use, heads_generic, behind_call, heads_call}
 use Rattle.grammar.specs.Statements.{segment_at, segment, case_size_at, case_size}
 use Rattle.grammar.specs.Declarations.{heads_getter, heads_setter, is_class, begins_static, heads_static, word_at, class_word, heads_class, heads_word}
 use Rattle.grammar.specs.Descents.{begins_string, begins_prefix}
@@ -291,8 +291,13 @@ blind_generic r =
     blind_first r is_name (λ ts. option_map_or heads_use (behind_arguments ts) false) blind_name
     (λ ts us a. map_blind r heads_use (blind_next r (is_either kind.OpenParenthesis kind.Period) (blind_either kind.OpenParenthesis kind.Period)) (behind_arguments ts) (behind_arguments us) (arguments_go r ts us a))
 
+blind_cast : (r : Readers) → Blind r heads_cast
+blind_cast r =
+    blind_first r (is kind.As) (λ ts. not (next (is_either kind.OpenParenthesis kind.Less) ts)) (blind_is kind.As)
+    (blind_not r (next (is_either kind.OpenParenthesis kind.Less)) (blind_next r (is_either kind.OpenParenthesis kind.Less) (λ t u w. rw w.kind refl)))
+
 blind_rest : (r : Readers) → Blind r heads_rest
-blind_rest r ts us a = rw (blind_next r goes_on (λ t u w. rw w.kind refl) ts us a, sign_same ts us a.agree) refl
+blind_rest r ts us a = rw (blind_next r goes_on (λ t u w. rw w.kind refl) ts us a, blind_cast r ts us a, sign_same ts us a.agree) refl
 
 blind_brace : (r : Readers) (m : Setting) → Blind r (heads_brace m)
 blind_brace r setting.Plain = blind_heads r kind.OpenBrace

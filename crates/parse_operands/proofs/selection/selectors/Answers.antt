@@ -1,10 +1,10 @@
 -- One more selector behind an operand.
-use Rattle.std.proofs.Common.{◌≡◌, ◌-◌, length, refl, arith}
-use Rattle.dart_tree.specs.Heights.{height, fits}
+use Rattle.std.proofs.Common.{◌≡◌, ◌-◌, ◌≤◌, length, true, refl, sym, ap, ◌∙◌, arith}
+use Rattle.dart_tree.specs.Heights.{height}
 use Rattle.readings.specs.Descent.{take_onto}
-use Rattle.grammar.specs.Expressions.{select_with}
+use Rattle.grammar.specs.Expressions.{select_with, is_open}
 use Rattle.grammar.specs.Descents.{lower, take_selector}
-use Rattle.parse_leaves.specs.Loops.{chain_goes, fits_deep}
+use Rattle.parse_leaves.specs.Loops.{chain_goes}
 use Rattle.parse_leaves.specs.Parts.{selector_of, selector_height}
 use Rattle.parse_leaves.specs.Grown.{node_grown, node_within}
 use Rattle.parse_operands.proofs.selection.selectors.Goals as goal
@@ -12,12 +12,15 @@ use Rattle.parse_operands.proofs.selection.selectors.Goals as goal
 pub loop-more-preserved : goal.loop-more-preserved
 loop-more-preserved g c =
     let known : c.room-room.result ≡ g.B.Below.room c.args.below.now = c.loop-more.invariant.known in
+    let still : is_open (g.B.Below.room c.args.below.now) c.loop-more.left ≡ true =
+    ap (λ k. is_open k c.loop-more.left) (sym known) ∙ sym c.is_open.ensures.open ∙ c.if-not-is_open.false in
+    let deep : c.loop-more.height ≤ c.room-room.result = c.is_open.ensures.within c.if-not-is_open.false in
     record {
       reading =
-          chain_goes (take_onto c.args.start.now (length c.args.tokens.now) (fits (g.B.Below.room c.args.below.now)) select_with (take_selector c.args.setting (lower (g.B.Below.room c.args.below.now))) c.args.first c.args.tokens.now) c.args.start.now c.loop-more.more (c.loop-more.more - 1)
-          (fits (g.B.Below.room c.args.below.now)) select_with (take_selector c.args.setting (lower (g.B.Below.room c.args.below.now))) c.loop-more.left c.in_ok-left-in-Ok.left c.loop-more.rest.now c.in-Ok.after.now (selector_of c.in-Ok.added) c.loop-more.invariant.reading (omega arith)
-          (fits_deep (g.B.Below.room c.args.below.now) c.loop-more.left c.loop-more.height c.loop-more.invariant.deep (omega (arith, known, c.if-height-room.false))) c.in-Ok.ensures.reading c.in_ok-left-in-Ok.ensures.reading refl;
+          chain_goes (take_onto c.args.start.now (length c.args.tokens.now) (is_open (g.B.Below.room c.args.below.now)) select_with (take_selector c.args.setting (lower (g.B.Below.room c.args.below.now))) c.args.first c.args.tokens.now) c.args.start.now c.loop-more.more (c.loop-more.more - 1)
+          (is_open (g.B.Below.room c.args.below.now)) select_with (take_selector c.args.setting (lower (g.B.Below.room c.args.below.now))) c.loop-more.left c.in_ok-left-in-Ok.left c.loop-more.rest.now c.in-Ok.after.now (selector_of c.in-Ok.added) c.loop-more.invariant.reading (omega arith)
+          still c.in-Ok.ensures.reading c.in_ok-left-in-Ok.ensures.reading refl;
       deep = node_grown c.loop-more.height c.in-Ok.tall c.higher-height.result (height c.loop-more.left) (selector_height (selector_of c.in-Ok.added)) (height c.in_ok-left-in-Ok.left) c.loop-more.invariant.deep c.in-Ok.ensures.deep.0 c.higher-height.ensures c.in_ok-left-in-Ok.ensures.deep;
-      within = node_within c.loop-more.height c.in-Ok.tall c.higher-height.result (g.B.Below.room c.args.below.now) c.room-room.result c.if-height-room.false known c.in-Ok.ensures.deep.1 c.higher-height.ensures;
+      within = node_within c.loop-more.height c.in-Ok.tall c.higher-height.result (g.B.Below.room c.args.below.now) c.room-room.result deep known c.in-Ok.ensures.deep.1 c.higher-height.ensures;
       known = known;
     }

@@ -1,13 +1,13 @@
 use Rattle.std.proofs.Common.{◌≡◌, ◌+◌, ◌≤◌, length}
-use Rattle.dart_tree.specs.Heights.{height, fits}
+use Rattle.dart_tree.specs.Heights.{height}
 use Rattle.readings.specs.Descent.{take_onto}
 use Rattle.grammar.specs.Descents.{lower, take_selector}
-use Rattle.grammar.specs.Expressions.{select_with}
+use Rattle.grammar.specs.Expressions.{select_with, is_open}
 use Rattle.parse_operands.proofs.selection.selectors.Given as goal
 
 abbrev pub invariant-loop-more : goal.invariant-loop-more
 invariant-loop-more g l = record {
-  reading : take_onto l.start (length l.tokens) (fits (g.B.Below.room l.below)) select_with (take_selector l.setting (lower (g.B.Below.room l.below))) l.fn.first l.tokens ≡ take_onto l.start l.more (fits (g.B.Below.room l.below)) select_with (take_selector l.setting (lower (g.B.Below.room l.below))) l.left l.rest;
+  reading : take_onto l.start (length l.tokens) (is_open (g.B.Below.room l.below)) select_with (take_selector l.setting (lower (g.B.Below.room l.below))) l.fn.first l.tokens ≡ take_onto l.start l.more (is_open (g.B.Below.room l.below)) select_with (take_selector l.setting (lower (g.B.Below.room l.below))) l.left l.rest;
   deep : l.height ≡ height l.left;
   within : l.height ≤ (g.B.Below.room l.below) + 1;
   known : l.room ≡ (g.B.Below.room l.below);

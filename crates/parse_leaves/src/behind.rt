@@ -1,0 +1,45 @@
+//! Whether anything may stand behind an expression.
+
+ghost use Rattle.std.specs.Prelude.{◌≡◌, ◌≤◌, true};
+ghost use Rattle.dart_tree.specs.Heights.{height};
+ghost use Rattle.grammar.specs.Expressions.{reads_on, is_open};
+
+use dart_tree::{Body, BodyNode, Expr, ExprNode};
+
+/// The body of a closure has taken all that can stand behind the closure: one behind `=>` has.
+fn body_reads_on(body: &Body) -> bool
+    ensures { result ≡ reads_on body.now }
+{
+    match &body.node {
+        BodyNode::Expression { .. } => true,
+        _ => false,
+    }
+}
+
+/// The expression, or its last part, has taken all that can stand behind it.
+fn reads_on(expression: &Expr) -> bool
+    ensures { result ≡ reads_on expression.now }
+{
+    match &*expression.node {
+        ExprNode::Function { body, .. } => body_reads_on(body),
+        ExprNode::Conditional { .. } => true,
+        ExprNode::Unary { operand, .. } => reads_on(operand),
+        ExprNode::Binary { right, .. } => reads_on(right),
+        ExprNode::Assignment { value, .. } => reads_on(value),
+        ExprNode::Cascade { section, .. } => reads_on(section),
+        _ => false,
+    }
+}
+
+/// Something may stand behind an expression of this height, where so many nodes may lie below one.
+#[tactic(auto, using(crate::specs::Loops::fits_deep, crate::specs::Loops::fits_not))]
+pub fn is_open(room: u32, reach: u32, expression: &Expr) -> bool
+    requires known { reach ≡ height expression.now }
+    ensures open { result ≡ is_open room expression.now }
+    ensures within { result ≡ true → reach ≤ room }
+{
+    if reach > room {
+        return false;
+    }
+    !reads_on(expression)
+}
