@@ -4,6 +4,7 @@ use Rattle.element_terms.specs.declared.libraries.LibraryElement.{LibraryElement
 use Rattle.load_files.specs.Paths.{lies_in}
 use Rattle.load_files.specs.Tables.{Table}
 use Rattle.load_files.specs.declared.packages.Package.{Package}
+use Rattle.namespaces.specs.Links.{IsPlaceTable}
 use Rattle.namespaces.specs.Namespaces.{AreNamespaces}
 use Rattle.libraries.specs.declared.aims.Aim.{Aim}
 use Rattle.libraries.specs.declared.files.SourceFile.{SourceFile}
@@ -36,6 +37,7 @@ pub record IsLinkedFrom (packages : List Package) (read : ReadFiles) (linked : L
   pub heads : linked.heads.items ≡ heads_of packages read.sources.items
   pub elements : linked.elements.items ≡ elements_of linked.sources.items linked.heads.items linked.aims.items
   pub spaces : AreNamespaces linked.elements.items linked.spaces.items
+  pub places : IsPlaceTable linked.elements.items linked.places.places
 
 -- what is known of the files of a table, `dart:core` before them
 pub record AreLinked (packages : List Package) (table : Table) (linked : Linked) : Type 0 where
@@ -45,6 +47,7 @@ pub record AreLinked (packages : List Package) (table : Table) (linked : Linked)
   pub heads : linked.heads.items ≡ heads_of packages (sources_of table)
   pub elements : linked.elements.items ≡ elements_of linked.sources.items linked.heads.items linked.aims.items
   pub spaces : AreNamespaces linked.elements.items linked.spaces.items
+  pub places : IsPlaceTable linked.elements.items linked.places.places
 
 -- the place of a path among all files
 abbrev pub place_in : (path : List ℕ) → Table → Option ℕ

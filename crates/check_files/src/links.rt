@@ -14,7 +14,7 @@ use element_terms::LibraryElement;
 use fault_io::is_under;
 use libraries::{Aims, Head, SourceFile, all_aims, elements_of, heads_of, paths_of};
 use load_files::Packages;
-use namespaces::{Namespace, exports};
+use namespaces::{Namespace, PlaceTable, exports, place_table};
 use std::alloc::{AllocError, Global};
 
 /// What is known of files, `dart:core` before them.
@@ -32,6 +32,8 @@ pub struct Linked {
     pub elements: Vec<LibraryElement>,
     /// What each library exports.
     pub spaces: Vec<Namespace>,
+    /// The places of the libraries.
+    pub places: PlaceTable,
 }
 
 /// What the directives of each file are about.
@@ -56,6 +58,7 @@ fn link_read(alloc: Global, packages: &Packages, read: ReadFiles) -> Result<Link
     let heads = heads_of(alloc, aims.as_slice())?;
     let elements = elements_of(alloc, sources.as_slice(), heads.as_slice(), aims.as_slice())?;
     let spaces = exports(alloc, elements.as_slice())?;
+    let places = place_table(alloc, elements.as_slice())?;
     Ok(Linked {
         sources,
         faults,
@@ -63,6 +66,7 @@ fn link_read(alloc: Global, packages: &Packages, read: ReadFiles) -> Result<Link
         heads,
         elements,
         spaces,
+        places,
     })
 }
 

@@ -9,6 +9,7 @@ ghost use Rattle.check_files.specs.Lent.{contents_view};
 ghost use Rattle.check_files.specs.Reports.{AreFindings, ambiguous_in, faults_at, faults_of_library, findings_in, findings_in_file, findings_in_library, homeless_faults, own_at};
 ghost use Rattle.libraries.specs.Checks.{aims_at};
 ghost use Rattle.libraries.specs.Parts.{home_of};
+ghost use Rattle.namespaces.specs.Links.{IsPlaceTable};
 
 use crate::findings::{Finding, add_faults, add_library_faults, fault_of, faults_in, sorted};
 use crate::lent::LentContents;
@@ -18,11 +19,10 @@ use check_library::sorted as sorted_faults;
 use element_terms::LibraryElement;
 use judgement::Fault;
 use libraries::{
-    Aim, Aims, FileFaults, Head, Home, add_ambiguous_exports, aims_at, edges_of, file_faults,
-    home_of, library_faults,
+    FileFaults, Home, add_ambiguous_exports, aims_at, edges_of, file_faults, home_of,
+    library_faults,
 };
 use library_graph::reached;
-use namespaces::Namespace;
 use std::alloc::{AllocError, Global};
 
 /// What is wrong with the text of the file at a place.
@@ -71,43 +71,43 @@ fn element_at(elements: &[LibraryElement], place: usize) -> Option<&LibraryEleme
 /// Adds which exports of a library are ambiguous.
 fn add_ambiguous(
     alloc: Global,
-    heads: &[Head],
-    elements: &[LibraryElement],
-    spaces: &[Namespace],
-    aims: &[Aim],
+    linked: &Linked,
     library: usize,
     element: &LibraryElement,
     findings: &mut Vec<Finding>,
 ) -> Result<(), AllocError>
-    requires { length spaces.now ≡ length elements.now }
-    ensures { OnOk result (findings.new.items ≡ findings.old.items ++ ambiguous_in heads.now elements.now spaces.now aims.now library (Some element.now)) }
+    requires places { IsPlaceTable linked.now.elements.items linked.now.places.places }
+    requires spaces { length linked.now.spaces.items ≡ length linked.now.elements.items }
+    ensures { OnOk result (findings.new.items ≡ findings.old.items ++ ambiguous_in linked.now.heads.items linked.now.elements.items linked.now.spaces.items (aims_at linked.now.aims.items library) library (Some element.now)) }
 {
     let mut faults = Vec::new(alloc);
-    add_ambiguous_exports(alloc, heads, elements, spaces, element, aims, &mut faults)?;
+    add_ambiguous_exports(
+        alloc,
+        linked.heads.as_slice(),
+        linked.elements.as_slice(),
+        &linked.places,
+        linked.spaces.as_slice(),
+        element,
+        aims_at(linked.aims.as_slice(), library),
+        &mut faults,
+    )?;
     add_library_faults(library, faults.as_slice(), findings)
 }
 
 /// Adds which exports of the library at a place are ambiguous, if there is one.
 fn add_ambiguous_at(
     alloc: Global,
-    heads: &[Head],
-    all: &[Aims],
-    elements: &[LibraryElement],
-    spaces: &[Namespace],
+    linked: &Linked,
     library: usize,
     findings: &mut Vec<Finding>,
 ) -> Result<(), AllocError>
-    requires { length spaces.now ≡ length elements.now }
-    ensures { OnOk result (findings.new.items ≡ findings.old.items ++ ambiguous_in heads.now elements.now spaces.now (aims_at all.now library) library (slice_get elements.now library)) }
+    requires places { IsPlaceTable linked.now.elements.items linked.now.places.places }
+    requires spaces { length linked.now.spaces.items ≡ length linked.now.elements.items }
+    ensures { OnOk result (findings.new.items ≡ findings.old.items ++ ambiguous_in linked.now.heads.items linked.now.elements.items linked.now.spaces.items (aims_at linked.now.aims.items library) library (slice_get linked.now.elements.items library)) }
 {
-    match element_at(elements, library) {
+    match element_at(linked.elements.as_slice(), library) {
         None => Ok(()),
-        Some(element) => {
-            let aims = aims_at(all, library);
-            add_ambiguous(
-                alloc, heads, elements, spaces, aims, library, element, findings,
-            )
-        }
+        Some(element) => add_ambiguous(alloc, linked, library, element, findings),
     }
 }
 
@@ -118,16 +118,15 @@ fn add_library(
     library: usize,
     findings: &mut Vec<Finding>,
 ) -> Result<(), AllocError>
-    requires { length linked.now.spaces.items ≡ length linked.now.elements.items }
+    requires places { IsPlaceTable linked.now.elements.items linked.now.places.places }
+    requires spaces { length linked.now.spaces.items ≡ length linked.now.elements.items }
     ensures { OnOk result (findings.new.items ≡ findings.old.items ++ findings_in_library linked.now.sources.items linked.now.heads.items linked.now.aims.items linked.now.faults.items linked.now.elements.items linked.now.spaces.items library) }
 {
     let heads = linked.heads.as_slice();
     let all = linked.aims.as_slice();
-    let elements = linked.elements.as_slice();
-    let spaces = linked.spaces.as_slice();
     let found = library_faults(alloc, linked.sources.as_slice(), heads, all, library)?;
     add_files(linked.faults.as_slice(), found.as_slice(), findings)?;
-    add_ambiguous_at(alloc, heads, all, elements, spaces, library, findings)
+    add_ambiguous_at(alloc, linked, library, findings)
 }
 
 /// What is found in these libraries, in the order in which it is reported.
@@ -136,7 +135,8 @@ fn findings_in(
     linked: &Linked,
     libraries: &[u32],
 ) -> Result<Vec<Finding>, AllocError>
-    requires { length linked.now.spaces.items ≡ length linked.now.elements.items }
+    requires places { IsPlaceTable linked.now.elements.items linked.now.places.places }
+    requires spaces { length linked.now.spaces.items ≡ length linked.now.elements.items }
     ensures { IfOk result (λ findings. findings.items ≡ findings_in linked.now.sources.items linked.now.heads.items linked.now.aims.items linked.now.faults.items linked.now.elements.items linked.now.spaces.items libraries.now) }
 {
     let mut findings = Vec::new(alloc);
@@ -155,6 +155,7 @@ pub fn findings_from(
 ) -> Result<Vec<Finding>, AllocError>
     requires few { length linked.now.sources.items < 2 ^ 32 }
     requires place { place < length linked.now.sources.items }
+    requires places { IsPlaceTable linked.now.elements.items linked.now.places.places }
     requires spaces { length linked.now.spaces.items ≡ length linked.now.elements.items }
     ensures { IfOk result (λ findings. AreFindings linked.now.sources.items linked.now.heads.items linked.now.aims.items linked.now.faults.items linked.now.elements.items linked.now.spaces.items place findings.items) }
 {
@@ -196,7 +197,8 @@ fn faults_of_library(
     place: usize,
     library: usize,
 ) -> Result<Vec<Fault>, AllocError>
-    requires { length linked.now.spaces.items ≡ length linked.now.elements.items }
+    requires places { IsPlaceTable linked.now.elements.items linked.now.places.places }
+    requires spaces { length linked.now.spaces.items ≡ length linked.now.elements.items }
     ensures { IfOk result (λ faults. faults.items ≡ faults_of_library linked.now.sources.items linked.now.heads.items linked.now.aims.items linked.now.faults.items linked.now.elements.items linked.now.spaces.items place library) }
 {
     let mut findings = Vec::new(alloc);
@@ -213,7 +215,8 @@ pub fn faults_at(
     contents: LentContents<'_>,
     place: usize,
 ) -> Result<Vec<Fault>, AllocError>
-    requires { length linked.now.spaces.items ≡ length linked.now.elements.items }
+    requires places { IsPlaceTable linked.now.elements.items linked.now.places.places }
+    requires spaces { length linked.now.spaces.items ≡ length linked.now.elements.items }
     ensures { IfOk result (λ faults. faults.items ≡ faults_at linked.now.sources.items linked.now.heads.items linked.now.aims.items linked.now.faults.items linked.now.elements.items linked.now.spaces.items (contents_view contents.entry) place (home_of linked.now.heads.items linked.now.aims.items place)) }
 {
     match home_of(linked.heads.as_slice(), linked.aims.as_slice(), place) {

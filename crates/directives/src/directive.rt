@@ -139,7 +139,7 @@ fn combinators_of(
     for one in written {
         combinators.push(combinator_of(alloc, words, one)?)?;
     }
-    Ok(Combinators::from_vec(combinators))
+    Combinators::from_vec(alloc, combinators)
 }
 
 /// The prefix of an import, if it has one.

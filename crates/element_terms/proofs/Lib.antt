@@ -1,1 +1,2 @@
 pub mod SetterNames
+pub mod Stages

@@ -12,6 +12,7 @@ mod declarations;
 mod libraries;
 mod name_tables;
 mod names;
+mod pass_tables;
 
 pub use combinators::{Combinator, Combinators};
 pub use declarations::{Declarations, Declared, DeclaredKind};

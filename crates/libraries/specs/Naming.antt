@@ -1,7 +1,8 @@
 -- The paths that URIs name.
-use Rattle.std.specs.Prelude.{ℕ, ◌==◌, ◌+◌, Bool, List, ◌++◌, length, take, drop, find, bytes_eq, nat_lt, codes, if◌then◌else◌, Option, Some, None, option_map, option_and_then}
-use Rattle.std.specs.List.{position_or_len}
-use Rattle.fault_io.specs.Paths.{slash, after_front}
+use Rattle.std.specs.Prelude.{ℕ, ◌==◌, ◌+◌, ◌||◌, Bool, not, List, ◌∷◌, ◌++◌, length, take, drop, find, bytes_eq, nat_eq, nat_lt, codes, if◌then◌else◌, Option, Some, None, option_map, option_and_then}
+use Rattle.std.specs.List.{ends_with, position_or_len}
+use Rattle.percent_encoding.specs.Percent.{percent_decode}
+use Rattle.fault_io.specs.Paths.{slash, root, after_front}
 use Rattle.dart_uri.specs.References.{has_more_parts, resolved}
 use Rattle.load_files.specs.declared.packages.Package.{Package}
 
@@ -41,12 +42,20 @@ path_in_package packages rest = if has_more_parts rest then None else option_and
 abbrev pub path_beside : (file text : List ℕ) → Option (List ℕ)
 path_beside file text = option_and_then (λ folder. resolved folder text) (resolved file (codes ".."))
 
+-- a path ends as that of a folder may: in a slash, or in `.` or `..` behind one
+abbrev pub ends_as_folder : List ℕ → Bool
+ends_as_folder path = ends_with nat_eq path root || ends_with nat_eq path (codes "/.") || ends_with nat_eq path (codes "/..")
+
+-- the last segment of a URI, with its escapes decoded, is the name of an entry
+abbrev pub names_entry : List ℕ → Bool
+names_entry text = not (ends_as_folder (slash ∷ percent_decode text))
+
 -- a URI with `package:` or one without
 abbrev pub in_package_or_beside : List Package → (file text : List ℕ) → Option (List ℕ) → Option (List ℕ)
 in_package_or_beside packages file text (Some rest) = path_in_package packages rest
 in_package_or_beside packages file text None = path_beside file text
 
--- the path that a URI names that stands in a file: `dart:core` names its own library, `package:` what stands in the folder of a package, and all else what the reference names from the folder of the file; the empty URI names nothing
+-- the path that a URI names that stands in a file: `dart:core` names its own library, `package:` what stands in the folder of a package, and all else what the reference names from the folder of the file; a URI whose last segment is no name, as that of the empty one, names nothing
 abbrev pub named_path : List Package → (file text : List ℕ) → Option (List ℕ)
 named_path packages file text =
-    if length text == 0 then None else (if is_core text then Some text else in_package_or_beside packages file text (behind_package text))
+    if not (names_entry text) then None else (if is_core text then Some text else in_package_or_beside packages file text (behind_package text))

@@ -1,13 +1,14 @@
 //! Ambiguous exports.
 
 ghost use Rattle.std.specs.Prelude.{◌≡◌, ◌++◌, length, OnOk};
+ghost use Rattle.namespaces.specs.Links.{IsPlaceTable};
 ghost use Rattle.libraries.specs.Ambiguous.{ambiguous_faults, exports_library, is_export, told_fault, told_from};
 
 use crate::aims::{Aim, AimKind};
 use crate::heads::{Head, is_library_at};
 use directives::{LibraryFault, LibraryFaultKind};
 use element_terms::LibraryElement;
-use namespaces::{Namespace, ambiguous_exports};
+use namespaces::{Namespace, PlaceTable, ambiguous_exports};
 use std::alloc::{AllocError, Global};
 
 /// Whether a directive is an export.
@@ -73,20 +74,23 @@ fn add_told(
 }
 
 /// Adds which exports of a library are ambiguous, from its element and what its directives are about,
-/// the elements of all files and what each of them exports. The error is want of memory.
+/// the elements of all files with their places, and what each of them exports. The error is want of
+/// memory.
 pub fn add_ambiguous_exports(
     alloc: Global,
     heads: &[Head],
     elements: &[LibraryElement],
+    places: &PlaceTable,
     spaces: &[Namespace],
     element: &LibraryElement,
     aims: &[Aim],
     faults: &mut Vec<LibraryFault>,
 ) -> Result<(), AllocError>
-    requires { length spaces.now ≡ length elements.now }
+    requires places { IsPlaceTable elements.now places.now.places }
+    requires size { length spaces.now ≡ length elements.now }
     ensures { OnOk result (faults.new.items ≡ faults.old.items ++ ambiguous_faults heads.now elements.now spaces.now element.now aims.now) }
 {
-    let told = ambiguous_exports(alloc, elements, spaces, element)?;
+    let told = ambiguous_exports(alloc, elements, places, spaces, element)?;
     add_told(heads, told.as_slice(), aims, faults)?;
     Ok(())
 }

@@ -12,8 +12,8 @@ use crate::parts::units_of;
 use dart_types::LibId;
 use directives::{DeclaredName, Directive, DirectiveForm};
 use element_terms::{
-    Combinator, Combinators, Declarations, Declared, DeclaredKind, ExportEdge, Exports,
-    LibraryElement, NameList, setter_of,
+    Combinators, Declarations, Declared, DeclaredKind, ExportEdge, Exports, LibraryElement,
+    setter_of,
 };
 use plain_text::PlainText;
 use std::alloc::{AllocError, Global};
@@ -87,49 +87,6 @@ fn declarations_of(
     Declarations::from_vec(alloc, all)
 }
 
-/// Equal names with memory of their own.
-fn copy_names(alloc: Global, names: &NameList) -> Result<NameList, AllocError>
-    ensures { IfOk result (λ copied. copied ≡ names.now) }
-{
-    let mut copied = Vec::new(alloc);
-    let written = names.as_slice();
-    for name in written {
-        copied.push(name.copy()?)?;
-    }
-    Ok(NameList::from_vec(copied))
-}
-
-/// An equal combinator with memory of its own.
-fn copy_combinator(alloc: Global, combinator: &Combinator) -> Result<Combinator, AllocError>
-    ensures { IfOk result (λ copied. copied ≡ combinator.now) }
-{
-    match combinator {
-        Combinator::Show(names) => {
-            let names = copy_names(alloc, names)?;
-            Ok(Combinator::Show(names))
-        }
-        Combinator::Hide(names) => {
-            let names = copy_names(alloc, names)?;
-            Ok(Combinator::Hide(names))
-        }
-    }
-}
-
-/// Equal combinators with memory of their own.
-pub(crate) fn copy_combinators(
-    alloc: Global,
-    combinators: &Combinators,
-) -> Result<Combinators, AllocError>
-    ensures { IfOk result (λ copied. copied ≡ combinators.now) }
-{
-    let mut copied = Vec::new(alloc);
-    let written = combinators.as_slice();
-    for one in written {
-        copied.push(copy_combinator(alloc, one)?)?;
-    }
-    Ok(Combinators::from_vec(copied))
-}
-
 /// The combinators of an export.
 fn exported(form: &DirectiveForm) -> Option<&Combinators>
     ensures { option_copied result ≡ exported form.now }
@@ -158,7 +115,6 @@ pub(crate) fn library_named(heads: &[Head], aim: Option<&Aim>) -> Option<usize>
 
 /// Adds the export that a directive is, if it is one of a library.
 fn add_edge(
-    alloc: Global,
     heads: &[Head],
     form: &DirectiveForm,
     aim: Option<&Aim>,
@@ -174,7 +130,7 @@ fn add_edge(
     };
     edges.push(ExportEdge {
         library: LibId(place as u64),
-        combinators: copy_combinators(alloc, combinators)?,
+        combinators: combinators.share()?,
     })?;
     Ok(())
 }
@@ -201,7 +157,7 @@ fn edges_in(
     let mut edges = Vec::new(alloc);
     let mut rest = aims;
     for directive in directives {
-        add_edge(alloc, heads, &directive.form, rest.first(), &mut edges)?;
+        add_edge(heads, &directive.form, rest.first(), &mut edges)?;
         rest = behind_first(rest);
     }
     Ok(Exports::from_vec(edges))

@@ -4,10 +4,11 @@ ghost use Rattle.std.specs.Prelude.{◌≡◌, ◌==◌, ◌||◌, ◌++◌, cod
 ghost use Rattle.std.specs.Option.{option_copied};
 ghost use Rattle.fault_io.specs.Paths.{after_front};
 ghost use Rattle.dart_uri.specs.References.{has_more_parts};
-ghost use Rattle.libraries.specs.Naming.{behind_package, folder_of_package, folder_from, is_core, named_path, path_beside, path_in_package, split_at_slash};
+ghost use Rattle.libraries.specs.Naming.{behind_package, ends_as_folder, folder_of_package, folder_from, is_core, named_path, names_entry, path_beside, path_in_package, split_at_slash};
 
 use dart_uri::resolved;
 use load_files::{Package, Packages};
+use percent_encoding::percent_decode;
 use plain_text::PlainText;
 use std::alloc::{AllocError, Global};
 
@@ -91,9 +92,30 @@ fn path_beside(alloc: Global, file: &str, text: &str) -> Result<Option<PlainText
     resolved(alloc, folder.as_str(), text)
 }
 
+/// Whether a path ends as that of a folder may: in a slash, or in `.` or `..` behind one.
+fn ends_as_folder(path: &[u8]) -> bool
+    ensures { result ≡ ends_as_folder path.now }
+{
+    path.ends_with("/".as_bytes())
+        || path.ends_with("/.".as_bytes())
+        || path.ends_with("/..".as_bytes())
+}
+
+/// Whether the last segment of a URI, with its escapes decoded, is the name of an entry: not empty, `.`
+/// or `..`.
+fn names_entry(alloc: Global, text: &str) -> Result<bool, AllocError>
+    ensures { IfOk result (λ named. named ≡ names_entry text.now) }
+{
+    let mut path = Vec::new(alloc);
+    path.push(b'/')?;
+    percent_decode(text.as_bytes()).append_to(&mut path)?;
+    Ok(!ends_as_folder(path.as_slice()))
+}
+
 /// The path that a URI names that stands in the file at a path: `dart:core` names its own library,
 /// `package:` what stands in the folder of a package, and all else what the reference names from the
-/// folder of the file. The empty URI names nothing. Whether there is such a file isn't asked.
+/// folder of the file. A URI whose last segment is no name, as that of the empty one, names nothing.
+/// Whether there is such a file isn't asked.
 pub fn named_path(
     alloc: Global,
     packages: &Packages,
@@ -102,7 +124,7 @@ pub fn named_path(
 ) -> Result<Option<PlainText>, AllocError>
     ensures { IfOk result (λ path. path ≡ named_path packages.now file.now text.now) }
 {
-    if text.is_empty() {
+    if !names_entry(alloc, text)? {
         return Ok(None);
     }
     if is_core(text) {

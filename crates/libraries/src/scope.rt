@@ -6,7 +6,7 @@ ghost use Rattle.libraries.specs.Elements.{library_named};
 ghost use Rattle.libraries.specs.Scopes.{import_from, import_of, imported, imports_in, seen_of};
 
 use crate::aims::Aim;
-use crate::elements::{behind_first, copy_combinators, library_named};
+use crate::elements::{behind_first, library_named};
 use crate::heads::Head;
 use dart_types::LibId;
 use directives::{Directive, DirectiveForm};
@@ -74,7 +74,6 @@ fn copy_prefix(prefix: &Option<PlainText>) -> Result<Option<PlainText>, AllocErr
 
 /// The import of the library at a place, which exports these names.
 fn import_of(
-    alloc: Global,
     place: usize,
     prefix: &Option<PlainText>,
     combinators: &Combinators,
@@ -83,7 +82,7 @@ fn import_of(
     ensures { IfOk result (λ import. seen_of import ≡ import_of place prefix.now combinators.now space.now.value) }
 {
     let prefix = copy_prefix(prefix)?;
-    let combinators = copy_combinators(alloc, combinators)?;
+    let combinators = combinators.share()?;
     let exported = space.clone()?;
     Ok(Import {
         library: LibId(place as u64),
@@ -95,7 +94,6 @@ fn import_of(
 
 /// Adds the import of the library at a place, if it is known what that exports.
 fn add_from(
-    alloc: Global,
     spaces: &Spaces,
     place: usize,
     prefix: &Option<PlainText>,
@@ -107,7 +105,7 @@ fn add_from(
     match spaces.get(place) {
         None => Ok(()),
         Some(space) => {
-            imports.push(import_of(alloc, place, prefix, combinators, space)?)?;
+            imports.push(import_of(place, prefix, combinators, space)?)?;
             Ok(())
         }
     }
@@ -115,7 +113,6 @@ fn add_from(
 
 /// Adds the import that a directive is, if it is one of a library.
 fn add_import(
-    alloc: Global,
     heads: &[Head],
     spaces: &Spaces,
     form: &DirectiveForm,
@@ -131,7 +128,7 @@ fn add_import(
             ..
         } => match library_named(heads, aim) {
             None => Ok(()),
-            Some(place) => add_from(alloc, spaces, place, prefix, combinators, imports),
+            Some(place) => add_from(spaces, place, prefix, combinators, imports),
         },
         DirectiveForm::Library => Ok(()),
         DirectiveForm::Export { .. } => Ok(()),
@@ -156,14 +153,7 @@ pub fn imports_of(
     let mut imports = Vec::new(alloc);
     let mut rest = aims;
     for directive in directives {
-        add_import(
-            alloc,
-            heads,
-            spaces,
-            &directive.form,
-            rest.first(),
-            &mut imports,
-        )?;
+        add_import(heads, spaces, &directive.form, rest.first(), &mut imports)?;
         rest = behind_first(rest);
     }
     Ok(imports)

@@ -56,13 +56,13 @@ fn combinators_bring_names(rt: HostRuntime) -> Result<(), Fail> {
     let mut both = Vec::new(alloc);
     both.push(Combinator::Show(NameList::from_vec(shown)))?;
     both.push(Combinator::Hide(NameList::from_vec(hidden)))?;
-    let both = Combinators::from_vec(both);
+    let both = Combinators::from_vec(alloc, both)?;
     assert!(rt; both.brings("v"));
     assert!(rt; both.brings("v="));
     assert!(rt; !both.brings("w"));
     assert!(rt; !both.brings("x"));
     assert!(rt; !both.brings("_u"));
-    let none = Combinators::from_vec(Vec::new(alloc));
+    let none = Combinators::from_vec(alloc, Vec::new(alloc))?;
     assert!(rt; none.brings("x"));
     assert!(rt; !none.brings("_u"));
     Ok(())

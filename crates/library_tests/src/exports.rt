@@ -6,7 +6,7 @@ use element_terms::{
     LibraryElement, NameList,
 };
 use namespaces::{
-    Found, Import, Namespace, Scope, ambiguous_exports, exports, lookup, lookup_behind,
+    Found, Import, Namespace, Scope, ambiguous_exports, exports, lookup, lookup_behind, place_table,
 };
 use plain_text::PlainText;
 use std::alloc::{AllocError, Global};
@@ -21,7 +21,7 @@ fn all_but(alloc: Global, name: &str) -> Result<Combinators, AllocError> {
         names.push(PlainText::new(alloc, name)?)?;
         all.push(Combinator::Hide(NameList::from_vec(names)))?;
     }
-    Ok(Combinators::from_vec(all))
+    Combinators::from_vec(alloc, all)
 }
 
 /// Exports of libraries, each but for a name.
@@ -122,7 +122,8 @@ fn later_exports_are_ambiguous(rt: HostRuntime) -> Result<(), Fail> {
     let all = exports(alloc, libraries.as_slice())?;
     let first = &libraries[0];
     let expected = [false, true, false, true, false];
-    let told = ambiguous_exports(alloc, libraries.as_slice(), all.as_slice(), first)?;
+    let places = place_table(alloc, libraries.as_slice())?;
+    let told = ambiguous_exports(alloc, libraries.as_slice(), &places, all.as_slice(), first)?;
     assert_eq!(rt; told.as_slice(), expected.as_slice());
     Ok(())
 }

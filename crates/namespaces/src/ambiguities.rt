@@ -4,31 +4,34 @@ ghost use Rattle.std.specs.Prelude.{◌≡◌, ◌&&◌, length, IfOk, OnOk};
 ghost use Rattle.std.specs.List.{list_any};
 ghost use Rattle.namespaces.specs.Ambiguities.{clash, is_brought, pairs_of};
 ghost use Rattle.namespaces.specs.BroughtNames.{AddsClashes, TellsAmbiguous, clashes};
+ghost use Rattle.namespaces.specs.Links.{IsPlaceTable};
 
 use crate::brought::BroughtNames;
 use crate::elements::{Exported, Namespace};
-use crate::place_tables::place_of;
+use crate::place_tables::PlaceTable;
 use element_terms::{Combinators, ExportEdge, LibraryElement, declared_place};
 use std::alloc::{AllocError, Global};
 
 /// Which exports of a library are ambiguous, in their order: those that bring a name that the library
 /// doesn't declare and for which an export that is written before brings another element. What the
-/// libraries export is given in their order. For n names that the exports bring it takes the time of
-/// n log n, and that of finding the library of each export.
+/// libraries export is given in their order, and their places by their numbers. For n names that the
+/// exports bring it takes the time of n log n.
 pub fn ambiguous_exports(
     alloc: Global,
     libraries: &[LibraryElement],
+    places: &PlaceTable,
     all: &[Namespace],
     library: &LibraryElement,
 ) -> Result<Vec<bool>, AllocError>
-    requires { length all.now ≡ length libraries.now }
+    requires places { IsPlaceTable libraries.now places.now.places }
+    requires size { length all.now ≡ length libraries.now }
     ensures { IfOk result (λ told. TellsAmbiguous libraries.now all.now library.now told.items) }
 {
     let mut told = Vec::new(alloc);
     let mut before = BroughtNames::new(alloc);
     let exports = library.exports.as_slice();
     for edge in exports {
-        let pairs = pairs_of(libraries, all, edge);
+        let pairs = pairs_of(libraries, places, all, edge);
         told.push(has_clash(library, &edge.combinators, pairs, &before))?;
         add_brought(library, &edge.combinators, pairs, &mut before)?;
     }
@@ -38,13 +41,15 @@ pub fn ambiguous_exports(
 /// What the library that an export names exports, if it is among the libraries.
 fn pairs_of<'a>(
     libraries: &[LibraryElement],
+    places: &PlaceTable,
     all: &'a [Namespace],
     edge: &ExportEdge,
 ) -> &'a [Exported]
-    requires { length all.now ≡ length libraries.now }
+    requires places { IsPlaceTable libraries.now places.now.places }
+    requires size { length all.now ≡ length libraries.now }
     ensures { result.now ≡ pairs_of libraries.now all.now edge.now.library }
 {
-    match place_of(libraries, edge.library) {
+    match places.place(libraries, edge.library) {
         None => &[],
         Some(place) => all[place].as_slice(),
     }

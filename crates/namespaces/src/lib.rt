@@ -29,4 +29,5 @@ pub use laws::{
     ambiguous_exports_are_told, the_first_export_is_not_ambiguous, the_order_of_pairs_is_no_matter,
 };
 pub use lookups::{lookup, lookup_behind};
+pub use place_tables::{PlaceTable, place_table};
 pub use scopes::{Import, Scope};

@@ -39,10 +39,3 @@ pub fn place_table(alloc: Global, libraries: &[LibraryElement]) -> Result<PlaceT
     }
     Ok(PlaceTable { places })
 }
-
-/// The place of a library among libraries.
-pub fn place_of(libraries: &[LibraryElement], library: LibId) -> Option<usize>
-    ensures { result ≡ place_of libraries.now library }
-{
-    libraries.iter().position(|l| l.id.0 == library.0)
-}
