@@ -9,6 +9,7 @@ use Rattle.judgement.specs.declared.meaning.Meaning.{Meaning}
 use Rattle.built_forms.specs.Meanings.{meanings_of}
 use Rattle.built_forms.specs.Forms.{is_block, is_error}
 use Rattle.built_forms.specs.DeclaredNames.{declared_in, brings_names}
+use Rattle.built_forms.specs.CoreImports.{narrows_core}
 
 -- a word is `main`
 abbrev pub is_main : (words : List (List ℕ)) → (word : ℕ) → Bool
@@ -65,7 +66,7 @@ items_of _ = no_more
 
 -- what words mean in a unit, outside of its functions
 abbrev pub meanings_in : (words : List (List ℕ)) → Tree → List Meaning
-meanings_in words tree = meanings_of words (declared_in (items_of tree))
+meanings_in words tree = meanings_of (narrows_core words (items_of tree)) words (declared_in (items_of tree))
 
 -- just one of the names that a unit declares is `main`
 abbrev pub has_main : (words : List (List ℕ)) → Tree → Bool

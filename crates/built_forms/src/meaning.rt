@@ -1,7 +1,7 @@
 //! What words mean in a library where no local has that name.
 
 ghost use Rattle.std.specs.Prelude.{◌≡◌, map, IfOk};
-ghost use Rattle.built_forms.specs.Meanings.{core_names, meaning_beside, core_meaning, hidden_by, meanings_of, meaning_at};
+ghost use Rattle.built_forms.specs.Meanings.{core_names, meaning_beside, in_doubt, core_meaning, hidden_by, meanings_of, meaning_at};
 
 use dart_types::{BOOL, INT};
 use judgement::Meaning;
@@ -54,34 +54,53 @@ fn meaning_beside(word: &[u8], rows: &[Row]) -> Meaning
     Meaning::Nothing
 }
 
-/// What a word means in dart:core.
-fn core_meaning(word: &[u8]) -> Meaning
-    ensures { result ≡ core_meaning word.now }
+/// What a name of dart:core means where an import of that may leave it out.
+fn in_doubt(meaning: Meaning) -> Meaning
+    ensures { result ≡ in_doubt meaning }
 {
-    meaning_beside(word, &CORE_NAMES)
+    match meaning {
+        Meaning::Nothing => Meaning::Nothing,
+        Meaning::Local(_) => Meaning::Other,
+        Meaning::Print => Meaning::Other,
+        Meaning::Class(_) => Meaning::Other,
+        Meaning::Other => Meaning::Other,
+    }
 }
 
-/// What each of these words means in dart:core.
-fn core_meanings(alloc: Global, words: &[PlainText]) -> Result<Vec<Meaning>, AllocError>
-    ensures { IfOk result (λ meanings. meanings.items ≡ map core_meaning words.now) }
+/// What a word means by dart:core, of which an import may leave names out.
+fn core_meaning(narrow: bool, word: &[u8]) -> Meaning
+    ensures { result ≡ core_meaning narrow word.now }
+{
+    let meaning = meaning_beside(word, &CORE_NAMES);
+    if narrow { in_doubt(meaning) } else { meaning }
+}
+
+/// What each of these words means by dart:core.
+fn core_meanings(
+    alloc: Global,
+    narrow: bool,
+    words: &[PlainText],
+) -> Result<Vec<Meaning>, AllocError>
+    ensures { IfOk result (λ meanings. meanings.items ≡ map (core_meaning narrow) words.now) }
 {
     let mut meanings = Vec::new(alloc);
     for word in words {
-        meanings.push(core_meaning(word.as_str().as_bytes()))?;
+        meanings.push(core_meaning(narrow, word.as_str().as_bytes()))?;
     }
     Ok(meanings)
 }
 
 /// What each of the words of a text means in its library, which declares some of them: its own names
-/// hide those of dart:core. The error is want of memory.
+/// hide those of dart:core, and its imports may leave names of that out. The error is want of memory.
 pub(crate) fn meanings_of(
     alloc: Global,
+    narrow: bool,
     words: &[PlainText],
     declared: &[u32],
 ) -> Result<Vec<Meaning>, AllocError>
-    ensures { IfOk result (λ meanings. meanings.items ≡ meanings_of words.now declared.now) }
+    ensures { IfOk result (λ meanings. meanings.items ≡ meanings_of narrow words.now declared.now) }
 {
-    let mut meanings = core_meanings(alloc, words)?;
+    let mut meanings = core_meanings(alloc, narrow, words)?;
     for word in declared {
         if (*word as usize) < meanings.len() {
             meanings[*word as usize] = Meaning::Other;

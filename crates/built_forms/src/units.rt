@@ -6,6 +6,7 @@ ghost use Rattle.dart_tree.specs.Tree.{trees_of, part_of};
 ghost use Rattle.built_forms.specs.Forms.{is_block, is_error};
 ghost use Rattle.built_forms.specs.Units.{is_main, has_one_main, is_void, are_none, takes_nothing, main_of, function_of, function_in, unbuilt_item, unbuilt_in, items_of, meanings_in, has_main, unbuilt, has_other_names};
 
+use crate::core_imports::narrows_core;
 use crate::declared::{brings_names, declared_in};
 use crate::meaning::meanings_of;
 use crate::statements::are_statements;
@@ -206,6 +207,23 @@ fn unbuilt_in(
     Ok(unbuilt)
 }
 
+/// What the words of a unit mean outside of its functions, and whether just one of the names that it
+/// declares is `main`.
+fn names_in(
+    alloc: Global,
+    words: &[PlainText],
+    unit: &UnitTree,
+) -> Result<(Vec<Meaning>, bool), AllocError>
+    ensures outside { IfOk result (λ names. names.0.items ≡ meanings_in words.now unit.now) }
+    ensures main { IfOk result (λ names. names.1 ≡ has_main words.now unit.now) }
+{
+    let declared = declared_in(alloc, &unit.items)?;
+    let narrow = narrows_core(alloc, words, &unit.items)?;
+    let outside = meanings_of(alloc, narrow, words, &declared)?;
+    let has_main = has_one_main(words, &declared);
+    Ok((outside, has_main))
+}
+
 /// What of a unit with these words is built, where what isn't built stands, and what its words mean.
 /// The work is linear in the unit and its words. The error is want of memory.
 pub fn forms_of(alloc: Global, words: &[PlainText], unit: &UnitTree) -> Result<Forms, AllocError>
@@ -214,9 +232,7 @@ pub fn forms_of(alloc: Global, words: &[PlainText], unit: &UnitTree) -> Result<F
     ensures main { IfOk result (λ forms. forms.has_main ≡ has_main words.now unit.now) }
     ensures names { IfOk result (λ forms. forms.has_other_names ≡ has_other_names unit.now) }
 {
-    let declared = declared_in(alloc, &unit.items)?;
-    let outside = meanings_of(alloc, words, &declared)?;
-    let has_main = has_one_main(words, &declared);
+    let (outside, has_main) = names_in(alloc, words, unit)?;
     let unbuilt = unbuilt_in(alloc, &outside, words, has_main, &unit.items)?;
     let has_other_names = brings_names(&unit.items);
     Ok(Forms {

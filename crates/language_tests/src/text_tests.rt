@@ -96,6 +96,12 @@ void main(){print;} :: NotBuilt@0+19
 void main(){String;num;} :: NotBuilt@0+24
 import 'b.dart';void main(){int x=1;print(x+true);} :: NotBuilt@0+16 ArgumentType@44+4
 import 'b.dart'as p;void main(){p;} :: NotBuilt@0+20 NotBuilt@20+15
+import 'dart:core' as c;void main(){int x=1;print(x);} :: NotBuilt@0+24 NotBuilt@24+30
+import 'dart:core' hide print;void main(){print(1);} :: NotBuilt@0+30 NotBuilt@30+22
+import 'dart\\x3acore' show int;void main(){int x=1;} :: NotBuilt@0+31 NotBuilt@31+21
+import 'dart:core';void main(){print(1);} :: NotBuilt@0+19
+import 'dart:core' as c;void main(){} :: NotBuilt@0+24
+import'b.dart'hide print;void main(){print(1);} :: NotBuilt@0+25
 part 'b.dart';void main(){x;} :: NotBuilt@0+14 NotBuilt@14+15
 part of 'b.dart';void main(){x;} :: NotBuilt@0+17 NotBuilt@17+15
 export 'b.dart';void main(){x;} :: NotBuilt@0+16 UndefinedName@28+1

@@ -6,6 +6,9 @@ use Rattle.check_library.specs.Units.{unit_of_text, outside_of}
 use Rattle.check_library.proofs.Parts.{typed_of_text, judged_of_text, reported}
 use Rattle.check_library.proofs.library.check.Goals as goal
 
+pub judged-requires-clause-outside : goal.judged-requires-clause-outside
+judged-requires-clause-outside c = c.in_ok-forms.ensures.outside ∙ ap (λ (ws : List (List ℕ)). meanings_in ws c.in_ok-unit.unit.tree) c.as_slice.ensures
+
 pub returns-clause-check : goal.returns-clause-check
 returns-clause-check c =
     let text = c.args.text.now in
