@@ -1,11 +1,13 @@
 //! What statements give.
 
 ghost use Rattle.std.specs.Prelude.{◌≡◌, ◌++◌, ◌∷◌, [], IfOk, OnOk};
+ghost use Rattle.dart_tree.specs.declared.places.Place.{Place};
 ghost use Rattle.dart_tree.specs.Tree.{block, expression_statement, if_statement, part_of, trees_of, variable_statement, while_statement};
 ghost use Rattle.judgement.specs.Given.{said_of_statement};
 ghost use Rattle.judgement.specs.DeclaredNames.{names_declared, names_in as all_declared};
-ghost use Rattle.judgement.specs.StatementRows.{scope_row};
+ghost use Rattle.judgement.specs.StatementRows.{loop_head, scope_row};
 ghost use Rattle.judgement.specs.Judgement.{declare, declare_all, declare_list, evaluate_part, run, run_all, run_branch, type_of, type_row, written_type};
+ghost use Rattle.judgement.specs.Written.{written_in};
 ghost use Rattle.resolve.specs.Around.{around};
 ghost use Rattle.resolve.specs.Judged.{Gives};
 
@@ -189,13 +191,29 @@ fn judge_while(
     ensures gives { IfOk result (λ after. Gives found.old found.new after.value (run (around context.entry.rows.now.table context.entry.words.now context.entry.outside.now names.old) (while_statement at condition.now body.now) before.now.value)) }
     ensures names { OnOk result (names.new ≡ names.old) }
 {
-    let written = written_in_loop(context, names, condition, body)?;
-    let head = head_of_loop(context.alloc, &written, before)?;
+    let head = head_of(context, names, condition, body, before)?;
     let tested = judge_condition(context, names, condition, &head, found)?;
     judge_scope(context, names, body, &tested.when_true, found)?;
     let after = tested.when_false.clone()?;
     say(at, None, before, &after, found)?;
     Ok(after)
+}
+
+// What is known at the head of a loop, each time that its condition is come to. The list of what the
+// loop writes is let go here, before the loop is judged.
+fn head_of(
+    context: Context,
+    names: &mut NamesInScope,
+    condition: &Expr,
+    body: &Stmt,
+    before: &Rc<Flow>,
+) -> Result<Rc<Flow>, AllocError>
+    ensures head { (at : Place) → IfOk result (λ head. head.value ≡ loop_head before.now.value (written_in (around context.entry.rows.now.table context.entry.words.now context.entry.outside.now names.old) (while_statement at condition.now body.now)) []) }
+    ensures names { OnOk result (names.new ≡ names.old) }
+{
+    let written = written_in_loop(context, names, condition, body)?;
+    let head = head_of_loop(context.alloc, &written, before)?;
+    Ok(head)
 }
 
 // Variables that are declared together, as a statement.

@@ -1,11 +1,10 @@
-use Rattle.std.proofs.Common.{List, [], sym, ap, subst, ◌∙◌, arith}
+use Rattle.std.proofs.Common.{sym, ap, subst, ◌∙◌, arith}
 use Rattle.dart_tree.specs.Tree.{block, expression_statement, if_statement, part_of, trees_of, variable_statement, while_statement}
 use Rattle.dart_tree.specs.Places.{place_of}
 use Rattle.dart_tree.specs.View.{stmt_of}
-use Rattle.flow_model.specs.declared.locals.LocalId.{LocalId}
 use Rattle.judgement.specs.Surroundings.{Names}
 use Rattle.judgement.specs.DeclaredNames.{names_declared}
-use Rattle.judgement.specs.StatementRows.{loop_head, scope_row}
+use Rattle.judgement.specs.StatementRows.{scope_row}
 use Rattle.judgement.specs.Judgement.{condition_of, run, run_all}
 use Rattle.resolve.specs.Around.{around}
 use Rattle.resolve.specs.Judged.{Evaluates, Gives}
@@ -75,14 +74,14 @@ judge_while-returns-clause-gives t c =
     let m = c.args.before.now.value in
     let tested = c.in_ok-tested.tested in
     of_loop c.args.found.now c.judge_condition.new.found c.judge_scope.new.found c.say.new.found s c.args.at condition body m c.in_ok-head.head.value c.in_ok-judge_scope.field-0.value c.in_ok-after.after.value tested
-    (c.in_ok-head.ensures ∙ ap (λ (written : List LocalId). loop_head m written []) (c.deref.ensures.value ∙ c.in_ok-written.ensures.locals c.args.at))
+    (c.in_ok-head.ensures.head c.args.at)
     (subst
     (λ (names : Names). Evaluates c.args.found.now c.judge_condition.new.found tested (place_of condition) (condition_of (around c.args.context.rows.now.table c.args.context.words.now c.args.context.outside.now names) condition c.in_ok-head.head.value))
-    c.in_ok-written.ensures.names
+    c.in_ok-head.ensures.names
     c.in_ok-tested.ensures)
     (subst
     (λ (names : Names). Gives c.judge_condition.new.found c.judge_scope.new.found c.in_ok-judge_scope.field-0.value (scope_row (around c.args.context.rows.now.table c.args.context.words.now c.args.context.outside.now names) (names_declared body) (λ inner. run inner body) tested.when_true.value))
-    c.in_ok-written.ensures.names
+    c.in_ok-head.ensures.names
     c.in_ok-judge_scope.ensures.gives)
     c.in_ok-after.ensures.cases
     c.in_ok-say.ensures.faults
