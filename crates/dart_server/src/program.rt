@@ -197,10 +197,10 @@ fn obey<S: Source, K: Sink, F: Files>(
 /// the sink rises, or stands at its end, exactly where the status says so; only `serve` reads the source,
 /// and not where its packages file is refused or can't be read. Under `serve` a reply is cut at the status
 /// of want of memory only where the sink's count of it rose. The store is called under `serve` once for a
-/// packages file, by `read`, and then only for lines of `analysis.setAnalysisRoots` and
-/// `analysis.reanalyze`, whose replies say where it failed; under `check` and `run` for a packages file
-/// and then for what stands in the folder and in those of the packages, of which no clause says how often;
-/// and for other words never.
+/// packages file, by `read`, and no more where no line asks for `analysis.setAnalysisRoots` or
+/// `analysis.reanalyze`; where it fails, replies to such lines say so. Under `check` and `run` it is called
+/// for a packages file and then for what stands in the folder and in those of the packages, of which no
+/// clause says how often; and for other words never.
 #[tactic(auto, using(crate::proofs::EndLemmas::memory_may_end))]
 pub fn dart_main<S: Source, K: Sink, F: Files>(
     alloc: Global,

@@ -10,6 +10,7 @@ use plain_text::{PlainBytes, PlainText};
 use std::alloc::{AllocError, Global};
 use std::test::Fail;
 
+mod checkers;
 mod checks;
 mod commands;
 mod faults;

@@ -5,6 +5,7 @@ use dart_text::{Text, TextRefusal};
 use dart_tree::Unit;
 use std::alloc::{AllocError, Global};
 use std::fmt::Debug;
+use tree_print::print;
 use unit_notation::{Ranges, unit_text};
 use work_counts::Work;
 
@@ -44,6 +45,16 @@ fn faults_text(alloc: Global, unit: &Unit, in_tree: &[TreeFault]) -> Result<Stri
         )?;
     }
     Ok(faults)
+}
+
+// The notation of a text that is printed from the tokens of this text and read again, without ranges.
+// The errors are those of `read`.
+pub fn read_printed(alloc: Global, text: &str) -> Result<String, TextRefusal> {
+    let text = Text::from_str(alloc, text)?;
+    let unit = parse_unit(alloc, &text, false, &mut Work::new())?;
+    let printed = Text::from_str(alloc, &print(alloc, &unit)?)?;
+    let again = parse_unit(alloc, &printed, false, &mut Work::new())?;
+    Ok(unit_text(alloc, &again.words, &again.tree, Ranges::Hidden)?)
 }
 
 // The notation of a text, and ` :: ` and what is wrong with it, where something is. The errors are a

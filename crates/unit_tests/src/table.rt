@@ -5,7 +5,7 @@
 //! UTF-16 code units from 0; those of lexemes come first, then those of brackets, and then those of
 //! errors in the tree.
 
-use crate::reading::read;
+use crate::reading::{read, read_printed};
 use std::test::Fail;
 use unit_notation::Ranges;
 
@@ -155,6 +155,19 @@ fn texts_read_as_their_lines_say(rt: HostRuntime) -> Result<(), Fail> {
             let (text, reading) = line.split_once(" :: ").ok_or("no reading")?;
             let found = read(rt.alloc(), text, Ranges::Hidden)?;
             assert_eq!(rt; found.as_str(), reading, "{text}");
+        }
+    }
+    Ok(())
+}
+
+#[test]
+fn printed_texts_read_as_they_did(rt: HostRuntime) -> Result<(), Fail> {
+    for table in [DIRECTIVES, DECLARATIONS, MEMBERS, RECOVERY] {
+        for line in table.lines() {
+            let (text, reading) = line.split_once(" :: ").ok_or("no reading")?;
+            let tree = reading.split(" :: ").next().unwrap_or(reading);
+            let found = read_printed(rt.alloc(), text)?;
+            assert_eq!(rt; found.as_str(), tree, "{text}");
         }
     }
     Ok(())
