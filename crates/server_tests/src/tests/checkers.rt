@@ -28,7 +28,7 @@ const LINES: &str = r#"
 "#;
 
 /// What is written over this checker, and how serving ends.
-fn served<C: Checker>(alloc: Global, checker: C) -> Result<(ServeEnd, Vec<u8>), AllocError> {
+fn served<C: Checker + Drop>(alloc: Global, checker: C) -> Result<(ServeEnd, Vec<u8>), AllocError> {
     let mut source = SteadySource::new(LINES.as_bytes().to_vec(alloc)?);
     let mut sink = SteadySink::new(alloc);
     let mut files = SteadyFiles::new(Vec::new(alloc));
