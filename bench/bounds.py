@@ -27,13 +27,8 @@ from typing import List, Tuple
 from check import Sizes, slope
 from programs import answer, main, seconds
 
-# The crates that the program stands on, each with those below it.
-BELOW = {
-    "plain_text": "",
-    "dart_types": "plain_text thiserror",
-    "type_bounds": "plain_text dart_types",
-    "type_infer": "plain_text dart_types type_bounds thiserror",
-}
+# What the program stands on, with the crates below it.
+CRATE = "type_infer"
 
 # How long the questions of one run are to take, in seconds.
 LONG_ENOUGH = 0.2
@@ -72,4 +67,4 @@ def measure(program: str, family: Sizes, empty: float, runs: int) -> bool:
 
 
 if __name__ == "__main__":
-    sys.exit(main(__doc__, "bounds", BELOW, ["nesting", "1", "1"], FAMILIES, measure))
+    sys.exit(main(__doc__, "bounds", CRATE, ["nesting", "1", "1"], FAMILIES, measure))

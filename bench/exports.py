@@ -28,14 +28,8 @@ from typing import Callable, Dict, Optional, Tuple
 from check import Sizes
 from programs import answer, main, seconds
 
-# The crates that the program stands on, each with those below it.
-BELOW = {
-    "plain_text": "",
-    "dart_types": "plain_text thiserror",
-    "element_terms": "plain_text dart_types",
-    "library_graph": "",
-    "namespaces": "plain_text dart_types element_terms library_graph",
-}
+# What the program stands on, with the crates below it.
+CRATE = "namespaces"
 
 # How long what is done in one run is to take, in seconds.
 LONG_ENOUGH = 0.2
@@ -78,4 +72,4 @@ def measure(program: str, family: Sizes, empty: float, runs: int) -> bool:
 
 
 if __name__ == "__main__":
-    sys.exit(main(__doc__, "exports", BELOW, ["whole", "4", "1"], FAMILIES, measure))
+    sys.exit(main(__doc__, "exports", CRATE, ["whole", "4", "1"], FAMILIES, measure))

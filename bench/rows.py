@@ -28,13 +28,8 @@ from typing import List, Tuple
 from check import Sizes, slope
 from programs import answer, main, seconds
 
-# The crates that the program stands on, each with those below it.
-BELOW = {
-    "plain_text": "",
-    "dart_types": "plain_text thiserror",
-    "type_bounds": "plain_text dart_types",
-    "flow_model": "plain_text dart_types type_bounds",
-}
+# What the program stands on, with the crates below it.
+CRATE = "flow_model"
 
 # How long what is done in one run is to take, in seconds.
 LONG_ENOUGH = 0.2
@@ -67,4 +62,4 @@ def measure(program: str, family: Sizes, empty: float, runs: int) -> bool:
 
 
 if __name__ == "__main__":
-    sys.exit(main(__doc__, "rows", BELOW, ["union", "4", "1"], FAMILIES, measure))
+    sys.exit(main(__doc__, "rows", CRATE, ["union", "4", "1"], FAMILIES, measure))

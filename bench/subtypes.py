@@ -27,8 +27,8 @@ from typing import List, Tuple
 from check import Sizes, slope
 from programs import answer, main, seconds
 
-# The crates that the program stands on, each with those below it.
-BELOW = {"plain_text": "", "dart_types": "plain_text thiserror"}
+# What the program stands on, with the crates below it.
+CRATE = "dart_types"
 
 # How long the questions of one run are to take, in seconds.
 LONG_ENOUGH = 0.2
@@ -65,4 +65,4 @@ def measure(program: str, family: Sizes, empty: float, runs: int) -> bool:
 
 
 if __name__ == "__main__":
-    sys.exit(main(__doc__, "subtypes", BELOW, ["nesting", "1", "yes", "1"], FAMILIES, measure))
+    sys.exit(main(__doc__, "subtypes", CRATE, ["nesting", "1", "yes", "1"], FAMILIES, measure))
