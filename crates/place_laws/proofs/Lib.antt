@@ -1,0 +1,7 @@
+pub mod Rows
+pub mod TextParts
+pub mod Lays
+pub mod Expressions
+pub mod Statements
+pub mod Declarations
+pub mod Whole
