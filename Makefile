@@ -1,6 +1,6 @@
 # `make demo` proves and builds the program, feeds it the session of examples/ and prints its replies; then it prints what is wrong with the libraries of examples/shapes, and runs examples/countdown.dart.
 # `make test` is the gate: it proves, tries and runs everything.
-# `make bench` proves and builds the programs, and prints how long trees, checks, edits and runs take, by the size of the text, tests of subtyping, bounds and inference, unions of rows, look-ups and joins of flow models, and what libraries export.
+# `make bench` proves and builds the programs, and prints how long trees, checks, edits and runs take, by the size of the text, sessions over many files, tests of subtyping, bounds and inference, unions of rows, look-ups and joins of flow models, and what libraries export.
 .PHONY: demo test bench
 
 SESSION := $(CURDIR)/examples/session.jsonl
@@ -23,6 +23,7 @@ bench:
 	@python3 bench/units.py
 	@python3 bench/check.py
 	@python3 bench/edit.py
+	@python3 bench/session.py
 	@python3 bench/run.py
 	@python3 bench/subtypes.py
 	@python3 bench/bounds.py
