@@ -5,9 +5,13 @@ use Rattle.libraries.specs.declared.files.SourceFile.{SourceFile}
 use Rattle.load_files.specs.declared.contents.FileContents.{FileContents}
 use Rattle.check_files.specs.Sources.{own_faults, source_of}
 
--- where all three are there, the second and the third are what was read of the file
-abbrev pub IsOf : Option (List ℕ × FileContents) → Option SourceFile → Option (List Fault) → Type 0
-IsOf (Some file) (Some source) (Some faults) = (source ≡ source_of file) × (faults ≡ own_faults file.1)
-IsOf (Some file) (Some source) None = Unit {0}
-IsOf (Some file) None faults = Unit {0}
-IsOf None source faults = Unit {0}
+-- this was read of a file: what it says to others, and what is wrong with it by itself
+pub record IsOf (file : List ℕ × FileContents) (source : SourceFile) (faults : List Fault) : Type 0 where
+  pub source_is : source ≡ source_of file
+  pub faults_are : faults ≡ own_faults file.1
+
+-- where both are there, they were read of the file
+abbrev pub AreOf : (List ℕ × FileContents) → Option SourceFile → Option (List Fault) → Type 0
+AreOf file (Some source) (Some faults) = IsOf file source faults
+AreOf file (Some source) None = Unit {0}
+AreOf file None faults = Unit {0}

@@ -84,8 +84,8 @@ pub fn link(
     link_read(alloc, packages, read)
 }
 
-/// The same where files were linked before, over any packages: a text is read only where the file at its
-/// place was another, or had another text.
+/// The same where files were linked before, over any packages: a text is read only where none of these
+/// had its path, or where that had another text.
 pub fn link_again(
     alloc: Global,
     packages: &Packages,

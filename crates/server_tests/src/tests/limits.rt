@@ -177,7 +177,7 @@ fn update(alloc: Global, files: &str) -> Result<String, Fail> {
 }
 
 /// The request, in the notation, of a word and what stands behind it.
-fn request_of(alloc: Global, word: &str, rest: &str) -> Result<String, Fail> {
+pub(super) fn request_of(alloc: Global, word: &str, rest: &str) -> Result<String, Fail> {
     let (path, behind) = rest.split_once(' ').unwrap_or((rest, ""));
     let request = match word {
         "line" => String::from_str(alloc, rest)?,
