@@ -4,6 +4,7 @@ pub mod ListTests
 pub mod Places
 pub mod Scopes
 pub mod SameScope
+pub mod Paged
 pub mod Pairs
 pub mod JoinLaws
 pub mod Forgets

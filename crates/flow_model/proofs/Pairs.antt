@@ -1,6 +1,7 @@
 -- What is made of the locals of two models, paired by their places.
-use Rattle.std.proofs.Common.{◌≡◌, ℕ, zero, suc, ◌<◌, Bool, true, false, nat_eq, map, List, [], ◌∷◌, ◌++◌, length, get_or, take, Option, Some, refl, sym, ap, ◌∙◌, arith}
+use Rattle.std.proofs.Common.{◌≡◌, ℕ, zero, suc, ◌+◌, ◌<◌, ◌≤◌, ◌-◌, Bool, true, false, nat_eq, map, List, [], ◌∷◌, ◌++◌, length, get_or, set, take, drop, drop-cons, length-take, get_or-take, Option, Some, refl, sym, ap, ◌∙◌, arith}
 use Rattle.std.specs.Prelude.{min, zip, find}
+use Rattle.std.proofs.lemmas.List.{append-nil, append_assoc, drop_all, length-append, length-drop, set-append_right}
 use Rattle.dart_types.specs.Ty.{Ty}
 use Rattle.flow_model.specs.Flow.{IsInOrder, is_of}
 use Rattle.flow_model.specs.declared.locals.LocalId.{LocalId}
@@ -37,6 +38,61 @@ module _ (f : Facts → Facts → Facts) where
   paired-whole (l ∷ ls) (m ∷ ms) zero end = absurd (omega (arith, end))
   paired-whole (l ∷ ls) (m ∷ ms) (suc i) end =
       ap (λ (js : List Facts). f l m ∷ js) (paired-whole ls ms i (omega (arith, end)))
+
+  -- what is made of the locals up to a place, and then the first list's as far as both go
+  abbrev pub so_far : List Facts → List Facts → ℕ → List Facts
+  so_far ls ms i = paired (take i ls) (take i ms) ++ drop i (take (length ms) ls)
+
+  -- how many are made
+  length-paired : (ls ms : List Facts) (i : ℕ) → i ≤ length ls → i ≤ length ms → length (paired (take i ls) (take i ms)) ≡ i
+  length-paired ls ms zero in_ls in_ms = refl
+  length-paired [] ms (suc i) in_ls in_ms = absurd (omega arith)
+  length-paired (x ∷ xs) [] (suc i) in_ls in_ms = absurd (omega arith)
+  length-paired (x ∷ xs) (y ∷ ys) (suc i) in_ls in_ms = ap suc (length-paired xs ys i (omega arith) (omega arith))
+
+  pub length-so_far : (ls ms : List Facts) (i : ℕ) → i ≤ length (take (length ms) ls) → length (so_far ls ms i) ≡ length (take (length ms) ls)
+  length-so_far ls ms i le =
+      let in_ls : i ≤ length ls = grind (arith, length-take, le) in
+      let in_ms : i ≤ length ms = grind (arith, length-take, le) in
+      let made : length (paired (take i ls) (take i ms)) ≡ i = length-paired ls ms i in_ls in_ms in
+      let rest : length (drop i (take (length ms) ls)) ≡ length (take (length ms) ls) - i = length-drop i (take (length ms) ls) in
+      let both : length (so_far ls ms i) ≡ length (paired (take i ls) (take i ms)) + length (drop i (take (length ms) ls)) = length-append (paired (take i ls) (take i ms)) (drop i (take (length ms) ls)) in
+      omega (arith, made, rest, both, le)
+
+  module _ (ls ms : List Facts) (i : ℕ) (l m : Facts) (within : i < length (take (length ms) ls)) (is_l : l ≡ get_or ls i l) (is_m : m ≡ get_or ms i m) where
+    in_ls : i < length ls
+    in_ls = grind (arith, length-take, within)
+
+    in_ms : i < length ms
+    in_ms = grind (arith, length-take, within)
+
+    -- at the place still stands the first list's
+    here : drop i (take (length ms) ls) ≡ l ∷ drop (suc i) (take (length ms) ls)
+    here =
+        drop-cons (take (length ms) ls) i l within
+        ∙ ap (λ (k : Facts). k ∷ drop (suc i) (take (length ms) ls)) (get_or-take (length ms) ls i l in_ms ∙ sym is_l)
+
+    -- one more
+    more : paired (take i ls) (take i ms) ++ f l m ∷ drop (suc i) (take (length ms) ls) ≡ so_far ls ms (suc i)
+    more =
+        sym (append_assoc (paired (take i ls) (take i ms)) (f l m ∷ []) (drop (suc i) (take (length ms) ls)))
+        ∙ ap (λ (js : List Facts). js ++ drop (suc i) (take (length ms) ls)) (sym (paired-more ls ms i l m in_ls in_ms is_l is_m))
+
+    -- what is made of a local is written over it
+    pub changed-more : set (so_far ls ms i) i (f l m) ≡ so_far ls ms (suc i)
+    changed-more =
+        let made = length-paired ls ms i (omega (arith, in_ls)) (omega (arith, in_ms)) in
+        let first : i - i ≡ 0 = omega arith in
+        set-append_right (paired (take i ls) (take i ms)) (drop i (take (length ms) ls)) i i (f l m) made (omega arith)
+        ∙ (ap (λ (k : ℕ). paired (take i ls) (take i ms) ++ set (drop i (take (length ms) ls)) k (f l m)) first
+        ∙ (ap (λ (js : List Facts). paired (take i ls) (take i ms) ++ set js 0 (f l m)) here ∙ more))
+
+  -- at the end of the shorter list all are made
+  pub so_far-whole : (ls ms : List Facts) (i : ℕ) → i ≡ length (take (length ms) ls) → so_far ls ms i ≡ paired ls ms
+  so_far-whole ls ms i end =
+      let shorter : i ≡ min (length ls) (length ms) = grind (arith, length-take, end) in
+      ap (λ (js : List Facts). paired (take i ls) (take i ms) ++ js) (drop_all i (take (length ms) ls) (omega (arith, end)))
+      ∙ (append-nil (paired (take i ls) (take i ms)) ∙ paired-whole ls ms i shorter)
 
   module _ (keeps : (l m : Facts) → local_of (f l m) ≡ local_of l) where
     -- what is made of a local is of that local

@@ -1,10 +1,8 @@
 -- What a binary search finds among locals in order, and what an edit at that place does.
-use Rattle.std.proofs.Common.{◌≡◌, ℕ, suc, ◌+◌, ◌-◌, ◌<◌, ◌≤◌, true, false, not, nat_eq, nat_lt, List, [], ◌∷◌, ◌++◌, length, get_or, set, take, drop, map, if◌then◌else◌, Some, None, IsSome, IsNone, Result, Ok, Err, IfOk, IfErr, refl, sym, ap, subst, arith, eq-eqb}
+use Rattle.std.proofs.Common.{◌≡◌, ℕ, suc, ◌+◌, ◌-◌, ◌<◌, ◌≤◌, true, false, not, nat_eq, nat_lt, List, [], ◌∷◌, ◌++◌, length, get_or, set, take, drop, map, if◌then◌else◌, Some, None, IsSome, IsNone, Result, Ok, Err, OnOk, OnErr, refl, sym, ap, ◌∙◌, subst, arith, eq-eqb}
 use Rattle.std.specs.Prelude.{filter, find}
 use Rattle.std.specs.List.{insert, remove}
-use Rattle.std.specs.List.Sorted.{IsSearchInRange, IsBinarySearchResult, IsNonDecreasingBy}
-use Rattle.std.specs.Ordering.{nat_cmp, ordering_index}
-use Rattle.std.proofs.lemmas.Cmp.{ranked}
+use Rattle.std.proofs.lemmas.List.{get_or_default}
 use Rattle.std.proofs.lemmas.List.Edits.{length-insert, get_or-insert_below, get_or-insert_at, get_or-insert_above}
 use Rattle.std.proofs.lemmas.Bool.Decides.{nat_tests}
 use Rattle.flow_model.specs.declared.locals.LocalId.{LocalId}
@@ -13,24 +11,28 @@ use Rattle.flow_model.specs.Flow.{IsInOrder, is_of, is_listed}
 use Rattle.flow_model.specs.Place.{StandsAt, WouldStandAt}
 use Rattle.flow_model.proofs.ListTests.{Answers, find_none, find_at, filter_all, filter_front, filter_back, filter_but, map_none, map_at}
 
-module _ (locals : List Facts) (order : IsInOrder locals) (var : LocalId) where
-  -- the comparisons with the local rise along the list, as a binary search asks
-  comparisons_rise : IsNonDecreasingBy (λ l. ordering_index (nat_cmp l.var.0 var.0)) locals
-  comparisons_rise i j d le in_range =
-      let numbers_rise : (get_or locals i d).var.0 ≤ (get_or locals j d).var.0 = grind (arith, order i j d, λ (same : i ≡ j). ap (λ (k : ℕ). (get_or locals k d).var.0) same) in
-      grind (arith, nat_tests)
+module _ (locals : List Facts) (order : IsInOrder locals) (var : LocalId) (at : ℕ) (l : Facts) (within : at < length locals) (is_l : l ≡ get_or locals at l) where
+  -- what stands there has its number
+  number_at : (d : Facts) → (get_or locals at d).var.0 ≡ l.var.0
+  number_at d = ap (λ (f : Facts). f.var.0) (get_or_default locals at d l within ∙ sym is_l)
 
-  -- a binary search by number ends where the local stands, or would stand
-  pub searched : (r : Result ℕ ℕ) → IsSearchInRange r (length locals) → IsBinarySearchResult (λ l. nat_cmp l.var.0 var.0) locals r → record { found : IfOk r (StandsAt locals var); absent : IfErr r (WouldStandAt locals var) }
-  searched (Ok at) in_range equal = record { found = record { in_range = in_range; is_it = λ d. ranked _ var.0 _ (sym (equal d)) }; absent = tt }
-  searched (Err at) in_range parted = record {
-    found = tt;
-    absent = record {
-      in_range = in_range;
-      smaller_before = λ j d lt. ranked _ var.0 _ (sym ((parted comparisons_rise).0 j d (omega arith) lt));
-      greater_after = λ j d le lt. ranked _ var.0 _ (sym ((parted comparisons_rise).1 j d le lt));
-    };
-  }
+  -- where that is smaller than a local's, so are those before it
+  pub smaller_up_to : l.var.0 < var.0 → (j : ℕ) (d : Facts) → j < at + 1 → (get_or locals j d).var.0 < var.0
+  smaller_up_to smaller j d lt = grind (arith, order j at d, number_at d, λ (same : j ≡ at). ap (λ (k : ℕ). (get_or locals k d).var.0) same)
+
+  -- where it is greater, so are those behind it
+  pub greater_from : var.0 < l.var.0 → (j : ℕ) (d : Facts) → at ≤ j → j < length locals → var.0 < (get_or locals j d).var.0
+  greater_from greater j d le lt = grind (arith, order at j d, number_at d, λ (same : j ≡ at). ap (λ (k : ℕ). (get_or locals k d).var.0) same)
+
+-- a list that has a place has facts
+pub some_facts : (locals : List Facts) (at : ℕ) → at < length locals → Facts
+some_facts [] at within = absurd (omega (arith, within))
+some_facts (l ∷ ls) at within = l
+
+-- the locals are in order after a change, and also where it couldn't be made
+pub order-after : {T E : Type 0} (r : Result T E) (new made old : List Facts) → OnOk r (new ≡ made) → OnErr r (new ≡ old) → IsInOrder made → IsInOrder old → IsInOrder new
+order-after (Ok x) new made old done kept ordered before = subst IsInOrder (sym done) ordered
+order-after (Err e) new made old done kept ordered before = subst IsInOrder (sym kept) before
 
 module _ (locals : List Facts) (order : IsInOrder locals) (var : LocalId) (at : ℕ) (stands : StandsAt locals var at) where
   -- the local is at its place
@@ -58,8 +60,9 @@ module _ (locals : List Facts) (order : IsInOrder locals) (var : LocalId) (at : 
   map_there change d = map_at (is_of var) change locals at d stands.in_range none_before (here d) none_after
 
   -- without the local, the list is without what stands there
-  pub filter_there : Facts → filter (λ l. not (is_listed (var ∷ []) l.var)) locals ≡ remove locals at
-  filter_there d =
+  pub filter_there : filter (λ l. not (is_listed (var ∷ []) l.var)) locals ≡ remove locals at
+  filter_there =
+      let d = some_facts locals at stands.in_range in
       filter_but (λ l. not (is_listed (var ∷ []) l.var)) locals at d stands.in_range
       (λ j e from to. grind (arith, nat_tests, order j at e to stands.in_range, stands.is_it e))
       (grind (arith, nat_tests, stands.is_it d))

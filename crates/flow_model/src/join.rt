@@ -3,21 +3,24 @@
 ghost use Rattle.std.specs.Prelude.{◌≡◌, IfOk};
 ghost use Rattle.flow_model.specs.Join.{join_facts, join_locals};
 
-use crate::local::Local;
 use crate::locals::Facts;
+use crate::pages::Locals;
 use crate::types::{common, union};
 use dart_types::TypeList;
 use std::alloc::{AllocError, Global};
 
 /// What is known of each local on both paths, where the lists pair them by their places. What one
-/// has beyond the other's end is passed over. What is known of a local is shared with the first list
-/// where it is the same there.
-pub(crate) fn join_locals(alloc: Global, a: &[Local], b: &[Local]) -> Result<Vec<Local>, AllocError>
-    ensures { IfOk result (λ joined. joined.items ≡ join_locals a.now b.now) }
+/// has beyond the other's end is passed over. Pages of which the first path knows all that both know
+/// are shared with it.
+pub(crate) fn join_locals(alloc: Global, a: &Locals, b: &Locals) -> Result<Locals, AllocError>
+    ensures { IfOk result (λ joined. joined ≡ join_locals a.now b.now) }
 {
-    let mut joined = Vec::with_capacity(alloc, a.len())?;
-    for (l, m) in a.iter().zip(b) {
-        joined.push(l.join(alloc, m)?)?;
+    let mut joined = a.front(alloc, b.len())?;
+    for i in 0..joined.len() {
+        let local = a.at(i);
+        let other = b.at(i);
+        let met = local.join(alloc, other)?;
+        joined.put(alloc, i, met)?;
     }
     Ok(joined)
 }

@@ -4,8 +4,8 @@
 //! promoted to, which it was tested for, whether it has a value for certain or has none for certain,
 //! and whether a function that writes it may have been made. Each of its calls is one equation over
 //! the model, by the definitions of `specs/Flow.antt`, `Promote.antt`, `Assign.antt`, `Steps.antt`,
-//! `Join.antt` and `Restrict.antt`. A copy of a model shares what is known of each local, so it costs
-//! a pointer a local. The laws say what is known of each local after a step, which facts every step
+//! `Join.antt` and `Restrict.antt`. The locals stand in pages that models share, so a copy of a model
+//! costs two pointers, and a change of one local a page and the list of pages. The laws say what is known of each local after a step, which facts every step
 //! keeps (`specs/Chains.antt`), and which steps keep the order of models by what they say
 //! (`specs/Order.antt`). Types, rows and subtyping are those of `dart_types`, types without null those
 //! of `type_bounds`; the crate stands on these two.
@@ -17,6 +17,8 @@ mod laws;
 mod local;
 mod locals;
 mod model;
+mod page;
+mod pages;
 mod promotions;
 mod restrict;
 mod types;

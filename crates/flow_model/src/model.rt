@@ -1,6 +1,6 @@
 //! Flow models and the calls that change them.
 
-ghost use Rattle.std.specs.Prelude.{◌≡◌, ◌∷◌, [], false, IfOk, IfErr, OnOk, OnErr, IsNone, IsTrue, ◌↔◌, is_some};
+ghost use Rattle.std.specs.Prelude.{◌≡◌, ◌∷◌, [], false, IfOk, IfErr, OnOk, OnErr, IsNone, IsTrue, ◌↔◌, is_some, ◌<◌, length, slice_index_or};
 ghost use Rattle.std.specs.Option.{option_copied, option_map, option_map_or};
 ghost use Rattle.flow_model.specs.Flow.{at_local, current_of, facts_of, declare_of, start_of, end_of, AreDistinct, IsInOrder};
 ghost use Rattle.flow_model.specs.Assign.{assign_facts};
@@ -13,6 +13,7 @@ ghost use Rattle.flow_model.specs.Place.{StandsAt, WouldStandAt};
 use crate::join::join_locals;
 use crate::local::Local;
 use crate::locals::{Facts, LocalDecl, LocalId};
+use crate::pages::Locals;
 use crate::restrict::{Changes, restrict_locals};
 use dart_types::{DartType, Rows};
 use std::alloc::{AllocError, Global};
@@ -20,12 +21,12 @@ use std::marker::Model;
 
 /// What is known of the locals at a point of a body.
 ///
-/// The locals in scope stand in the order of their numbers, so one is found by a binary search. A
-/// copy of a model shares what is known of each local, until one of the two changes it.
+/// The locals in scope stand in the order of their numbers, so one is found by a binary search. They
+/// stand in pages: a copy of a model shares all of them, until one of the two changes a local of it.
 #[derive(Drop)]
 pub struct Flow {
     reachable: bool,
-    locals: Vec<Local>,
+    locals: Locals,
 }
 
 impl Model for Flow {
@@ -37,9 +38,9 @@ impl Model for Flow {
 
     ghost use Rattle.flow_model.specs.Flow.{IsInOrder};
 
-    ghost view = { λ a. record { reachable = a.reachable; locals = a.locals.items } };
+    ghost view = { λ a. record { reachable = a.reachable; locals = a.locals } };
 
-    ghost invariant = { λ a. IsInOrder a.locals.items };
+    ghost invariant = { λ a. IsInOrder a.locals };
 }
 
 impl Flow {
@@ -51,7 +52,7 @@ impl Flow {
     {
         let mut flow = Flow {
             reachable: true,
-            locals: Vec::new(alloc),
+            locals: Locals::new(alloc)?,
         };
         for var in vars {
             flow.declare(alloc, var)?;
@@ -69,29 +70,39 @@ impl Flow {
         let local = Local::fresh(alloc, var)?;
         match self.search(var.var) {
             Ok(_) => unreachable!(),
-            Err(place) => {
-                self.locals.insert(place, local)?;
-                Ok(())
-            }
+            Err(place) => self.locals.insert(alloc, place, local),
         }
     }
 
-    /// Takes these locals out of scope; one that isn't in scope is passed over. It takes no memory.
-    /// Each costs a search and a move of the locals of greater numbers, the last of the list first,
-    /// so that nothing is moved where those declared last are ended in the order of the text.
-    pub fn end(&mut self, vars: &[LocalId])
-        ensures { self.new ≡ end_of self.old vars.now }
+    /// Takes these locals out of scope; one that isn't in scope is passed over. It costs a copy of the
+    /// model. Each local costs a search and a move of the locals of greater numbers, the last of the
+    /// list first, so that nothing is moved where those declared last are ended in the order of the
+    /// text. After an `Err` the model is as before.
+    pub fn end(&mut self, alloc: Global, vars: &[LocalId]) -> Result<(), AllocError>
+        ensures ok { OnOk result (self.new ≡ end_of self.old vars.now) }
+        ensures err { OnErr result (self.new ≡ self.old) }
     {
+        let mut ended = self.copy(alloc)?;
         for i in (0..vars.len()).rev() {
-            self.remove(vars[i]);
+            ended.remove(alloc, vars[i])?;
         }
+        *self = ended;
+        Ok(())
     }
 
-    /// What is known of each local in scope, in the order of their numbers.
-    pub fn locals(&self) -> &[Local]
-        ensures { result.now ≡ self.now.locals }
+    /// How many locals are in scope.
+    pub fn len(&self) -> usize
+        ensures { result ≡ length self.now.locals }
     {
-        self.locals.as_slice()
+        self.locals.len()
+    }
+
+    /// The local at a place, in the order of their numbers.
+    pub fn local(&self, place: usize) -> &Local
+        requires { place < length self.now.locals }
+        ensures { result.now ≡ slice_index_or self.now.locals place result.now }
+    {
+        self.locals.at(place)
     }
 
     /// A law of every model: its locals stand in the order of their numbers.
@@ -103,12 +114,13 @@ impl Flow {
     }
 
     // Takes one local out of scope.
-    fn remove(&mut self, var: LocalId)
-        ensures { self.new ≡ end_of self.old (var ∷ []) }
+    fn remove(&mut self, alloc: Global, var: LocalId) -> Result<(), AllocError>
+        ensures { OnOk result (self.new ≡ end_of self.old (var ∷ [])) }
     {
         if let Ok(place) = self.search(var) {
-            self.locals.remove(place);
+            self.locals.remove(alloc, place)?;
         }
+        Ok(())
     }
 
     /// The current type of a local: None exactly where it isn't in scope.
@@ -192,9 +204,8 @@ impl Flow {
     {
         match self.search(var) {
             Ok(place) => {
-                let changed = self.locals[place].promote(alloc, rows, to)?;
-                self.locals[place] = changed;
-                Ok(())
+                let changed = self.locals.at(place).promote(alloc, rows, to)?;
+                self.locals.put(alloc, place, changed)
             }
             Err(_) => Ok(()),
         }
@@ -209,9 +220,8 @@ impl Flow {
     {
         match self.search(var) {
             Ok(place) => {
-                let changed = self.locals[place].non_null(alloc, rows)?;
-                self.locals[place] = changed;
-                Ok(())
+                let changed = self.locals.at(place).non_null(alloc, rows)?;
+                self.locals.put(alloc, place, changed)
             }
             Err(_) => Ok(()),
         }
@@ -232,9 +242,8 @@ impl Flow {
     {
         match self.search(var) {
             Ok(place) => {
-                let changed = self.locals[place].append(alloc, rows, to)?;
-                self.locals[place] = changed;
-                Ok(())
+                let changed = self.locals.at(place).append(alloc, rows, to)?;
+                self.locals.put(alloc, place, changed)
             }
             Err(_) => Ok(()),
         }
@@ -257,9 +266,8 @@ impl Flow {
     {
         match self.search(var) {
             Ok(place) => {
-                let changed = self.locals[place].assign(alloc, rows, written)?;
-                self.locals[place] = changed;
-                Ok(())
+                let changed = self.locals.at(place).assign(alloc, rows, written)?;
+                self.locals.put(alloc, place, changed)
             }
             Err(_) => Ok(()),
         }
@@ -350,18 +358,14 @@ impl Flow {
         })
     }
 
-    /// A second value of the same model. It shares what is known of each local, and has room for
-    /// one more.
+    /// A second value of the same model. It shares all that is known of the locals, and copies two
+    /// pointers.
     pub fn copy(&self, alloc: Global) -> Result<Flow, AllocError>
         ensures { IfOk result (λ copied. copied ≡ self.now) }
     {
-        let mut locals = Vec::with_capacity(alloc, self.locals.len().saturating_add(1))?;
-        for local in &self.locals {
-            locals.push(local.share()?)?;
-        }
         Ok(Flow {
             reachable: self.reachable,
-            locals,
+            locals: self.locals.share()?,
         })
     }
 
@@ -369,7 +373,7 @@ impl Flow {
     pub fn is_same(&self, other: &Flow) -> bool
         ensures { IsTrue result ↔ (self.now ≡ other.now) }
     {
-        self.reachable == other.reachable && have_same_facts(&self.locals, &other.locals)
+        self.reachable == other.reachable && self.locals.is_same(&other.locals)
     }
 
     // Forgets what code that writes the local could change.
@@ -377,8 +381,8 @@ impl Flow {
         ensures { OnOk result (self.new ≡ conservative_of self.old (var ∷ []) []) }
     {
         if let Ok(place) = self.search(var) {
-            let changed = self.locals[place].forget(alloc)?;
-            self.locals[place] = changed;
+            let changed = self.locals.at(place).forget(alloc)?;
+            self.locals.put(alloc, place, changed)?;
         }
         Ok(())
     }
@@ -388,8 +392,8 @@ impl Flow {
         ensures { OnOk result (self.new ≡ conservative_of self.old [] (var ∷ [])) }
     {
         if let Ok(place) = self.search(var) {
-            let changed = self.locals[place].capture(alloc)?;
-            self.locals[place] = changed;
+            let changed = self.locals.at(place).capture(alloc)?;
+            self.locals.put(alloc, place, changed)?;
         }
         Ok(())
     }
@@ -399,7 +403,7 @@ impl Flow {
         ensures { option_copied result ≡ facts_of self.now var }
     {
         match self.search(var) {
-            Ok(place) => Some(self.locals[place].facts()),
+            Ok(place) => Some(self.locals.at(place).facts()),
             Err(_) => None,
         }
     }
@@ -409,22 +413,6 @@ impl Flow {
         ensures found { IfOk result (StandsAt self.now.locals var) }
         ensures absent { IfErr result (WouldStandAt self.now.locals var) }
     {
-        self.locals
-            .binary_search_by_key(&var.0, |local| local.facts().var.0)
+        self.locals.search(var)
     }
-}
-
-// Whether both lists have the same facts, in the same order.
-fn have_same_facts(locals: &[Local], others: &[Local]) -> bool
-    ensures { IsTrue result ↔ (locals.now ≡ others.now) }
-{
-    if locals.len() != others.len() {
-        return false;
-    }
-    for i in 0..locals.len() {
-        if !locals[i].is_same(&others[i]) {
-            return false;
-        }
-    }
-    true
 }

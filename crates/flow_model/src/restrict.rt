@@ -6,8 +6,8 @@ ghost use Rattle.flow_model.specs.Flow.{is_listed};
 ghost use Rattle.flow_model.specs.TypeTests.{union_of};
 ghost use Rattle.flow_model.specs.Restrict.{further_of, restrict_facts, restrict_locals};
 
-use crate::local::Local;
 use crate::locals::{Facts, LocalId};
+use crate::pages::Locals;
 use crate::types::{is_proper_subtype, union};
 use dart_types::{DartType, Rows, TypeList};
 use std::alloc::{AllocError, Global};
@@ -26,15 +26,18 @@ pub(crate) struct Changes<'a> {
 pub(crate) fn restrict_locals(
     alloc: Global,
     rows: &Rows,
-    body: &[Local],
-    block: &[Local],
+    body: &Locals,
+    block: &Locals,
     changes: &Changes,
-) -> Result<Vec<Local>, AllocError>
-    ensures { IfOk result (λ locals. locals.items ≡ restrict_locals rows.now.table changes.now.written.now changes.now.captured.now body.now block.now) }
+) -> Result<Locals, AllocError>
+    ensures { IfOk result (λ locals. locals ≡ restrict_locals rows.now.table changes.now.written.now changes.now.captured.now body.now block.now) }
 {
-    let mut restricted = Vec::with_capacity(alloc, body.len())?;
-    for (l, m) in body.iter().zip(block) {
-        restricted.push(l.restrict(alloc, rows, m, changes)?)?;
+    let mut restricted = body.front(alloc, block.len())?;
+    for i in 0..restricted.len() {
+        let local = body.at(i);
+        let other = block.at(i);
+        let met = local.restrict(alloc, rows, other, changes)?;
+        restricted.put(alloc, i, met)?;
     }
     Ok(restricted)
 }

@@ -1,6 +1,8 @@
-use Rattle.std.proofs.Common.{◌≡◌, length, take}
-use Rattle.flow_model.specs.Join.{join_locals}
+use Rattle.std.proofs.Common.{◌≡◌}
+use Rattle.flow_model.specs.Join.{join_facts}
+use Rattle.flow_model.proofs.Pairs.{so_far}
 use Rattle.flow_model.proofs.join.join_locals.Given as goal
 
-abbrev pub invariant-loop-l : goal.invariant-loop-l
-invariant-loop-l l = l.joined.items ≡ join_locals (take (length l.yielded) l.a) (take (length l.yielded) l.b)
+-- the locals before the place are joined
+abbrev pub invariant-loop-i : goal.invariant-loop-i
+invariant-loop-i l = l.joined ≡ so_far join_facts l.a l.b l.i

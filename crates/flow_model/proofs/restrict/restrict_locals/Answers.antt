@@ -1,24 +1,35 @@
-use Rattle.std.proofs.Common.{rules, List, ◌∷◌, [], ◌++◌, length, take, length-append, add-one, ap, ◌∙◌}
-use Rattle.std.proofs.lemmas.Slice.Zip.{zip_turn, zip_end}
+use Rattle.std.proofs.Common.{◌≡◌, ◌<◌, List, length, set, take, add-one, sym, ap, ◌∙◌, subst, arith}
 use Rattle.flow_model.specs.Restrict.{restrict_facts}
 use Rattle.flow_model.specs.declared.locals.Facts.{Facts}
-use Rattle.flow_model.proofs.Pairs.{paired, paired-more, paired-whole}
+use Rattle.flow_model.proofs.Pairs.{so_far, length-so_far, changed-more, so_far-whole}
 use Rattle.flow_model.proofs.restrict.restrict_locals.Goals as goal
 
+-- the place is one of both
+pub put-requires : goal.put-requires
+put-requires c =
+    let first : c.in_ok-restricted.restricted ≡ take (length c.args.block.now) c.args.body.now = c.in_ok-restricted.ensures ∙ ap (λ n. take n c.args.body.now) c.len.ensures in
+    let bound : c.len-i-end.result ≡ length (take (length c.args.block.now) c.args.body.now) = c.len-i-end.ensures ∙ ap length first in
+    let within : c.loop-i.i < length (take (length c.args.block.now) c.args.body.now) = subst (λ n. c.loop-i.i < n) bound c.loop-i-test.true in
+    subst (λ n. c.loop-i.i < n) (sym (ap length c.loop-i.invariant ∙ length-so_far (restrict_facts c.args.rows.now.table c.args.changes.now.written.now c.args.changes.now.captured.now) c.args.body.now c.args.block.now c.loop-i.i (omega (arith, within)))) within
+
 -- one more local of both
-pub loop-l-preserved : goal.loop-l-preserved
-loop-l-preserved c =
-    let change = restrict_facts c.args.rows.now.table c.args.changes.now.written.now c.args.changes.now.captured.now in
-    let turn = zip_turn c.args.body.now c.args.block.now c.loop-l.yielded _ c.loop-l.l-iterator c.next.new.self c.next.result (search rules) (search rules) c.loop-l.yielded_by (c.in-Some.l, c.in-Some.m) c.in-Some.is c.next.ensures.steps in
-    let next = length-append c.loop-l.yielded ((c.in-Some.l, c.in-Some.m) ∷ []) in
-    rw (next, add-one, paired-more change c.args.body.now c.args.block.now (length c.loop-l.yielded) c.in-Some.l.now c.in-Some.m.now turn.0 turn.1 (turn.2 c.in-Some.l.now) (turn.3 c.in-Some.m.now))
-    (c.in_ok-push.ensures.items
-    ∙ (ap (λ (xs : List Facts). xs ++ c.in_ok-restrict.field-0 ∷ []) c.loop-l.invariant
-    ∙ ap (λ (f : Facts). paired change (take (length c.loop-l.yielded) c.args.body.now) (take (length c.loop-l.yielded) c.args.block.now) ++ f ∷ []) c.in_ok-restrict.ensures))
+pub loop-i-preserved : goal.loop-i-preserved
+loop-i-preserved c =
+    let first : c.in_ok-restricted.restricted ≡ take (length c.args.block.now) c.args.body.now = c.in_ok-restricted.ensures ∙ ap (λ n. take n c.args.body.now) c.len.ensures in
+    let bound : c.len-i-end.result ≡ length (take (length c.args.block.now) c.args.body.now) = c.len-i-end.ensures ∙ ap length first in
+    let within : c.loop-i.i < length (take (length c.args.block.now) c.args.body.now) = subst (λ n. c.loop-i.i < n) bound c.loop-i-test.true in
+    let made : c.in_ok-met.met ≡ (restrict_facts c.args.rows.now.table c.args.changes.now.written.now c.args.changes.now.captured.now) c.at-local.result.now c.at-other.result.now = c.in_ok-met.ensures in
+    let written : c.put.new.self ≡ set c.loop-i.restricted c.loop-i.i c.in_ok-met.met = c.in_ok-put.ensures.ok in
+    rw add-one
+    (written
+    ∙ ap (λ (l : List Facts). set l c.loop-i.i c.in_ok-met.met) c.loop-i.invariant
+    ∙ ap (λ (l : Facts). set (so_far (restrict_facts c.args.rows.now.table c.args.changes.now.written.now c.args.changes.now.captured.now) c.args.body.now c.args.block.now c.loop-i.i) c.loop-i.i l) made
+    ∙ changed-more (restrict_facts c.args.rows.now.table c.args.changes.now.written.now c.args.changes.now.captured.now) c.args.body.now c.args.block.now c.loop-i.i c.at-local.result.now c.at-other.result.now within c.at-local.ensures c.at-other.ensures)
 
 -- the shorter list is at its end
 pub returns : goal.returns
 returns c =
-    let change = restrict_facts c.args.rows.now.table c.args.changes.now.written.now c.args.changes.now.captured.now in
-    let end = zip_end c.args.body.now c.args.block.now c.loop-l.yielded _ c.loop-l.l-iterator c.next.new.self c.next.result (search rules) (search rules) c.loop-l.yielded_by c.in-None.is c.next.ensures.steps in
-    c.loop-l.invariant ∙ paired-whole change c.args.body.now c.args.block.now (length c.loop-l.yielded) end
+    let first : c.in_ok-restricted.restricted ≡ take (length c.args.block.now) c.args.body.now = c.in_ok-restricted.ensures ∙ ap (λ n. take n c.args.body.now) c.len.ensures in
+    let bound : c.len-i-end.result ≡ length (take (length c.args.block.now) c.args.body.now) = c.len-i-end.ensures ∙ ap length first in
+    let end : c.loop-i.i ≡ length (take (length c.args.block.now) c.args.body.now) = omega (arith, c.loop-i-test.false, c.loop-i.auto.i-end, bound) in
+    c.loop-i.invariant ∙ so_far-whole (restrict_facts c.args.rows.now.table c.args.changes.now.written.now c.args.changes.now.captured.now) c.args.body.now c.args.block.now c.loop-i.i end

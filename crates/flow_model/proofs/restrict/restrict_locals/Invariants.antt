@@ -1,6 +1,8 @@
-use Rattle.std.proofs.Common.{◌≡◌, length, take}
-use Rattle.flow_model.specs.Restrict.{restrict_locals}
+use Rattle.std.proofs.Common.{◌≡◌}
+use Rattle.flow_model.specs.Restrict.{restrict_facts}
+use Rattle.flow_model.proofs.Pairs.{so_far}
 use Rattle.flow_model.proofs.restrict.restrict_locals.Given as goal
 
-abbrev pub invariant-loop-l : goal.invariant-loop-l
-invariant-loop-l l = l.restricted.items ≡ restrict_locals l.rows.table l.changes.written.now l.changes.captured.now (take (length l.yielded) l.body) (take (length l.yielded) l.block)
+-- of the locals before the place is known what is behind both
+abbrev pub invariant-loop-i : goal.invariant-loop-i
+invariant-loop-i l = l.restricted ≡ so_far (restrict_facts l.rows.table l.changes.written.now l.changes.captured.now) l.body l.block l.i

@@ -1,4 +1,5 @@
 use Rattle.std.proofs.Common.{sym, ap, ◌∙◌, set}
+use Rattle.std.proofs.lemmas.Result.{on_ok_weaker}
 use Rattle.flow_model.specs.declared.locals.Facts.{Facts}
 use Rattle.flow_model.specs.Flow.{FlowModel}
 use Rattle.flow_model.specs.Promote.{append_facts}
@@ -11,10 +12,11 @@ pub returns-in_ok-changed-in-Ok-clause-ok : goal.returns-in_ok-changed-in-Ok-cla
 returns-in_ok-changed-in-Ok-clause-ok c =
     let same = ap (λ (m : FlowModel). m.locals) c.self.view_is in
     let change = append_facts c.args.rows.now.table c.args.to.now in
-    let there = map_there c.self.inside.locals.items c.self.invariant c.args.var c.in-Ok.place (rw same c.in-Ok.ensures.found) change c.index.result.now in
+    let there = map_there c.self.inside.locals c.self.invariant c.args.var c.in-Ok.place (rw same c.in-Ok.ensures.found) change c.at.result.now in
     let made = c.in_ok-changed-in-Ok.ensures in
-    let read = ap (λ (l : Facts). set c.self.inside.locals.items c.in-Ok.place (change l)) c.index.ensures in
-    rw (← c.self.view_is) (ap (with_locals c.self.inside.reachable) (ap (λ (l : Facts). set c.self.inside.locals.items c.in-Ok.place l) made ∙ (read ∙ sym there)))
+    let read = ap (λ (l : Facts). set c.self.inside.locals c.in-Ok.place (change l)) c.at.ensures in
+    rw (← c.self.view_is)
+    (on_ok_weaker c.put.result (λ is. ap (with_locals c.self.inside.reachable) (is ∙ (ap (λ (l : Facts). set c.self.inside.locals c.in-Ok.place l) made ∙ (read ∙ sym there)))) c.put.ensures.ok)
 
 -- a local that stands nowhere is passed over
 pub returns-in-Err-clause-ok : goal.returns-in-Err-clause-ok

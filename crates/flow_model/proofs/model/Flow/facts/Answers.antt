@@ -8,8 +8,8 @@ use Rattle.flow_model.proofs.model.Flow.facts.Goals as goal
 pub returns-in-Ok : goal.returns-in-Ok
 returns-in-Ok c =
     let same = ap (λ (m : FlowModel). m.locals) c.self.view_is in
-    let there = find_there c.self.inside.locals.items c.self.invariant c.args.var c.in-Ok.place (rw same c.in-Ok.ensures.found) c.index.result.now in
-    rw (← c.self.view_is) (ap (λ (l : Facts). Some l) (c.facts.ensures ∙ c.index.ensures) ∙ sym there)
+    let there = find_there c.self.inside.locals c.self.invariant c.args.var c.in-Ok.place (rw same c.in-Ok.ensures.found) c.at.result.now in
+    rw (← c.self.view_is) (ap (λ (l : Facts). Some l) (c.facts.ensures ∙ c.at.ensures) ∙ sym there)
 
 -- the local stands nowhere
 pub returns-in-Err : goal.returns-in-Err

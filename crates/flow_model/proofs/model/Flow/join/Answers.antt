@@ -8,4 +8,4 @@ use Rattle.flow_model.proofs.model.Flow.join.Goals as goal
 pub invariant_of-result : goal.invariant_of-result
 invariant_of-result c =
     subst IsInOrder (sym c.in_ok-locals.ensures)
-    (order-paired join_facts (λ l m. refl) c.deref.result.now c.deref-2.result.now (rw c.deref.ensures.value c.a.invariant))
+    (order-paired join_facts (λ l m. refl) c.a.inside.locals c.b.inside.locals c.a.invariant)

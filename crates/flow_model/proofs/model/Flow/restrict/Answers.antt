@@ -9,4 +9,4 @@ pub invariant_of-result : goal.invariant_of-result
 invariant_of-result c =
     let change = restrict_facts c.args.rows.now.table c.args.written.now c.args.captured.now in
     subst IsInOrder (sym c.in_ok-locals.ensures)
-    (order-paired change (λ l m. refl) c.deref.result.now c.deref-2.result.now (rw c.deref.ensures.value c.body.invariant))
+    (order-paired change (λ l m. refl) c.body.inside.locals c.block.inside.locals c.body.invariant)
