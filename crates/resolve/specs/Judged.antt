@@ -1,9 +1,16 @@
 -- What the code of the judge does with a row of the rules.
-use Rattle.std.specs.Prelude.{◌≡◌, List, [], ◌++◌}
+use Rattle.std.specs.Prelude.{◌≡◌, List, [], ◌++◌, Result, IfOk, OnOk}
+use Rattle.std.specs.Global.{Global}
+use Rattle.std.specs.declared.rc.Rc.{Rc}
+use Rattle.std.specs.declared.vec.Vec.{Vec}
+use Rattle.dart_tree.specs.Tree.{Tree}
+use Rattle.dart_tree.specs.Places.{place_of}
 use Rattle.dart_tree.specs.declared.places.Place.{Place}
 use Rattle.flow_model.specs.Flow.{FlowModel}
 use Rattle.judgement.specs.declared.fault.Fault.{Fault}
 use Rattle.judgement.specs.Given.{Evaluation, Outcome}
+use Rattle.judgement.specs.Surroundings.{Surroundings}
+use Rattle.judgement.specs.Judgement.{run}
 use Rattle.resolve.specs.declared.judge.Found.{Found}
 use Rattle.resolve.specs.declared.judge.Typed.{Typed}
 
@@ -55,3 +62,32 @@ pub record Gives (found now : Found) (model : FlowModel) (outcome : Outcome) : T
   pub after_is : model ≡ outcome.after
   pub faults_are : now.faults.items ≡ found.faults.items ++ outcome.faults
   pub nodes_are : now.nodes.items ≡ found.nodes.items ++ outcome.nodes
+
+-- The same of the result of a call, if there is one.
+
+abbrev pub IfHas : {E : Type 0} → Result Typed E → Place → Evaluation → Type 0
+IfHas result at e = IfOk result (λ typed. Has typed at e)
+
+abbrev pub IfRowEvaluates : {E : Type 0} → (found now : Vec Fault Global) → Result Typed E → Place → Evaluation → Type 0
+IfRowEvaluates found now result at e = IfOk result (λ typed. RowEvaluates found.items now.items typed at e)
+
+abbrev pub IfEvaluates : {E : Type 0} → (found now : Found) → Result Typed E → Place → Evaluation → Type 0
+IfEvaluates found now result at e = IfOk result (λ typed. Evaluates found now typed at e)
+
+-- of an expression, which stands where it stands
+abbrev pub IfJudges : {E : Type 0} → (found now : Found) → Result Typed E → Tree → Evaluation → Type 0
+IfJudges found now result tree e = IfEvaluates found now result (place_of tree) e
+
+abbrev pub IfRowGives : {E : Type 0} → (found now : Vec Fault Global) → Result (Rc FlowModel Global) E → Outcome → Type 0
+IfRowGives found now result outcome = IfOk result (λ after. RowGives found.items now.items after.value outcome)
+
+abbrev pub IfGives : {E : Type 0} → (found now : Found) → Result (Rc FlowModel Global) E → Outcome → Type 0
+IfGives found now result outcome = IfOk result (λ after. Gives found now after.value outcome)
+
+-- what a statement gives, with these surroundings and this model before it
+abbrev pub IfRuns : {E : Type 0} → (found now : Found) → Result (Rc FlowModel Global) E → Surroundings → Tree → FlowModel → Type 0
+IfRuns found now result s tree m = IfGives found now result (run s tree m)
+
+-- these were added to what is listed
+abbrev pub Adds : {X A E : Type 0} → (old new : Vec X Global) → Result A E → List X → Type 0
+Adds old new result more = OnOk result (new.items ≡ old.items ++ more)

@@ -9,13 +9,10 @@ mod types;
 mod writes;
 mod written;
 
-ghost use Rattle.std.specs.Prelude.{◌≡◌, ◌++◌, [], IfOk, OnOk};
-ghost use Rattle.dart_tree.specs.Tree.{block, trees_of};
-ghost use Rattle.flow_model.specs.Flow.{start_of};
+ghost use Rattle.std.specs.Prelude.{◌≡◌, IfOk};
 ghost use Rattle.judgement.specs.Given.{fault_over, of_type};
-ghost use Rattle.judgement.specs.Judgement.{run};
-ghost use Rattle.judgement.specs.Surroundings.{of_body};
-ghost use Rattle.resolve.specs.Judged.{typed_of};
+ghost use Rattle.resolve.specs.Bodies.{run_body};
+ghost use Rattle.resolve.specs.Judged.{Adds, typed_of};
 
 use crate::names::NamesInScope;
 use core_types::CoreTypes;
@@ -50,8 +47,8 @@ pub fn judge_body(
     at: Place,
     statements: &[Stmt],
 ) -> Result<Found, AllocError>
-    ensures faults { IfOk result (λ found. found.faults.items ≡ (run (of_body rows.now.table words.now outside.now) (block at (trees_of statements.now)) (start_of [])).faults) }
-    ensures nodes { IfOk result (λ found. found.nodes.items ≡ (run (of_body rows.now.table words.now outside.now) (block at (trees_of statements.now)) (start_of [])).nodes) }
+    ensures faults { IfOk result (λ found. found.faults.items ≡ (run_body rows.now.table words.now outside.now at statements.now).faults) }
+    ensures nodes { IfOk result (λ found. found.nodes.items ≡ (run_body rows.now.table words.now outside.now at statements.now).nodes) }
 {
     let core = CoreTypes::new(alloc)?;
     let context = Context {
@@ -80,6 +77,15 @@ struct Context<'a> {
     words: &'a [PlainText],
     outside: &'a [Meaning],
     core: &'a CoreTypes,
+}
+
+/// A point of a body: what is judged with, the names that are in scope there, and what is known before
+/// it.
+#[derive(Clone, Copy)]
+struct Point<'a> {
+    context: Context<'a>,
+    names: &'a NamesInScope,
+    before: &'a Rc<Flow>,
 }
 
 /// An expression that was judged: where it stands, its static type, and what is known after it, where
@@ -111,7 +117,7 @@ fn of_type(at: Place, ty: DartType, after: Rc<Flow>) -> Result<Typed, AllocError
 
 // Adds a diagnostic to those that were found.
 fn report(span: Span, code: DiagnosticCode, faults: &mut Vec<Fault>) -> Result<(), AllocError>
-    ensures { OnOk result (faults.new.items ≡ faults.old.items ++ fault_over span code) }
+    ensures { Adds faults.old faults.new result (fault_over span code) }
 {
     faults.push(Fault { span, code })?;
     Ok(())

@@ -3,7 +3,8 @@
 ghost use Rattle.std.specs.Prelude.{◌≡◌, ◌++◌, IfOk, OnOk};
 ghost use Rattle.std.specs.FinMap.{empty, get, insert, remove};
 ghost use Rattle.dart_tree.specs.Tree.{trees_of};
-ghost use Rattle.judgement.specs.DeclaredNames.{local_of, locals_of, name_of_variable, names_declared, names_in, names_of_list, names_of_variables, names_within};
+ghost use Rattle.judgement.specs.DeclaredNames.{local_of, locals_of, name_of_variable, names_declared, names_in};
+ghost use Rattle.judgement.specs.DeclaredNames.{names_of_list, names_of_variables, names_within};
 ghost use Rattle.resolve.specs.Shadows.{restored, undone};
 
 use dart_tree::{Name, Stmt, StmtNode, Variable};

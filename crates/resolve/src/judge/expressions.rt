@@ -1,27 +1,27 @@
 //! What expressions give.
 
-ghost use Rattle.std.specs.Prelude.{◌≡◌, ◌++◌, ◌∷◌, [], is_some, None, IfOk, OnOk};
+ghost use Rattle.std.specs.Prelude.{◌≡◌, ◌∷◌, [], is_some, None, IfOk, OnOk};
 ghost use Rattle.std.specs.Option.{option_copied};
-ghost use Rattle.dart_tree.specs.Tree.{Part, assignment, binary_expression, call, trees_of};
-ghost use Rattle.dart_tree.specs.Places.{place_of};
+ghost use Rattle.dart_tree.specs.Tree.{Part, binary_expression, call, trees_of};
 ghost use Rattle.flow_model.specs.Flow.{facts_of};
-ghost use Rattle.dart_tree.specs.declared.operators.AssignmentOperator.{AssignmentOperator};
-ghost use Rattle.dart_types.specs.Ty.{invalid};
-ghost use Rattle.judgement.specs.Given.{exits_if_never, faulty, of_type, said_of_expression};
+ghost use Rattle.dart_types.specs.Ty.{invalid, null};
+ghost use Rattle.judgement.specs.Given.{exits_if_never, faulty, of_type};
 ghost use Rattle.judgement.specs.ExpressionRows as row;
 ghost use Rattle.judgement.specs.Judgement as judgement;
-ghost use Rattle.judgement.specs.Judgement.{evaluate, form_row};
+ghost use Rattle.judgement.specs.Judgement.{printed, printed_value};
 ghost use Rattle.judgement.specs.Literals.{integer_of};
 ghost use Rattle.judgement.specs.Surroundings.{Names, lexeme_of, meaning_of};
 ghost use Rattle.judgement.specs.Written.{named_by};
 ghost use Rattle.resolve.specs.Around.{around};
-ghost use Rattle.resolve.specs.Judged.{Evaluates, Has, RowEvaluates, typed_of};
+ghost use Rattle.resolve.specs.Judged.{Adds, IfEvaluates, IfHas, IfJudges, IfRowEvaluates, typed_of};
+ghost use Rattle.resolve.specs.Points.{assigned, by_form, evaluated, known, named, printed_at, surroundings, tested};
+ghost use Rattle.resolve.specs.Rows.{said_of};
 
 use super::models::behind_exit;
 use super::operators::{check_fit, differ, operate, parameter_of};
 use super::types::{invalid_type, is_never, operation_of};
 use super::writes::{assign, wanted_by};
-use super::{Context, Found, Typed, of_type, report};
+use super::{Context, Found, Point, Typed, of_type, report};
 use crate::names::NamesInScope;
 use dart_tree::{
     Argument, ArgumentList, BinaryOperator, BinaryOperatorKind, Expr, ExprNode, Place,
@@ -35,49 +35,37 @@ use std::rc::Rc;
 // What an expression gives, where a type is wanted of it or none, and what is said of its nodes.
 #[cycle(expression)]
 pub(super) fn judge_expression(
-    context: Context,
-    names: &NamesInScope,
+    point: Point,
     expression: &Expr,
     wanted: Option<&DartType>,
-    before: &Rc<Flow>,
     found: &mut Found,
 ) -> Result<Typed, AllocError>
-    ensures { IfOk result (λ typed. Evaluates found.old found.new typed (place_of expression.now) (evaluate (around context.entry.rows.now.table context.entry.words.now context.entry.outside.now names.now) expression.now (option_copied wanted.entry) before.now.value)) }
+    ensures { IfJudges found.old found.new result expression.now (evaluated point.entry expression.now (option_copied wanted.entry)) }
 {
-    let row = judge_form(context, names, expression, wanted, before, found)?;
-    let typed = exit_if_never(context, row)?;
-    let element = element_of(context, names, expression);
-    say(context, element, before, &typed, found)?;
+    let row = judge_form(point, expression, wanted, found)?;
+    let typed = exit_if_never(point.context, row)?;
+    let element = element_of(point.context, point.names, expression);
+    say(point.context, element, point.before, &typed, found)?;
     Ok(typed)
 }
 
 // What its form gives.
 #[cycle(expression)]
 fn judge_form(
-    context: Context,
-    names: &NamesInScope,
+    point: Point,
     expression: &Expr,
     wanted: Option<&DartType>,
-    before: &Rc<Flow>,
     found: &mut Found,
 ) -> Result<Typed, AllocError>
-    ensures { IfOk result (λ typed. Evaluates found.old found.new typed (place_of expression.now) (form_row (around context.entry.rows.now.table context.entry.words.now context.entry.outside.now names.now) expression.now (option_copied wanted.entry) before.now.value)) }
+    ensures { IfJudges found.old found.new result expression.now (by_form point.entry expression.now (option_copied wanted.entry)) }
 {
     match &*expression.node {
-        ExprNode::Identifier { at, word } => {
-            let meaning = meaning_of(context, names, *word);
-            read_name(context, meaning, *at, before, &mut found.faults)
-        }
-        ExprNode::Integer { at, word } => {
-            judge_integer(context, *at, *word, before, &mut found.faults)
-        }
-        ExprNode::Boolean { at, value } => judge_boolean(context, *at, *value, before),
-        ExprNode::Null { at } => {
-            let ty = context.core.null().copy(context.alloc)?;
-            of_type(*at, ty, before.clone()?)
-        }
+        ExprNode::Identifier { at, word } => read_name(point, *at, *word, &mut found.faults),
+        ExprNode::Integer { at, word } => judge_integer(point, *at, *word, &mut found.faults),
+        ExprNode::Boolean { at, value } => judge_boolean(point, *at, *value),
+        ExprNode::Null { at } => judge_null(point, *at),
         ExprNode::Parenthesis { at, inner } => {
-            let typed = judge_expression(context, names, inner, wanted, before, found)?;
+            let typed = judge_expression(point, inner, wanted, found)?;
             Ok(Typed { at: *at, ..typed })
         }
         ExprNode::Binary {
@@ -85,20 +73,20 @@ fn judge_form(
             operator,
             left,
             right,
-        } => judge_operator(context, names, *at, *operator, left, right, before, found),
+        } => judge_operator(point, *at, *operator, left, right, found),
         ExprNode::Assignment {
             at,
             target,
             value,
             ..
-        } => judge_assignment(context, names, *at, target, value, before, found),
+        } => judge_assignment(point, *at, target, value, found),
         ExprNode::Call {
             at,
             callee,
             arguments,
             ..
-        } => judge_call(context, names, *at, callee, arguments, before, found),
-        _ => of_type(expression.place(), invalid_type(), before.clone()?),
+        } => judge_call(point, *at, callee, arguments, found),
+        _ => of_type(expression.place(), invalid_type(), point.before.clone()?),
     }
 }
 
@@ -106,26 +94,29 @@ fn judge_form(
 // wanted.
 #[cycle(expression)]
 fn judge_operator(
-    context: Context,
-    names: &NamesInScope,
+    point: Point,
     at: Place,
     operator: BinaryOperator,
     left: &Expr,
     right: &Expr,
-    before: &Rc<Flow>,
     found: &mut Found,
 ) -> Result<Typed, AllocError>
-    ensures { IfOk result (λ typed. Evaluates found.old found.new typed at (form_row (around context.entry.rows.now.table context.entry.words.now context.entry.outside.now names.now) (binary_expression at operator left.now right.now) None before.now.value)) }
+    ensures { IfEvaluates found.old found.new result at (by_form point.entry (binary_expression at operator left.now right.now) None) }
 {
-    let first = judge_expression(context, names, left, None, before, found)?;
+    let context = point.context;
+    let first = judge_expression(point, left, None, found)?;
+    let behind = Point {
+        before: &first.after,
+        ..point
+    };
     if operator.kind == BinaryOperatorKind::NotEqual {
-        let compared = compared_local(context, names, left, right);
-        let second = judge_expression(context, names, right, None, &first.after, found)?;
+        let compared = compared_local(context, point.names, left, right);
+        let second = judge_expression(behind, right, None, found)?;
         return differ(context, at, compared, &second);
     }
     let operation = operation_of(context.alloc, context.core, &first.ty, operator.kind)?;
     let wanted = parameter_of(&operation);
-    let second = judge_expression(context, names, right, wanted, &first.after, found)?;
+    let second = judge_expression(behind, right, wanted, found)?;
     operate(
         context,
         at,
@@ -141,25 +132,23 @@ fn judge_operator(
 // written.
 #[cycle(expression)]
 fn judge_assignment(
-    context: Context,
-    names: &NamesInScope,
+    point: Point,
     at: Place,
     target: &Expr,
     value: &Expr,
-    before: &Rc<Flow>,
     found: &mut Found,
 ) -> Result<Typed, AllocError>
-    ensures { (operator : AssignmentOperator) → IfOk result (λ typed. Evaluates found.old found.new typed at (form_row (around context.entry.rows.now.table context.entry.words.now context.entry.outside.now names.now) (assignment at operator target.now value.now) None before.now.value)) }
+    ensures { IfEvaluates found.old found.new result at (assigned point.entry target.now value.now) }
 {
-    let meaning = named_by(context, names, target);
-    let wanted = wanted_by(meaning, before);
-    let written = judge_expression(context, names, value, wanted, before, found)?;
+    let meaning = named_by(point.context, point.names, target);
+    let wanted = wanted_by(meaning, point.before);
+    let value = judge_expression(point, value, wanted, found)?;
     assign(
-        context,
+        point.context,
         at,
         meaning,
         target.place(),
-        &written,
+        &value,
         &mut found.faults,
     )
 }
@@ -167,18 +156,17 @@ fn judge_assignment(
 // A call, of which only those of `print` are judged so far.
 #[cycle(expression)]
 fn judge_call(
-    context: Context,
-    names: &NamesInScope,
+    point: Point,
     at: Place,
     callee: &Expr,
     arguments: &ArgumentList,
-    before: &Rc<Flow>,
     found: &mut Found,
 ) -> Result<Typed, AllocError>
-    ensures { (types : Part) → IfOk result (λ typed. Evaluates found.old found.new typed at (form_row (around context.entry.rows.now.table context.entry.words.now context.entry.outside.now names.now) (call at callee.now types arguments.now) None before.now.value)) }
+    ensures { (types : Part) → IfEvaluates found.old found.new result at (by_form point.entry (call at callee.now types arguments.now) None) }
 {
-    match named_by(context, names, callee) {
-        Meaning::Print => { judge_printed(context, names, at, &arguments.arguments, before, found) }
+    let before = point.before;
+    match named_by(point.context, point.names, callee) {
+        Meaning::Print => judge_printed(point, at, &arguments.arguments, found),
         Meaning::Nothing => of_type(at, invalid_type(), before.clone()?),
         Meaning::Local(_) => of_type(at, invalid_type(), before.clone()?),
         Meaning::Class(_) => of_type(at, invalid_type(), before.clone()?),
@@ -189,19 +177,17 @@ fn judge_call(
 // A call of `print` with these arguments: one.
 #[cycle(expression)]
 fn judge_printed(
-    context: Context,
-    names: &NamesInScope,
+    point: Point,
     at: Place,
     arguments: &[Argument],
-    before: &Rc<Flow>,
     found: &mut Found,
 ) -> Result<Typed, AllocError>
-    ensures { IfOk result (λ typed. Evaluates found.old found.new typed at (judgement.printed (around context.entry.rows.now.table context.entry.words.now context.entry.outside.now names.now) (trees_of arguments.now) before.now.value)) }
+    ensures { IfEvaluates found.old found.new result at (printed (surroundings point.entry) (trees_of arguments.now) (known point.entry)) }
 {
     if arguments.len() == 1 {
-        return judge_argument(context, names, at, &arguments[0], before, found);
+        return judge_argument(point, at, &arguments[0], found);
     }
-    unjudged(at, before)
+    unjudged(at, point.before)
 }
 
 // What isn't judged yet says nothing.
@@ -215,36 +201,32 @@ fn unjudged(at: Place, before: &Rc<Flow>) -> Result<Typed, AllocError>
 // A call of `print` with this argument.
 #[cycle(expression)]
 fn judge_argument(
-    context: Context,
-    names: &NamesInScope,
+    point: Point,
     at: Place,
     argument: &Argument,
-    before: &Rc<Flow>,
     found: &mut Found,
 ) -> Result<Typed, AllocError>
-    ensures { IfOk result (λ typed. Evaluates found.old found.new typed at (judgement.printed_value (around context.entry.rows.now.table context.entry.words.now context.entry.outside.now names.now) argument.now before.now.value)) }
+    ensures { IfEvaluates found.old found.new result at (printed_value (surroundings point.entry) argument.now (known point.entry)) }
 {
-    judge_print(context, names, at, &argument.value, before, found)
+    judge_print(point, at, &argument.value, found)
 }
 
 // A call of `print`, which takes any value and gives none.
 #[cycle(expression)]
 fn judge_print(
-    context: Context,
-    names: &NamesInScope,
+    point: Point,
     at: Place,
     value: &Expr,
-    before: &Rc<Flow>,
     found: &mut Found,
 ) -> Result<Typed, AllocError>
-    ensures { IfOk result (λ typed. Evaluates found.old found.new typed at (row.print_row context.entry.rows.now.table (place_of value.now) (evaluate (around context.entry.rows.now.table context.entry.words.now context.entry.outside.now names.now) value.now None before.now.value))) }
+    ensures { IfEvaluates found.old found.new result at (printed_at point.entry value.now) }
 {
-    let printed = judge_expression(context, names, value, None, before, found)?;
+    let printed = judge_expression(point, value, None, found)?;
     check_fit(
-        context.rows,
+        point.context.rows,
         DiagnosticCode::ArgumentType,
         &printed,
-        context.core.any(),
+        point.context.core.any(),
         &mut found.faults,
     )?;
     let ty = DartType {
@@ -281,7 +263,7 @@ fn say(
     found: &mut Found,
 ) -> Result<(), AllocError>
     ensures faults { OnOk result (found.new.faults.items ≡ found.old.faults.items) }
-    ensures nodes { OnOk result (found.new.nodes.items ≡ found.old.nodes.items ++ said_of_expression typed.now.at.node element before.now.value (typed_of typed.now) ∷ []) }
+    ensures nodes { Adds found.old.nodes found.new.nodes result (said_of typed.now element before.now.value ∷ []) }
 {
     found.nodes.push(TypedNode {
         node: typed.at.node,
@@ -297,7 +279,7 @@ fn say(
 
 // What a word means: the local of that name, and else what it means outside of the body.
 pub(super) fn meaning_of(context: Context, names: &NamesInScope, word: u32) -> Meaning
-    ensures { result ≡ meaning_of (around context.entry.rows.now.table context.entry.words.now context.entry.outside.now names.now) word }
+    ensures { result ≡ meaning_of (around context.entry names.now) word }
 {
     match names.local(word) {
         Some(var) => Meaning::Local(var),
@@ -310,7 +292,7 @@ pub(super) fn meaning_of(context: Context, names: &NamesInScope, word: u32) -> M
 
 // What an expression names, in parentheses too.
 pub(super) fn named_by(context: Context, names: &NamesInScope, expression: &Expr) -> Meaning
-    ensures { result ≡ named_by (around context.entry.rows.now.table context.entry.words.now context.entry.outside.now names.now) expression.now }
+    ensures { result ≡ named_by (around context.entry names.now) expression.now }
 {
     match &*expression.node {
         ExprNode::Identifier { word, .. } => meaning_of(context, names, *word),
@@ -321,7 +303,7 @@ pub(super) fn named_by(context: Context, names: &NamesInScope, expression: &Expr
 
 // What the node of an expression names, or writes.
 fn element_of(context: Context, names: &NamesInScope, expression: &Expr) -> Option<Meaning>
-    ensures { result ≡ judgement.element_of (around context.entry.rows.now.table context.entry.words.now context.entry.outside.now names.now) expression.now }
+    ensures { result ≡ judgement.element_of (around context.entry names.now) expression.now }
 {
     match &*expression.node {
         ExprNode::Identifier { word, .. } => Some(meaning_of(context, names, *word)),
@@ -339,7 +321,7 @@ fn compared_local(
     left: &Expr,
     right: &Expr,
 ) -> Option<LocalId>
-    ensures { result ≡ judgement.compared_local (around context.entry.rows.now.table context.entry.words.now context.entry.outside.now names.now) left.now right.now }
+    ensures { result ≡ judgement.compared_local (around context.entry names.now) left.now right.now }
 {
     if is_null_literal(right) {
         return as_local(named_by(context, names, left));
@@ -375,21 +357,19 @@ fn as_local(meaning: Meaning) -> Option<LocalId>
 
 // A condition must be a bool.
 pub(super) fn judge_condition(
-    context: Context,
-    names: &NamesInScope,
+    point: Point,
     condition: &Expr,
-    before: &Rc<Flow>,
     found: &mut Found,
 ) -> Result<Typed, AllocError>
-    ensures { IfOk result (λ typed. Evaluates found.old found.new typed (place_of condition.now) (judgement.condition_of (around context.entry.rows.now.table context.entry.words.now context.entry.outside.now names.now) condition.now before.now.value)) }
+    ensures { IfJudges found.old found.new result condition.now (tested point.entry condition.now) }
 {
-    let wanted = Some(context.core.bool());
-    let typed = judge_expression(context, names, condition, wanted, before, found)?;
+    let bool = point.context.core.bool();
+    let typed = judge_expression(point, condition, Some(bool), found)?;
     check_fit(
-        context.rows,
+        point.context.rows,
         DiagnosticCode::ConditionNotBool,
         &typed,
-        context.core.bool(),
+        bool,
         &mut found.faults,
     )?;
     Ok(typed)
@@ -397,24 +377,28 @@ pub(super) fn judge_condition(
 
 // An integer literal is an int, if its value is in range.
 fn judge_integer(
-    context: Context,
+    point: Point,
     at: Place,
     word: u32,
-    before: &Rc<Flow>,
     faults: &mut Vec<Fault>,
 ) -> Result<Typed, AllocError>
-    ensures { (names : Names) → IfOk result (λ typed. RowEvaluates faults.old.items faults.new.items typed at (row.integer_row (around context.entry.rows.now.table context.entry.words.now context.entry.outside.now names) at word before.now.value)) }
+    ensures { IfRowEvaluates faults.old faults.new result at (row.integer_row (surroundings point.entry) at word (known point.entry)) }
 {
-    if has_value(context, word) {
-        let ty = context.core.int().copy(context.alloc)?;
-        return of_type(at, ty, before.clone()?);
+    if has_value(point.context, word) {
+        let ty = point.context.core.int().copy(point.context.alloc)?;
+        return of_type(at, ty, point.before.clone()?);
     }
-    faulty(at, DiagnosticCode::IntegerLiteralOutOfRange, before, faults)
+    faulty(
+        at,
+        DiagnosticCode::IntegerLiteralOutOfRange,
+        point.before,
+        faults,
+    )
 }
 
 // Whether the lexeme of a word is that of an integer literal that is in range.
 fn has_value(context: Context, word: u32) -> bool
-    ensures { (names : Names) → result ≡ is_some (integer_of (lexeme_of (around context.entry.rows.now.table context.entry.words.now context.entry.outside.now names) word)) }
+    ensures { (names : Names) → result ≡ is_some (integer_of (lexeme_of (around context.entry names) word)) }
 {
     match context.words.get(word as usize) {
         Some(lexeme) => integer_of(lexeme.as_str().as_bytes()).is_some(),
@@ -423,17 +407,13 @@ fn has_value(context: Context, word: u32) -> bool
 }
 
 // `true` and `false` are bools, and nothing is reached where one would be the other.
-fn judge_boolean(
-    context: Context,
-    at: Place,
-    value: bool,
-    before: &Rc<Flow>,
-) -> Result<Typed, AllocError>
-    ensures { IfOk result (λ typed. Has typed at (row.boolean_row value before.now.value)) }
+fn judge_boolean(point: Point, at: Place, value: bool) -> Result<Typed, AllocError>
+    ensures { IfHas result at (row.boolean_row value (known point.entry)) }
 {
-    let ty = context.core.bool().copy(context.alloc)?;
+    let before = point.before;
+    let ty = point.context.core.bool().copy(point.context.alloc)?;
     let after = before.clone()?;
-    let unreached = behind_exit(context.alloc, before)?;
+    let unreached = behind_exit(point.context.alloc, before)?;
     if value {
         return Ok(Typed {
             at,
@@ -452,18 +432,26 @@ fn judge_boolean(
     })
 }
 
+// `null` is of type Null.
+fn judge_null(point: Point, at: Place) -> Result<Typed, AllocError>
+    ensures { IfHas result at (of_type null (known point.entry)) }
+{
+    let ty = point.context.core.null().copy(point.context.alloc)?;
+    of_type(at, ty, point.before.clone()?)
+}
+
 // A name is read as the local that it means.
 fn read_name(
-    context: Context,
-    meaning: Meaning,
+    point: Point,
     at: Place,
-    before: &Rc<Flow>,
+    word: u32,
     faults: &mut Vec<Fault>,
 ) -> Result<Typed, AllocError>
-    ensures { IfOk result (λ typed. RowEvaluates faults.old.items faults.new.items typed at (row.name_row meaning at before.now.value)) }
+    ensures { IfRowEvaluates faults.old faults.new result at (named point.entry at word) }
 {
-    match meaning {
-        Meaning::Local(var) => read_local(context, at, var, before, faults),
+    let before = point.before;
+    match meaning_of(point.context, point.names, word) {
+        Meaning::Local(var) => read_local(point.context, at, var, before, faults),
         Meaning::Nothing => faulty(at, DiagnosticCode::UndefinedName, before, faults),
         Meaning::Class(_) => faulty(at, DiagnosticCode::UndefinedName, before, faults),
         Meaning::Print => of_type(at, invalid_type(), before.clone()?),
@@ -479,7 +467,7 @@ fn read_local(
     before: &Rc<Flow>,
     faults: &mut Vec<Fault>,
 ) -> Result<Typed, AllocError>
-    ensures { IfOk result (λ typed. RowEvaluates faults.old.items faults.new.items typed at (row.read_row at (facts_of before.now.value var) before.now.value)) }
+    ensures { IfRowEvaluates faults.old faults.new result at (row.read_row at (facts_of before.now.value var) before.now.value) }
 {
     match before.current(var) {
         Some(ty) => {
@@ -505,7 +493,7 @@ fn faulty(
     before: &Rc<Flow>,
     faults: &mut Vec<Fault>,
 ) -> Result<Typed, AllocError>
-    ensures { IfOk result (λ typed. RowEvaluates faults.old.items faults.new.items typed at (faulty at.span code before.now.value)) }
+    ensures { IfRowEvaluates faults.old faults.new result at (faulty at.span code before.now.value) }
 {
     report(at.span, code, faults)?;
     of_type(at, invalid_type(), before.clone()?)

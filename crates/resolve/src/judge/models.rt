@@ -79,6 +79,6 @@ pub(super) fn behind_scope(
         return inside.clone();
     }
     let mut behind = inside.copy(alloc)?;
-    behind.end(&locals);
+    behind.end(alloc, &locals)?;
     shared(alloc, before, behind)
 }

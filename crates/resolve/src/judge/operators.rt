@@ -1,13 +1,14 @@
 //! What operators give, once their sides are judged.
 
-ghost use Rattle.std.specs.Prelude.{◌≡◌, ◌++◌, IfOk, OnOk};
+ghost use Rattle.std.specs.Prelude.{◌≡◌, IfOk};
 ghost use Rattle.std.specs.Option.{option_copied};
 ghost use Rattle.judgement.specs.ExpressionRows as row;
 ghost use Rattle.judgement.specs.Given.{fit_faults};
-ghost use Rattle.resolve.specs.Judged.{Has, RowEvaluates, typed_of};
+ghost use Rattle.resolve.specs.Judged.{Adds, IfHas, IfRowEvaluates, typed_of};
+ghost use Rattle.resolve.specs.Rows.{operated};
 
 use super::models::where_not_null;
-use super::types::{fits, invalid_type, is_never, is_null, operation_in, operation_of};
+use super::types::{fits, has_operation, invalid_type, is_never, is_null};
 use super::{Context, Typed, of_type, report};
 use dart_tree::{BinaryOperator, Place};
 use dart_types::{DartType, Rows, is_subtype};
@@ -26,7 +27,7 @@ pub(super) fn operate(
     faults: &mut Vec<Fault>,
 ) -> Result<Typed, AllocError>
     requires { operation.now ≡ row.operation_of left.now.ty operator.kind }
-    ensures { IfOk result (λ typed. RowEvaluates faults.old.items faults.new.items typed at (row.operated_row context.entry.rows.now.table operator right.now.at (typed_of left.now) (typed_of right.now))) }
+    ensures { IfRowEvaluates faults.old faults.new result at (operated context.entry operator left.now right.now) }
 {
     check_receiver(context, operator, operation, &left.ty, faults)?;
     check_argument(context.rows, operation, right, faults)?;
@@ -53,10 +54,9 @@ fn check_receiver(
     faults: &mut Vec<Fault>,
 ) -> Result<(), AllocError>
     requires { operation.now ≡ row.operation_of ty.now operator.kind }
-    ensures { OnOk result (faults.new.items ≡ faults.old.items ++ row.receiver_faults context.entry.rows.now.table operator.span ty.now operator.kind) }
+    ensures { Adds faults.old faults.new result (row.receiver_faults context.entry.rows.now.table operator.span ty.now operator.kind) }
 {
-    let own = operation_in(context.alloc, context.core, ty, operator.kind)?;
-    if own.is_some() || ty.holds_invalid() || is_never(ty) {
+    if has_operation(ty, operator.kind) || ty.holds_invalid() || is_never(ty) {
         return Ok(());
     }
     if !is_subtype(context.rows, ty, context.core.object())
@@ -74,7 +74,7 @@ fn check_argument(
     argument: &Typed,
     faults: &mut Vec<Fault>,
 ) -> Result<(), AllocError>
-    ensures { OnOk result (faults.new.items ≡ faults.old.items ++ row.argument_faults rows.now.table argument.now.at operation.now argument.now.ty) }
+    ensures { Adds faults.old faults.new result (row.argument_faults rows.now.table argument.now.at operation.now argument.now.ty) }
 {
     match operation {
         None => Ok(()),
@@ -96,7 +96,7 @@ pub(super) fn check_fit(
     wanted: &DartType,
     faults: &mut Vec<Fault>,
 ) -> Result<(), AllocError>
-    ensures { OnOk result (faults.new.items ≡ faults.old.items ++ fit_faults rows.now.table code value.now.at value.now.ty wanted.now) }
+    ensures { Adds faults.old faults.new result (fit_faults rows.now.table code value.now.at value.now.ty wanted.now) }
 {
     if fits(rows, &value.ty, wanted) {
         return Ok(());
@@ -136,7 +136,7 @@ pub(super) fn differ(
     compared: Option<LocalId>,
     right: &Typed,
 ) -> Result<Typed, AllocError>
-    ensures { IfOk result (λ typed. Has typed at (row.not_equal_row context.entry.rows.now.table compared (typed_of right.now) (typed_of right.now))) }
+    ensures { IfHas result at (row.not_equal_row context.entry.rows.now.table compared (typed_of right.now) (typed_of right.now)) }
 {
     let ty = context.core.bool().copy(context.alloc)?;
     let when_true = where_not_null(context, compared, &right.after)?;

@@ -1,22 +1,21 @@
 //! What statements give.
 
-ghost use Rattle.std.specs.Prelude.{◌≡◌, ◌++◌, ◌∷◌, [], IfOk, OnOk};
-ghost use Rattle.dart_tree.specs.declared.places.Place.{Place};
-ghost use Rattle.dart_tree.specs.Tree.{block, expression_statement, if_statement, part_of, trees_of, variable_statement, while_statement};
+ghost use Rattle.std.specs.Prelude.{◌≡◌, ◌∷◌, [], IfOk, OnOk};
+ghost use Rattle.dart_tree.specs.Tree.{block, expression_statement, part_of, trees_of, variable_statement, while_statement};
 ghost use Rattle.judgement.specs.Given.{said_of_statement};
-ghost use Rattle.judgement.specs.DeclaredNames.{names_declared, names_in as all_declared};
-ghost use Rattle.judgement.specs.StatementRows.{loop_head, scope_row};
-ghost use Rattle.judgement.specs.Judgement.{declare, declare_all, declare_list, evaluate_part, run, run_all, run_branch, type_of, type_row, written_type};
-ghost use Rattle.judgement.specs.Written.{written_in};
+ghost use Rattle.judgement.specs.Judgement.{declare, declare_all, declare_list, evaluate_part};
+ghost use Rattle.judgement.specs.Judgement.{run_all, run_branch, type_of, type_row, written_type};
 ghost use Rattle.resolve.specs.Around.{around};
-ghost use Rattle.resolve.specs.Judged.{Gives};
+ghost use Rattle.resolve.specs.Judged.{Adds, IfGives, IfRuns};
+ghost use Rattle.resolve.specs.Points.{branching, known, run_scope, surroundings};
+ghost use Rattle.resolve.specs.WrittenIn.{known_at_head};
 
 use super::expressions::{judge_condition, judge_expression, meaning_of};
 use super::models::{behind_scope, head_of_loop, shared};
 use super::types::invalid_type;
 use super::writes::{declare, initialize};
 use super::written::written_in_loop;
-use super::{Context, Found};
+use super::{Context, Found, Point};
 use crate::names::{NamesInScope, declared_local, names_declared, names_in};
 use dart_tree::{
     Expr, Place, Stmt, StmtNode, Variable, VariableList, WrittenType, WrittenTypeNode,
@@ -36,7 +35,7 @@ fn judge_statement(
     before: &Rc<Flow>,
     found: &mut Found,
 ) -> Result<Rc<Flow>, AllocError>
-    ensures gives { IfOk result (λ after. Gives found.old found.new after.value (run (around context.entry.rows.now.table context.entry.words.now context.entry.outside.now names.old) statement.now before.now.value)) }
+    ensures gives { IfRuns found.old found.new result (around context.entry names.old) statement.now before.now.value }
     ensures names { OnOk result (names.new ≡ names.old) }
 {
     match &*statement.node {
@@ -51,16 +50,13 @@ fn judge_statement(
             condition,
             then_branch,
             else_branch,
-        } => judge_if(
-            context,
-            names,
-            *at,
-            condition,
-            then_branch,
-            else_branch,
-            before,
-            found,
-        ),
+        } => {
+            let branches = Branches {
+                then_branch,
+                else_branch,
+            };
+            judge_if(context, names, *at, condition, branches, before, found)
+        }
         StmtNode::While {
             at,
             condition,
@@ -83,7 +79,7 @@ pub(super) fn judge_block(
     before: &Rc<Flow>,
     found: &mut Found,
 ) -> Result<Rc<Flow>, AllocError>
-    ensures gives { IfOk result (λ after. Gives found.old found.new after.value (run (around context.entry.rows.now.table context.entry.words.now context.entry.outside.now names.old) (block at (trees_of statements.now)) before.now.value)) }
+    ensures gives { IfRuns found.old found.new result (around context.entry names.old) (block at (trees_of statements.now)) before.now.value }
     ensures names { OnOk result (names.new ≡ names.old) }
 {
     let declared = names_in(context.alloc, statements)?;
@@ -104,7 +100,7 @@ fn judge_statements(
     before: &Rc<Flow>,
     found: &mut Found,
 ) -> Result<Rc<Flow>, AllocError>
-    ensures gives { IfOk result (λ after. Gives found.old found.new after.value (run_all (around context.entry.rows.now.table context.entry.words.now context.entry.outside.now names.old) (trees_of statements.now) before.now.value)) }
+    ensures gives { IfGives found.old found.new result (run_all (around context.entry names.old) (trees_of statements.now) before.now.value) }
     ensures names { OnOk result (names.new ≡ names.old) }
 {
     let mut after = before.clone()?;
@@ -123,7 +119,7 @@ fn judge_scope(
     before: &Rc<Flow>,
     found: &mut Found,
 ) -> Result<Rc<Flow>, AllocError>
-    ensures gives { IfOk result (λ after. Gives found.old found.new after.value (scope_row (around context.entry.rows.now.table context.entry.words.now context.entry.outside.now names.old) (names_declared statement.now) (λ inner. run inner statement.now) before.now.value)) }
+    ensures gives { IfGives found.old found.new result (run_scope (around context.entry names.old) statement.now before.now.value) }
     ensures names { OnOk result (names.new ≡ names.old) }
 {
     let declared = names_declared(context.alloc, statement)?;
@@ -131,6 +127,14 @@ fn judge_scope(
     let inside = judge_statement(context, names, statement, before, found)?;
     names.leave(shadowed)?;
     behind_scope(context.alloc, &declared, before, &inside)
+}
+
+/// What stands behind the condition of an `if`: a statement, and another behind an `else`, if there is
+/// one.
+#[derive(Clone, Copy)]
+struct Branches<'a> {
+    then_branch: &'a Stmt,
+    else_branch: &'a Option<Stmt>,
 }
 
 // A branch: one statement from where the condition is true, the other, or nothing, from where it is
@@ -141,17 +145,33 @@ fn judge_if(
     names: &mut NamesInScope,
     at: Place,
     condition: &Expr,
-    then_branch: &Stmt,
-    else_branch: &Option<Stmt>,
+    branches: Branches,
     before: &Rc<Flow>,
     found: &mut Found,
 ) -> Result<Rc<Flow>, AllocError>
-    ensures gives { IfOk result (λ after. Gives found.old found.new after.value (run (around context.entry.rows.now.table context.entry.words.now context.entry.outside.now names.old) (if_statement at condition.now then_branch.now (part_of else_branch.now)) before.now.value)) }
+    ensures gives { IfRuns found.old found.new result (around context.entry names.old) (branching at condition.now branches.entry) before.now.value }
     ensures names { OnOk result (names.new ≡ names.old) }
 {
-    let tested = judge_condition(context, names, condition, before, found)?;
-    let one = judge_scope(context, names, then_branch, &tested.when_true, found)?;
-    let other = judge_else(context, names, else_branch, &tested.when_false, found)?;
+    let point = Point {
+        context,
+        names,
+        before,
+    };
+    let tested = judge_condition(point, condition, found)?;
+    let one = judge_scope(
+        context,
+        names,
+        branches.then_branch,
+        &tested.when_true,
+        found,
+    )?;
+    let other = judge_else(
+        context,
+        names,
+        branches.else_branch,
+        &tested.when_false,
+        found,
+    )?;
     let joined = Flow::join(context.alloc, &one, &other)?;
     let after = shared(context.alloc, before, joined)?;
     say(at, None, before, &after, found)?;
@@ -167,7 +187,7 @@ fn judge_else(
     before: &Rc<Flow>,
     found: &mut Found,
 ) -> Result<Rc<Flow>, AllocError>
-    ensures gives { IfOk result (λ after. Gives found.old found.new after.value (run_branch (around context.entry.rows.now.table context.entry.words.now context.entry.outside.now names.old) (part_of else_branch.now) before.now.value)) }
+    ensures gives { IfGives found.old found.new result (run_branch (around context.entry names.old) (part_of else_branch.now) before.now.value) }
     ensures names { OnOk result (names.new ≡ names.old) }
 {
     match else_branch {
@@ -188,11 +208,16 @@ fn judge_while(
     before: &Rc<Flow>,
     found: &mut Found,
 ) -> Result<Rc<Flow>, AllocError>
-    ensures gives { IfOk result (λ after. Gives found.old found.new after.value (run (around context.entry.rows.now.table context.entry.words.now context.entry.outside.now names.old) (while_statement at condition.now body.now) before.now.value)) }
+    ensures gives { IfRuns found.old found.new result (around context.entry names.old) (while_statement at condition.now body.now) before.now.value }
     ensures names { OnOk result (names.new ≡ names.old) }
 {
     let head = head_of(context, names, condition, body, before)?;
-    let tested = judge_condition(context, names, condition, &head, found)?;
+    let point = Point {
+        context,
+        names,
+        before: &head,
+    };
+    let tested = judge_condition(point, condition, found)?;
     judge_scope(context, names, body, &tested.when_true, found)?;
     let after = tested.when_false.clone()?;
     say(at, None, before, &after, found)?;
@@ -208,7 +233,7 @@ fn head_of(
     body: &Stmt,
     before: &Rc<Flow>,
 ) -> Result<Rc<Flow>, AllocError>
-    ensures head { (at : Place) → IfOk result (λ head. head.value ≡ loop_head before.now.value (written_in (around context.entry.rows.now.table context.entry.words.now context.entry.outside.now names.old) (while_statement at condition.now body.now)) []) }
+    ensures head { IfOk result (λ head. head.value ≡ known_at_head (around context.entry names.old) condition.now body.now before.now.value) }
     ensures names { OnOk result (names.new ≡ names.old) }
 {
     let written = written_in_loop(context, names, condition, body)?;
@@ -225,67 +250,70 @@ fn judge_variables(
     before: &Rc<Flow>,
     found: &mut Found,
 ) -> Result<Rc<Flow>, AllocError>
-    ensures { IfOk result (λ after. Gives found.old found.new after.value (run (around context.entry.rows.now.table context.entry.words.now context.entry.outside.now names.now) (variable_statement at list.now) before.now.value)) }
+    ensures { IfRuns found.old found.new result (around context.entry names.now) (variable_statement at list.now) before.now.value }
 {
-    let after = declare_list(context, names, list, before, found)?;
+    let point = Point {
+        context,
+        names,
+        before,
+    };
+    let after = declare_list(point, list, found)?;
     say(at, None, before, &after, found)?;
     Ok(after)
 }
 
 // Variables that are declared together.
 fn declare_list(
-    context: Context,
-    names: &NamesInScope,
+    point: Point,
     list: &VariableList,
-    before: &Rc<Flow>,
     found: &mut Found,
 ) -> Result<Rc<Flow>, AllocError>
-    ensures { IfOk result (λ after. Gives found.old found.new after.value (declare_list (around context.entry.rows.now.table context.entry.words.now context.entry.outside.now names.now) list.now before.now.value)) }
+    ensures { IfGives found.old found.new result (declare_list (surroundings point.entry) list.now (known point.entry)) }
 {
-    let ty = written_type(context, names, &list.written)?;
-    declare_variables(context, names, &ty, &list.variables, before, found)
+    let ty = written_type(point.context, point.names, &list.written)?;
+    declare_variables(point, &ty, &list.variables, found)
 }
 
 // Variables of a type, one after another.
 fn declare_variables(
-    context: Context,
-    names: &NamesInScope,
+    point: Point,
     ty: &DartType,
     variables: &[Variable],
-    before: &Rc<Flow>,
     found: &mut Found,
 ) -> Result<Rc<Flow>, AllocError>
-    ensures { IfOk result (λ after. Gives found.old found.new after.value (declare_all (around context.entry.rows.now.table context.entry.words.now context.entry.outside.now names.now) ty.now (trees_of variables.now) before.now.value)) }
+    ensures { IfGives found.old found.new result (declare_all (surroundings point.entry) ty.now (trees_of variables.now) (known point.entry)) }
 {
-    let mut after = before.clone()?;
+    let mut after = point.before.clone()?;
     for variable in variables {
-        after = declare_variable(context, names, ty, variable, &after, found)?;
+        let behind = Point {
+            before: &after,
+            ..point
+        };
+        after = declare_variable(behind, ty, variable, found)?;
     }
     Ok(after)
 }
 
 // A variable: its initializer is judged before the local comes into scope.
 fn declare_variable(
-    context: Context,
-    names: &NamesInScope,
+    point: Point,
     ty: &DartType,
     variable: &Variable,
-    before: &Rc<Flow>,
     found: &mut Found,
 ) -> Result<Rc<Flow>, AllocError>
-    ensures { IfOk result (λ after. Gives found.old found.new after.value (declare (around context.entry.rows.now.table context.entry.words.now context.entry.outside.now names.now) ty.now variable.now before.now.value)) }
+    ensures { IfGives found.old found.new result (declare (surroundings point.entry) ty.now variable.now (known point.entry)) }
 {
     let element = Some(Meaning::Local(declared_local(variable.name)));
     match &variable.initializer {
         None => {
-            let after = declare(context, names, variable.name, ty, before, &mut found.faults)?;
-            say(variable.at, element, before, &after, found)?;
+            let after = declare(point, variable.name, ty, &mut found.faults)?;
+            say(variable.at, element, point.before, &after, found)?;
             Ok(after)
         }
         Some(value) => {
-            let value = judge_expression(context, names, value, Some(ty), before, found)?;
-            let after = initialize(context, names, variable.name, ty, &value, &mut found.faults)?;
-            say(variable.at, element, before, &after, found)?;
+            let value = judge_expression(point, value, Some(ty), found)?;
+            let after = initialize(point, variable.name, ty, &value, &mut found.faults)?;
+            say(variable.at, element, point.before, &after, found)?;
             Ok(after)
         }
     }
@@ -300,27 +328,30 @@ fn judge_effect(
     before: &Rc<Flow>,
     found: &mut Found,
 ) -> Result<Rc<Flow>, AllocError>
-    ensures { IfOk result (λ after. Gives found.old found.new after.value (run (around context.entry.rows.now.table context.entry.words.now context.entry.outside.now names.now) (expression_statement at (part_of value.now)) before.now.value)) }
+    ensures { IfRuns found.old found.new result (around context.entry names.now) (expression_statement at (part_of value.now)) before.now.value }
 {
-    let after = judge_value(context, names, value, before, found)?;
+    let point = Point {
+        context,
+        names,
+        before,
+    };
+    let after = judge_value(point, value, found)?;
     say(at, None, before, &after, found)?;
     Ok(after)
 }
 
 // An expression that stands as a statement, or nothing.
 fn judge_value(
-    context: Context,
-    names: &NamesInScope,
+    point: Point,
     value: &Option<Expr>,
-    before: &Rc<Flow>,
     found: &mut Found,
 ) -> Result<Rc<Flow>, AllocError>
-    ensures { IfOk result (λ after. Gives found.old found.new after.value (evaluate_part (around context.entry.rows.now.table context.entry.words.now context.entry.outside.now names.now) (part_of value.now) before.now.value)) }
+    ensures { IfGives found.old found.new result (evaluate_part (surroundings point.entry) (part_of value.now) (known point.entry)) }
 {
     match value {
-        None => before.clone(),
+        None => point.before.clone(),
         Some(value) => {
-            let typed = judge_expression(context, names, value, None, before, found)?;
+            let typed = judge_expression(point, value, None, found)?;
             Ok(typed.after)
         }
     }
@@ -335,7 +366,7 @@ fn say(
     found: &mut Found,
 ) -> Result<(), AllocError>
     ensures faults { OnOk result (found.new.faults.items ≡ found.old.faults.items) }
-    ensures nodes { OnOk result (found.new.nodes.items ≡ found.old.nodes.items ++ said_of_statement at.node element before.now.value after.now.value ∷ []) }
+    ensures nodes { Adds found.old.nodes found.new.nodes result (said_of_statement at.node element before.now.value after.now.value ∷ []) }
 {
     found.nodes.push(TypedNode {
         node: at.node,
@@ -355,7 +386,7 @@ fn written_type(
     names: &NamesInScope,
     written: &Option<WrittenType>,
 ) -> Result<DartType, AllocError>
-    ensures { IfOk result (λ ty. ty ≡ written_type (around context.entry.rows.now.table context.entry.words.now context.entry.outside.now names.now) (part_of written.now)) }
+    ensures { IfOk result (λ ty. ty ≡ written_type (around context.entry names.now) (part_of written.now)) }
 {
     match written {
         None => Ok(invalid_type()),
@@ -369,7 +400,7 @@ fn type_of(
     names: &NamesInScope,
     written: &WrittenType,
 ) -> Result<DartType, AllocError>
-    ensures { IfOk result (λ ty. ty ≡ type_of (around context.entry.rows.now.table context.entry.words.now context.entry.outside.now names.now) written.now) }
+    ensures { IfOk result (λ ty. ty ≡ type_of (around context.entry names.now) written.now) }
 {
     match &*written.node {
         WrittenTypeNode::Named {

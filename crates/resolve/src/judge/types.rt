@@ -1,6 +1,6 @@
 //! What the rows ask of types.
 
-ghost use Rattle.std.specs.Prelude.{◌≡◌, IfOk};
+ghost use Rattle.std.specs.Prelude.{◌≡◌, is_some, IfOk};
 ghost use Rattle.std.specs.Option.{option_copied};
 ghost use Rattle.dart_types.specs.Ty.{invalid, never, null};
 ghost use Rattle.dart_types.specs.Same.{same_type};
@@ -74,8 +74,20 @@ fn int_operation(
     }
 }
 
+// Whether a type has the operator.
+pub(super) fn has_operation(t: &DartType, kind: BinaryOperatorKind) -> bool
+    ensures { result ≡ is_some (row.operation_in t.now kind) }
+{
+    match &t.node {
+        TypeNode::Interface { class, .. } => {
+            *class == INT && matches!(kind, BinaryOperatorKind::Add | BinaryOperatorKind::Less)
+        }
+        _ => false,
+    }
+}
+
 // The operator that a type has.
-pub(super) fn operation_in(
+fn operation_in(
     alloc: Global,
     core: &CoreTypes,
     t: &DartType,

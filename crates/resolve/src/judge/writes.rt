@@ -1,22 +1,23 @@
 //! What declarations and assignments do with a local.
 
-ghost use Rattle.std.specs.Prelude.{◌≡◌, ◌++◌, ℕ, List, if◌then◌else◌, IfOk, IsNone, OnOk};
-ghost use Rattle.dart_types.specs.Tables.{Table};
-ghost use Rattle.judgement.specs.declared.meaning.Meaning.{Meaning};
+ghost use Rattle.std.specs.Prelude.{◌≡◌, if◌then◌else◌, IfOk, IsNone, OnOk};
 ghost use Rattle.dart_types.specs.Ty.{invalid};
 ghost use Rattle.dart_types.specs.SubTest.{sub};
 ghost use Rattle.std.specs.Option.{option_copied};
-ghost use Rattle.flow_model.specs.Flow.{at_local, declare_of, facts_of};
-ghost use Rattle.flow_model.specs.Assign.{assign_facts};
+ghost use Rattle.flow_model.specs.Flow.{facts_of};
 ghost use Rattle.judgement.specs.ExpressionRows as row;
+ghost use Rattle.judgement.specs.Given.{of_type};
 ghost use Rattle.judgement.specs.StatementRows as statement;
+ghost use Rattle.resolve.specs.declared.judge.Context.{Context};
 ghost use Rattle.resolve.specs.Around.{around};
-ghost use Rattle.resolve.specs.Judged.{Has, RowEvaluates, RowGives, typed_of};
+ghost use Rattle.resolve.specs.Judged.{IfHas, IfRowEvaluates, IfRowGives};
+ghost use Rattle.resolve.specs.Points.{known, surroundings};
+ghost use Rattle.resolve.specs.Rows.{declared_with, initialized, put, written};
 
 use super::models::shared;
 use super::operators::check_fit;
 use super::types::invalid_type;
-use super::{Context, Typed, of_type, report};
+use super::{Context, Point, Typed, of_type, report};
 use crate::names::{NamesInScope, declared_local};
 use dart_tree::{Name, Place};
 use dart_types::{DartType, is_subtype};
@@ -47,7 +48,7 @@ pub(super) fn assign(
     value: &Typed,
     faults: &mut Vec<Fault>,
 ) -> Result<Typed, AllocError>
-    ensures { IfOk result (λ typed. RowEvaluates faults.old.items faults.new.items typed at (row.assigned_row context.entry.rows.now.table meaning target value.now.at (typed_of value.now))) }
+    ensures { IfRowEvaluates faults.old faults.new result at (put context.entry meaning target value.now) }
 {
     match meaning {
         Meaning::Local(var) => write(context, at, target, var, value, faults),
@@ -63,7 +64,7 @@ pub(super) fn assign(
 
 // An assignment that writes nothing.
 fn unwritten(at: Place, value: &Typed) -> Result<Typed, AllocError>
-    ensures { IfOk result (λ typed. Has typed at (record (typed_of value.now) { ty = invalid; when_true = value.now.after.value; when_false = value.now.after.value })) }
+    ensures { IfHas result at (of_type invalid value.now.after.value) }
 {
     of_type(at, invalid_type(), value.after.clone()?)
 }
@@ -77,7 +78,7 @@ fn write(
     value: &Typed,
     faults: &mut Vec<Fault>,
 ) -> Result<Typed, AllocError>
-    ensures { IfOk result (λ typed. RowEvaluates faults.old.items faults.new.items typed at (row.write_row context.entry.rows.now.table target value.now.at var (facts_of value.now.after.value var) (typed_of value.now))) }
+    ensures { IfRowEvaluates faults.old faults.new result at (written context.entry var target value.now) }
 {
     match value.after.declared(var) {
         Some(declared) => {
@@ -121,7 +122,7 @@ fn assigned_type(
 
 // Whether the block has declared a name before: its word means another local, or its own is in scope.
 fn is_declared_before(names: &NamesInScope, name: Name, before: &Flow) -> bool
-    ensures { (table : Table) (words : List (List ℕ)) (outside : List Meaning) → result ≡ statement.is_declared_before (around table words outside names.now) name before.now }
+    ensures { (context : Context) → result ≡ statement.is_declared_before (around context names.now) name before.now }
 {
     let own = declared_local(name);
     match names.local(name.word) {
@@ -132,20 +133,19 @@ fn is_declared_before(names: &NamesInScope, name: Name, before: &Flow) -> bool
 
 // A variable without initializer: the local comes into scope, unless its name was declared before.
 pub(super) fn declare(
-    context: Context,
-    names: &NamesInScope,
+    point: Point,
     name: Name,
     ty: &DartType,
-    before: &Rc<Flow>,
     faults: &mut Vec<Fault>,
 ) -> Result<Rc<Flow>, AllocError>
-    ensures { IfOk result (λ after. RowGives faults.old.items faults.new.items after.value (statement.declare_row (around context.entry.rows.now.table context.entry.words.now context.entry.outside.now names.now) name ty.now before.now.value)) }
+    ensures { IfRowGives faults.old faults.new result (statement.declare_row (surroundings point.entry) name ty.now (known point.entry)) }
 {
-    if is_declared_before(names, name, before) {
+    let context = point.context;
+    if is_declared_before(point.names, name, point.before) {
         report(name.at.span, DiagnosticCode::DuplicateDefinition, faults)?;
-        return before.clone();
+        return point.before.clone();
     }
-    let mut declared = before.copy(context.alloc)?;
+    let mut declared = point.before.copy(context.alloc)?;
     let local = local(context, declared_local(name), ty, false)?;
     declared.declare(context.alloc, &local)?;
     Ok(Rc::new(context.alloc, declared)?)
@@ -154,15 +154,15 @@ pub(super) fn declare(
 // What follows an initializer, once that is judged: it must have the declared type, and the local
 // comes into scope with its value, unless its name was declared before.
 pub(super) fn initialize(
-    context: Context,
-    names: &NamesInScope,
+    point: Point,
     name: Name,
     ty: &DartType,
     value: &Typed,
     faults: &mut Vec<Fault>,
 ) -> Result<Rc<Flow>, AllocError>
-    ensures { IfOk result (λ after. RowGives faults.old.items faults.new.items after.value (statement.initialized_row (around context.entry.rows.now.table context.entry.words.now context.entry.outside.now names.now) name ty.now value.now.at value.now.ty value.now.after.value)) }
+    ensures { IfRowGives faults.old faults.new result (initialized (surroundings point.entry) name ty.now value.now) }
 {
+    let context = point.context;
     check_fit(
         context.rows,
         DiagnosticCode::InvalidAssignment,
@@ -170,7 +170,7 @@ pub(super) fn initialize(
         ty,
         faults,
     )?;
-    if is_declared_before(names, name, &value.after) {
+    if is_declared_before(point.names, name, &value.after) {
         report(name.at.span, DiagnosticCode::DuplicateDefinition, faults)?;
         return value.after.clone();
     }
@@ -188,7 +188,7 @@ fn declare_with_value(
     flow: &mut Flow,
 ) -> Result<(), AllocError>
     requires { IsNone (facts_of flow.old local.now.var) }
-    ensures { OnOk result (flow.new ≡ at_local (declare_of flow.old local.now) local.now.var (assign_facts context.entry.rows.now.table written.now)) }
+    ensures { OnOk result (flow.new ≡ declared_with context.entry local.now written.now flow.old) }
 {
     flow.declare(context.alloc, local)?;
     flow.assign(context.alloc, context.rows, local.var, written)

@@ -1,11 +1,11 @@
 //! The locals that trees write.
 
-ghost use Rattle.std.specs.Prelude.{◌≡◌, ◌++◌, IfOk, OnOk};
-ghost use Rattle.dart_tree.specs.Tree.{part_of, trees_of, while_statement};
-ghost use Rattle.dart_tree.specs.declared.places.Place.{Place};
-ghost use Rattle.judgement.specs.DeclaredNames.{names_declared as declared_by, names_in as all_declared, within};
+ghost use Rattle.std.specs.Prelude.{◌≡◌, IfOk, OnOk};
+ghost use Rattle.dart_tree.specs.Tree.{part_of, trees_of};
 ghost use Rattle.judgement.specs.Written.{local_meant, written_in, written_in_all, written_in_branch, written_in_part};
 ghost use Rattle.resolve.specs.Around.{around};
+ghost use Rattle.resolve.specs.Judged.{Adds};
+ghost use Rattle.resolve.specs.WrittenIn.{written_in_block, written_in_loop, written_in_scope};
 
 use super::Context;
 use super::expressions::named_by;
@@ -22,7 +22,7 @@ pub(super) fn written_in_loop(
     condition: &Expr,
     body: &Stmt,
 ) -> Result<Vec<LocalId>, AllocError>
-    ensures locals { (at : Place) → IfOk result (λ locals. locals.items ≡ written_in (around context.entry.rows.now.table context.entry.words.now context.entry.outside.now names.old) (while_statement at condition.now body.now)) }
+    ensures locals { IfOk result (λ locals. locals.items ≡ written_in_loop (around context.entry names.old) condition.now body.now) }
     ensures names { OnOk result (names.new ≡ names.old) }
 {
     let mut written = Vec::new(context.alloc);
@@ -39,7 +39,7 @@ fn add_written_in_value(
     expression: &Expr,
     written: &mut Vec<LocalId>,
 ) -> Result<(), AllocError>
-    ensures { OnOk result (written.new.items ≡ written.old.items ++ written_in (around context.entry.rows.now.table context.entry.words.now context.entry.outside.now names.now) expression.now) }
+    ensures { Adds written.old written.new result (written_in (around context.entry names.now) expression.now) }
 {
     match &*expression.node {
         ExprNode::Parenthesis { inner, .. } => add_written_in_value(context, names, inner, written),
@@ -66,7 +66,7 @@ fn add_written_in_arguments(
     arguments: &[Argument],
     written: &mut Vec<LocalId>,
 ) -> Result<(), AllocError>
-    ensures { OnOk result (written.new.items ≡ written.old.items ++ written_in_all (around context.entry.rows.now.table context.entry.words.now context.entry.outside.now names.now) (trees_of arguments.now)) }
+    ensures { Adds written.old written.new result (written_in_all (around context.entry names.now) (trees_of arguments.now)) }
 {
     for argument in arguments {
         add_written_in_argument(context, names, argument, written)?;
@@ -82,7 +82,7 @@ fn add_written_in_argument(
     argument: &Argument,
     written: &mut Vec<LocalId>,
 ) -> Result<(), AllocError>
-    ensures { OnOk result (written.new.items ≡ written.old.items ++ written_in (around context.entry.rows.now.table context.entry.words.now context.entry.outside.now names.now) argument.now) }
+    ensures { Adds written.old written.new result (written_in (around context.entry names.now) argument.now) }
 {
     add_written_in_value(context, names, &argument.value, written)
 }
@@ -94,7 +94,7 @@ fn add_written_in_part(
     value: &Option<Expr>,
     written: &mut Vec<LocalId>,
 ) -> Result<(), AllocError>
-    ensures { OnOk result (written.new.items ≡ written.old.items ++ written_in_part (around context.entry.rows.now.table context.entry.words.now context.entry.outside.now names.now) (part_of value.now)) }
+    ensures { Adds written.old written.new result (written_in_part (around context.entry names.now) (part_of value.now)) }
 {
     match value {
         None => Ok(()),
@@ -109,7 +109,7 @@ fn add_written_in_variables(
     variables: &[Variable],
     written: &mut Vec<LocalId>,
 ) -> Result<(), AllocError>
-    ensures { OnOk result (written.new.items ≡ written.old.items ++ written_in_all (around context.entry.rows.now.table context.entry.words.now context.entry.outside.now names.now) (trees_of variables.now)) }
+    ensures { Adds written.old written.new result (written_in_all (around context.entry names.now) (trees_of variables.now)) }
 {
     for variable in variables {
         add_written_in_variable(context, names, variable, written)?;
@@ -124,14 +124,14 @@ fn add_written_in_variable(
     variable: &Variable,
     written: &mut Vec<LocalId>,
 ) -> Result<(), AllocError>
-    ensures { OnOk result (written.new.items ≡ written.old.items ++ written_in (around context.entry.rows.now.table context.entry.words.now context.entry.outside.now names.now) variable.now) }
+    ensures { Adds written.old written.new result (written_in (around context.entry names.now) variable.now) }
 {
     add_written_in_part(context, names, &variable.initializer, written)
 }
 
 // Puts the local that a name means behind them, if it means one.
 fn add_local(meaning: Meaning, written: &mut Vec<LocalId>) -> Result<(), AllocError>
-    ensures { OnOk result (written.new.items ≡ written.old.items ++ local_meant meaning) }
+    ensures { Adds written.old written.new result (local_meant meaning) }
 {
     match meaning {
         Meaning::Local(var) => {
@@ -153,7 +153,7 @@ fn add_written_in_scope(
     statement: &Stmt,
     written: &mut Vec<LocalId>,
 ) -> Result<(), AllocError>
-    ensures locals { OnOk result (written.new.items ≡ written.old.items ++ written_in (within (around context.entry.rows.now.table context.entry.words.now context.entry.outside.now names.old) (declared_by statement.now)) statement.now) }
+    ensures locals { Adds written.old written.new result (written_in_scope (around context.entry names.old) statement.now) }
     ensures names { OnOk result (names.new ≡ names.old) }
 {
     let declared = names_declared(context.alloc, statement)?;
@@ -170,7 +170,7 @@ fn add_written_in_block(
     statements: &[Stmt],
     written: &mut Vec<LocalId>,
 ) -> Result<(), AllocError>
-    ensures locals { OnOk result (written.new.items ≡ written.old.items ++ written_in_all (within (around context.entry.rows.now.table context.entry.words.now context.entry.outside.now names.old) (all_declared (trees_of statements.now))) (trees_of statements.now)) }
+    ensures locals { Adds written.old written.new result (written_in_block (around context.entry names.old) (trees_of statements.now)) }
     ensures names { OnOk result (names.new ≡ names.old) }
 {
     let declared = names_in(context.alloc, statements)?;
@@ -187,7 +187,7 @@ fn add_written_in_all(
     statements: &[Stmt],
     written: &mut Vec<LocalId>,
 ) -> Result<(), AllocError>
-    ensures locals { OnOk result (written.new.items ≡ written.old.items ++ written_in_all (around context.entry.rows.now.table context.entry.words.now context.entry.outside.now names.old) (trees_of statements.now)) }
+    ensures locals { Adds written.old written.new result (written_in_all (around context.entry names.old) (trees_of statements.now)) }
     ensures names { OnOk result (names.new ≡ names.old) }
 {
     for statement in statements {
@@ -204,7 +204,7 @@ fn add_written_in_else(
     branch: &Option<Stmt>,
     written: &mut Vec<LocalId>,
 ) -> Result<(), AllocError>
-    ensures locals { OnOk result (written.new.items ≡ written.old.items ++ written_in_branch (around context.entry.rows.now.table context.entry.words.now context.entry.outside.now names.old) (part_of branch.now)) }
+    ensures locals { Adds written.old written.new result (written_in_branch (around context.entry names.old) (part_of branch.now)) }
     ensures names { OnOk result (names.new ≡ names.old) }
 {
     match branch {
@@ -221,7 +221,7 @@ fn add_written(
     statement: &Stmt,
     written: &mut Vec<LocalId>,
 ) -> Result<(), AllocError>
-    ensures locals { OnOk result (written.new.items ≡ written.old.items ++ written_in (around context.entry.rows.now.table context.entry.words.now context.entry.outside.now names.old) statement.now) }
+    ensures locals { Adds written.old written.new result (written_in (around context.entry names.old) statement.now) }
     ensures names { OnOk result (names.new ≡ names.old) }
 {
     match &*statement.node {

@@ -19,7 +19,7 @@ abbrev pub decreases-judge_scope : goal.decreases-judge_scope
 decreases-judge_scope l = 4 * nodes_in l.statement.now + 1
 
 abbrev pub decreases-judge_if : goal.decreases-judge_if
-decreases-judge_if l = 4 * (nodes_in l.then_branch.now + nodes_in_part (part_of l.else_branch.now)) + 3
+decreases-judge_if l = 4 * (nodes_in l.branches.then_branch.now + nodes_in_part (part_of l.branches.else_branch.now)) + 3
 
 abbrev pub decreases-judge_else : goal.decreases-judge_else
 decreases-judge_else l = 4 * nodes_in_part (part_of l.else_branch.now) + 2
@@ -32,5 +32,5 @@ abbrev pub invariant-judge_statements-loop-statement : goal.invariant-judge_stat
 invariant-judge_statements-loop-statement l =
     (l.names ≡ l.initial.names)
     × Ahead l.initial.found l.found
-    (run_all (around l.context.rows.now.table l.context.words.now l.context.outside.now l.initial.names) (trees_of l.statements) l.before.value)
-    (run_all (around l.context.rows.now.table l.context.words.now l.context.outside.now l.initial.names) (trees_of (drop l.statement-index l.statements)) l.after.value)
+    (run_all (around l.context l.initial.names) (trees_of l.statements) l.before.value)
+    (run_all (around l.context l.initial.names) (trees_of (drop l.statement-index l.statements)) l.after.value)

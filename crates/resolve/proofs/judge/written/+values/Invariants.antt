@@ -17,5 +17,5 @@ decreases-add_written_in_arguments l = 2 * nodes_in_all (trees_of l.arguments.no
 -- the locals that are written so far and those to come are all
 abbrev pub invariant-add_written_in_arguments-loop-argument : goal.invariant-add_written_in_arguments-loop-argument
 invariant-add_written_in_arguments-loop-argument l =
-    l.written.items ++ written_in_all (around l.context.rows.now.table l.context.words.now l.context.outside.now l.names) (trees_of (drop l.argument-index l.arguments))
-    ≡ l.initial.written.items ++ written_in_all (around l.context.rows.now.table l.context.words.now l.context.outside.now l.names) (trees_of l.arguments)
+    l.written.items ++ written_in_all (around l.context l.names) (trees_of (drop l.argument-index l.arguments))
+    ≡ l.initial.written.items ++ written_in_all (around l.context l.names) (trees_of l.arguments)

@@ -24,5 +24,5 @@ decreases-add_written_in_all l = 4 * nodes_in_all (trees_of l.statements.now) + 
 abbrev pub invariant-add_written_in_all-loop-statement : goal.invariant-add_written_in_all-loop-statement
 invariant-add_written_in_all-loop-statement l =
     (l.names ≡ l.initial.names)
-    × (l.written.items ++ written_in_all (around l.context.rows.now.table l.context.words.now l.context.outside.now l.initial.names) (trees_of (drop l.statement-index l.statements))
-    ≡ l.initial.written.items ++ written_in_all (around l.context.rows.now.table l.context.words.now l.context.outside.now l.initial.names) (trees_of l.statements))
+    × (l.written.items ++ written_in_all (around l.context l.initial.names) (trees_of (drop l.statement-index l.statements))
+    ≡ l.initial.written.items ++ written_in_all (around l.context l.initial.names) (trees_of l.statements))

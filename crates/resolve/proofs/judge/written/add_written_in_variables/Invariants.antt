@@ -7,5 +7,5 @@ use Rattle.resolve.proofs.judge.written.add_written_in_variables.Given as goal
 -- the locals that are written so far and those to come are all
 abbrev pub invariant-loop-variable : goal.invariant-loop-variable
 invariant-loop-variable l =
-    l.written.items ++ written_in_all (around l.context.rows.now.table l.context.words.now l.context.outside.now l.names) (trees_of (drop l.variable-index l.variables))
-    ≡ l.initial.written.items ++ written_in_all (around l.context.rows.now.table l.context.words.now l.context.outside.now l.names) (trees_of l.variables)
+    l.written.items ++ written_in_all (around l.context l.names) (trees_of (drop l.variable-index l.variables))
+    ≡ l.initial.written.items ++ written_in_all (around l.context l.names) (trees_of l.variables)
