@@ -1,8 +1,9 @@
 -- Facts with one more at its place.
-use Rattle.std.proofs.Common.{◌≡◌, ◌≢◌, ℕ, zero, suc, ◌<◌, ◌≤◌, nat_eq, nat_lt, List, [], ◌∷◌, ◌++◌, length, get_or, set, sym, ap, ◌∙◌, subst, refl, arith, All, inl, inr}
+use Rattle.std.proofs.Common.{◌≡◌, ◌≢◌, ℕ, zero, suc, ◌+◌, ◌<◌, ◌≤◌, nat_eq, nat_lt, fold, List, [], ◌∷◌, ◌++◌, length, get_or, set, sym, ap, ◌∙◌, subst, refl, arith, All, inl, inr}
 use Rattle.std.specs.List.{insert}
 use Rattle.std.proofs.lemmas.Bool.{cases_lt, cases_eq, cond-true, cond-false, lt-ltb, le-ltb, eq-eqb, ne_eqb}
-use Rattle.std.proofs.lemmas.List.{get_or_default}
+use Rattle.std.proofs.Math.Seq.{get_or-append_seam}
+use Rattle.std.proofs.lemmas.List.{append-nil, append_assoc, get_or_append_left, get_or_default, length-append}
 use Rattle.std.proofs.lemmas.List.Elements.{All-cons, All-head, All-tail}
 use Rattle.std.proofs.lemmas.List.Kept.{AllPairs-cons}
 use Rattle.core_ir.specs.PointFacts.{AreInOrder, put}
@@ -76,6 +77,18 @@ put_last [] fact all = refl
 put_last (first ∷ rest) fact all =
     put_behind first rest fact (All-head (λ f. f.slot.0 < fact.slot.0) first rest all)
     ∙ ap (λ l. first ∷ l) (put_last rest fact (All-tail (λ f. f.slot.0 < fact.slot.0) first rest all))
+
+-- facts in order are listed as they come
+pub puts_in_order : (first rest : List SlotFact) → AreInOrder (first ++ rest) → fold put first rest ≡ first ++ rest
+puts_in_order first [] order = sym (append-nil first)
+puts_in_order first (fact ∷ rest) order =
+    let count : length (first ++ fact ∷ rest) ≡ length first + length (fact ∷ rest) = length-append first (fact ∷ rest) in
+    let behind : All (λ f. f.slot.0 < fact.slot.0) first = λ k d lt.
+    subst (λ (f : SlotFact). f.slot.0 < fact.slot.0) (get_or_append_left first (fact ∷ rest) d k lt)
+    (subst (λ (f : SlotFact). (get_or (first ++ fact ∷ rest) k d).slot.0 < f.slot.0) (get_or-append_seam first fact rest d) (order k (length first) d lt (omega arith))) in
+    ap (λ l. fold put l rest) (put_last first fact behind)
+    ∙ puts_in_order (first ++ fact ∷ []) rest (subst AreInOrder (sym (append_assoc first (fact ∷ []) rest)) order)
+    ∙ append_assoc first (fact ∷ []) rest
 
 -- what was read of a list and of a fact, of the list and the fact themselves
 module _ (items seen : List SlotFact) (fact read : SlotFact) (place : ℕ) (same : seen ≡ items) (of : read ≡ fact) where

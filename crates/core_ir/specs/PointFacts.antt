@@ -1,5 +1,5 @@
 -- What is known at a point, as a value.
-use Rattle.std.specs.Prelude.{Bool, ◌<◌, nat_eq, nat_lt, List, [], ◌∷◌, if◌then◌else◌, AllPairs, refl}
+use Rattle.std.specs.Prelude.{◌≡◌, ℕ, Bool, ◌<◌, nat_eq, nat_lt, List, [], ◌∷◌, if◌then◌else◌, AllPairs, refl, flat_map, length, slice_index_or, take}
 use Rattle.std.specs.Coded.{Coded, code_by, coded×, coded_bool, coded_list}
 use Rattle.core_ir.specs.declared.facts.SlotFact.{SlotFact}
 use Rattle.core_ir.specs.contracts.facts.SlotFact as slot_fact
@@ -18,6 +18,10 @@ abbrev pub put : List SlotFact → SlotFact → List SlotFact
 put [] fact = fact ∷ []
 put (first ∷ rest) fact =
     if nat_lt first.slot.0 fact.slot.0 then first ∷ put rest fact else (if nat_eq first.slot.0 fact.slot.0 then fact ∷ rest else fact ∷ first ∷ rest)
+
+-- each page knows how many facts stand in the pages before it
+abbrev pub AreCounted : {Page : Type 0} → (before : Page → ℕ) → (facts : Page → List SlotFact) → List Page → Type 0
+AreCounted {Page} before facts pages = (k : ℕ) (none : Page) → k < length pages → before (slice_index_or pages k none) ≡ length (flat_map facts (take k pages))
 
 -- how the facts of a point are stored
 abbrev pub facts_code : Coded PointFacts

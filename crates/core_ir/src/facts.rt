@@ -1,9 +1,10 @@
 //! What is known at a point.
 
-ghost use Rattle.std.specs.Prelude.{◌≡◌, ◌<◌, ◌≤◌, ◌^◌, ◌++◌, ◌∷◌, [], ◌↔◌, ℕ, All, IfOk, OnOk, OnErr, IsTrue, flat_map, length, slice_index_or};
+ghost use Rattle.std.specs.Prelude.{◌≡◌, ◌<◌, ◌≤◌, ◌++◌, ◌∷◌, [], ◌↔◌, ℕ, All, IfOk, OnOk, OnErr, IsTrue, length, slice_index_or};
 ghost use Rattle.core_ir.specs.PointFacts.{AreInOrder, put};
 ghost use Rattle.core_ir.specs.declared.facts.SlotFact.{SlotFact as Fact};
 
+use crate::pages::{Page, Pages, page_of};
 use crate::points::SlotId;
 use dart_types::DartType;
 use std::alloc::{AllocError, Global};
@@ -85,11 +86,8 @@ impl SharedFact {
     }
 }
 
-/// How many facts a page has.
-const PAGE: usize = 32;
-
-/// The most pages that facts are kept in.
-const MOST_PAGES: usize = 1 << 27;
+/// The most facts that are kept in pages.
+const MOST_PAGED: usize = 1 << 32;
 
 // Whether what is known of a slot is the same.
 fn is_same_held(first: &Held, second: &Held) -> bool
@@ -112,8 +110,8 @@ fn is_same_fact(first: &SlotFact, second: &SlotFact) -> bool
         && is_same_held(&first.known.held, &second.known.held)
 }
 
-// Whether two lists of facts are the same.
-fn are_same(first: &[SharedFact], second: &[SharedFact]) -> bool
+/// Whether two lists of facts are the same.
+pub(crate) fn are_same(first: &[SharedFact], second: &[SharedFact]) -> bool
     ensures { IsTrue result → first.now ≡ second.now }
 {
     if first.len() != second.len() {
@@ -127,8 +125,11 @@ fn are_same(first: &[SharedFact], second: &[SharedFact]) -> bool
     true
 }
 
-// The same facts once more. It copies pointers.
-fn shared_again(alloc: Global, listed: &[SharedFact]) -> Result<Vec<SharedFact>, AllocError>
+/// The same facts once more. It copies pointers.
+pub(crate) fn shared_again(
+    alloc: Global,
+    listed: &[SharedFact],
+) -> Result<Vec<SharedFact>, AllocError>
     ensures { IfOk result (λ copied. copied.items ≡ listed.now) }
 {
     let mut copied = Vec::new(alloc);
@@ -136,46 +137,6 @@ fn shared_again(alloc: Global, listed: &[SharedFact]) -> Result<Vec<SharedFact>,
         copied.push(fact.share()?)?;
     }
     Ok(copied)
-}
-
-/// The pages that were last made at each place, which points at which the same is known share.
-#[derive(Drop)]
-pub struct Pages {
-    alloc: Global,
-    kept: Vec<Rc<Vec<SharedFact>>>,
-}
-
-impl Pages {
-    /// No page was made yet.
-    pub fn new(alloc: Global) -> Pages {
-        Pages {
-            alloc,
-            kept: Vec::new(alloc),
-        }
-    }
-
-    // A page with these facts: the one that was last made at the place, if that has the same.
-    fn page(
-        &mut self,
-        place: usize,
-        listed: &[SharedFact],
-    ) -> Result<Rc<Vec<SharedFact>>, AllocError>
-        ensures { IfOk result (λ page. page.value.items ≡ listed.now) }
-    {
-        if let Some(last) = self.kept.get(place) {
-            if are_same(last, listed) {
-                return Ok(last.clone()?);
-            }
-        }
-        let page = Rc::new(self.alloc, shared_again(self.alloc, listed)?)?;
-        let again = page.clone()?;
-        if place < self.kept.len() {
-            self.kept[place] = again;
-        } else {
-            self.kept.push(again)?;
-        }
-        Ok(page)
-    }
 }
 
 /// What is known at a point: whether a run may come here, and what is known of slots, in their order. A
@@ -186,34 +147,54 @@ impl Pages {
 pub struct Facts {
     alloc: Global,
     reachable: bool,
-    pages: Vec<Rc<Vec<SharedFact>>>,
+    pages: Rc<Vec<Page>>,
+    paged: usize,
     own: Vec<SharedFact>,
 }
 
 impl Model for Facts {
-    ghost use Rattle.std.specs.Prelude.{◌≡◌, ◌≤◌, ◌^◌, ◌++◌, All, flat_map, length};
-    ghost use Rattle.core_ir.specs.PointFacts.{PointFacts, facts_code, AreInOrder};
+    ghost use Rattle.std.specs.Prelude.{◌≡◌, ◌≤◌, ◌^◌, ◌++◌, flat_map, length};
+    ghost use Rattle.core_ir.specs.PointFacts.{PointFacts, facts_code, AreInOrder, AreCounted};
 
     ghost Value = { PointFacts };
 
     ghost coded = { facts_code };
 
-    ghost view = { λ f. record { reachable = f.reachable; listed = flat_map (λ page. page.value.items) f.pages.items ++ f.own.items } };
+    ghost view = { λ f. record { reachable = f.reachable; listed = flat_map (λ page. page.facts.value.items) f.pages.value.items ++ f.own.items } };
 
-    ghost invariant = { λ f. AreInOrder (flat_map (λ page. page.value.items) f.pages.items ++ f.own.items) × All (λ page. length page.value.items ≡ 32) f.pages.items × (length f.pages.items ≤ 2 ^ 27) };
+    ghost invariant = { λ f. AreInOrder (flat_map (λ page. page.facts.value.items) f.pages.value.items ++ f.own.items)
+        × AreCounted (λ page. page.before) (λ page. page.facts.value.items) f.pages.value.items
+        × (f.paged ≡ length (flat_map (λ page. page.facts.value.items) f.pages.value.items))
+        × (f.paged ≤ 2 ^ 32) };
 }
 
 impl Facts {
-    /// A point of whose slots nothing is known. It takes no memory.
-    pub fn new(alloc: Global, reachable: bool) -> Facts
-        ensures { result ≡ record { reachable = reachable; listed = [] } }
+    /// A point of whose slots nothing is known.
+    pub fn new(alloc: Global, reachable: bool) -> Result<Facts, AllocError>
+        ensures { IfOk result (λ facts. facts ≡ record { reachable = reachable; listed = [] }) }
     {
-        Facts {
+        Ok(Facts {
             alloc,
             reachable,
-            pages: Vec::new(alloc),
+            pages: Rc::new(alloc, Vec::new(alloc))?,
+            paged: 0,
             own: Vec::new(alloc),
-        }
+        })
+    }
+
+    /// A point at which the same is known of slots. It copies a pointer for all pages, and one for each
+    /// fact behind them.
+    pub fn share(&self, reachable: bool) -> Result<Facts, AllocError>
+        ensures { IfOk result (λ facts. facts ≡ record { reachable = reachable; listed = self.now.listed }) }
+    {
+        let own = shared_again(self.alloc, &self.own)?;
+        Ok(Facts {
+            alloc: self.alloc,
+            reachable,
+            pages: self.pages.clone()?,
+            paged: self.paged,
+            own,
+        })
     }
 
     /// Whether a run may come here.
@@ -227,7 +208,7 @@ impl Facts {
     pub fn len(&self) -> usize
         ensures { result ≡ length self.now.listed }
     {
-        self.pages.len() * PAGE + self.own.len()
+        self.paged + self.own.len()
     }
 
     /// Slots are listed in their order.
@@ -251,9 +232,11 @@ impl Facts {
         requires { place < length self.now.listed }
         ensures { result.now ≡ slice_index_or self.now.listed place result.now }
     {
-        match self.pages.get(place / PAGE) {
-            Some(page) => &page[place % PAGE],
-            None => &self.own[place - self.pages.len() * PAGE],
+        if place < self.paged {
+            let page = &self.pages[page_of(&self.pages, place)];
+            &page.facts[place - page.before]
+        } else {
+            &self.own[place - self.paged]
         }
     }
 
@@ -299,7 +282,8 @@ impl Facts {
     {
         let mut listed = self.listed()?;
         put_in(&mut listed, fact)?;
-        self.pages.clear();
+        self.pages = Rc::new(self.alloc, Vec::new(self.alloc))?;
+        self.paged = 0;
         self.own = listed;
         Ok(())
     }
@@ -315,15 +299,15 @@ impl Facts {
         Ok(listed)
     }
 
-    /// Lets other points share what was put since the last page, as soon as it fills one: the page that
-    /// was last made there is taken, if it says the same. What is known stays as it is.
+    /// Lets other points share what was put, of each range of slots the page that was last made of it, if
+    /// that says the same. What is known stays as it is.
     pub fn settle(&mut self, pages: &mut Pages) -> Result<(), AllocError>
         ensures { self.new ≡ self.old }
     {
-        let place = self.pages.len();
-        if self.own.len() == PAGE && place < MOST_PAGES {
-            let page = pages.page(place, &self.own)?;
-            self.pages.push(page)?;
+        let count = self.own.len();
+        if self.paged == 0 && count <= MOST_PAGED {
+            self.pages = Rc::new(self.alloc, pages.list(&self.own)?)?;
+            self.paged = count;
             self.own = Vec::new(self.alloc);
         }
         Ok(())

@@ -1,6 +1,6 @@
 //! Laws of facts with one more.
 
-ghost use Rattle.std.specs.Prelude.{◌≡◌, ◌⊎◌, List, All, Contains};
+ghost use Rattle.std.specs.Prelude.{◌≡◌, ◌⊎◌, List, [], All, Contains, fold};
 ghost use Rattle.core_ir.specs.PointFacts.{AreInOrder, put};
 ghost use Rattle.core_ir.specs.declared.facts.SlotFact.{SlotFact};
 
@@ -14,4 +14,9 @@ pub fn put_keeps()
 /// Facts in order are in order with one more.
 pub fn put_keeps_order()
     ensures { (facts : List SlotFact) (fact : SlotFact) → AreInOrder facts → AreInOrder (put facts fact) }
+{}
+
+/// Facts in order that are put one after another are listed as they come.
+pub fn put_lists_in_order()
+    ensures { (facts : List SlotFact) → AreInOrder facts → fold put [] facts ≡ facts }
 {}

@@ -10,12 +10,14 @@
 
 mod facts;
 mod laws;
+mod pages;
 mod points;
 mod program;
 mod values;
 
-pub use facts::{Facts, Held, Known, Pages, SharedFact, SlotFact};
-pub use laws::{put_keeps, put_keeps_order};
+pub use facts::{Facts, Held, Known, SharedFact, SlotFact};
+pub use laws::{put_keeps, put_keeps_order, put_lists_in_order};
+pub use pages::Pages;
 pub use points::{FunctionId, Operand, Point, PointId, SlotId, Span, Term};
 pub use program::{CoreFunction, CoreProgram};
 pub use values::Value;

@@ -22,7 +22,7 @@ use Rattle.core_ir.specs.declared.points.Point.{Point}
 use Rattle.core_ir.specs.declared.points.PointId.{PointId}
 use Rattle.core_ir.specs.declared.points.SlotId.{SlotId}
 use Rattle.core_ir.specs.declared.points.Term.TheVariants.{End}
-use Rattle.core_check.specs.Accepted.{FitsAsked, FitsDeclared, IsAccepted, IsEntry, IsFine, IsReadable, Leads}
+use Rattle.core_check.specs.Accepted.{BeginsEmpty, FitsAsked, FitsDeclared, IsAccepted, IsEntry, IsFine, IsReadable, Leads}
 use Rattle.core_check.specs.Known.{facts_at, function_at, function_of, no_point, point_at}
 use Rattle.core_check.specs.Shapes.{shape}
 use Rattle.core_check.specs.WellFormed.{IsAsked, IsFunctionOf, IsOperand, IsPointOf, IsStored, IsWay, IsWellFormed}
@@ -168,11 +168,11 @@ module _ (rows : FormedTable) (x : Sources) (outside : List Meaning) (at : Place
       function_is : (k : ℕ) → k < length p.points → function_of p k ≡ c.g
       function_is k lt = ap (function_at p) (all_formed.own k lt)
 
-      entry_is : (k : ℕ) → k < length p.points → (function_of p k).entry.0 ≡ k → IsEntry (facts_at p k)
+      entry_is : (k : ℕ) → k < length p.points → (function_of p k).entry.0 ≡ k → IsEntry p (function_of p k) (facts_at p k)
       entry_is k lt is =
           let at_entry : (points_of x body).entry.0 ≡ k = sym (ap (λ (g : Function). g.entry.0) (function_is k lt)) ∙ is in
           let known : facts_at p k ≡ entry_facts = sym (ap (facts_at p) at_entry) ∙ emitted.entry_facts in
-          subst IsEntry (sym known) (record { reachable = refl; nothing_known = refl })
+          subst (IsEntry p (function_of p k)) (sym known) (record { reachable = refl; begins = All-nil (BeginsEmpty p (function_of p k)) })
 
       pub accepted : IsAccepted p
       accepted = record {

@@ -42,7 +42,7 @@ use Rattle.elaborate.specs.Known.{facts, holding}
 use Rattle.elaborate.specs.Rows.{Condition, compared_local, condition_of, condition_row, null_test, operand_of, test_of_null}
 use Rattle.elaborate.proofs.Given.{Setting, Laws, around}
 use Rattle.elaborate.proofs.Chains.{sub_itself}
-use Rattle.elaborate.proofs.Standing.{AreValues, IsValueSlot, Standing, found_of}
+use Rattle.elaborate.proofs.Standing.{AreValues, IsValueSlot, Standing, found_of, own_typed}
 use Rattle.elaborate.proofs.Tells.{Tells, facts_tell}
 use Rattle.elaborate.proofs.Claims.{Does, does_nothing}
 use Rattle.elaborate.proofs.Points.{known_local, others_stay, unshared}
@@ -229,7 +229,7 @@ module _ (c : Setting) (laws : Laws c) (names : Names) where
           ap (λ (k : FlowModel). facts_of k null.var) null.when_true ∙ laws.changed m null.var (non_null_facts c.rows.table) (λ l. refl) ∙ ap (option_map (non_null_facts c.rows.table)) null.found in
           let others : (other : LocalId) → other.0 ≢ null.var.0 → facts_of e.when_true other ≡ facts_of e.after other = λ other apart.
           ap (λ (k : FlowModel). facts_of k other) null.when_true ∙ laws.unchanged m null.var (non_null_facts c.rows.table) (λ l. refl) other apart ∙ sym (ap (λ (k : FlowModel). facts_of k other) null.after) in
-          let is_slot_type : slot_type c.g (facts c.x e.after no_values) slot ≡ current_of null.l = ap (λ (k : Known). held_type (declared_at c.g slot.0) k.held) known in
+          let is_slot_type : slot_type c.g (facts c.x e.after no_values) slot ≡ current_of null.l = ap (λ (k : Known). held_type (declared_at c.g slot.0) k.held) known ∙ own_typed (declared_at c.g slot.0) null.l local.slot.typed in
           record {
             does = subst (λ (k : FlowModel). Does c nothing (facts c.x m no_values) (facts c.x k no_values)) (sym null.after) (does_nothing c laws (facts c.x m no_values));
             inside = subst (IsTestOf c.g) (sym null.test_is) local.slot.inside;
@@ -250,7 +250,10 @@ module _ (c : Setting) (laws : Laws c) (names : Names) where
                 (record {
                   assigned = λ h. refl;
                   narrower = subst (λ (u : Ty). IsTrue (sub c.rows.table (without_null c.rows.table (slot_type c.g (facts c.x e.after no_values) slot)) u))
-                      (ap (without_null c.rows.table) is_slot_type ∙ narrowed_current c laws null.l local.plain.own)
+                      (ap (without_null c.rows.table) is_slot_type
+                      ∙ narrowed_current c laws null.l local.plain.own
+                      ∙ sym
+                      (own_typed (declared_at c.g slot.0) (non_null_facts c.rows.table null.l) (found_of c e.when_true null.var (non_null_facts c.rows.table null.l) stands_true narrowed).slot.typed))
                       (sub_itself c laws (without_null c.rows.table (slot_type c.g (facts c.x e.after no_values) slot)));
                   shared = λ h. absurd cc;
                 }))

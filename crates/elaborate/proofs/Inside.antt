@@ -1,5 +1,5 @@
 -- The facts of points are of slots that the function has.
-use Rattle.std.proofs.Common.{◌≡◌, ℕ, ◌-◌, ◌<◌, Bool, true, false, cond, nat_eq, nat_lt, fold, map, List, [], ◌∷◌, ◌++◌}
+use Rattle.std.proofs.Common.{◌≡◌, ℕ, ◌-◌, ◌<◌, Bool, true, false, cond, nat_eq, nat_lt, filter, fold, map, List, [], ◌∷◌, ◌++◌}
 use Rattle.std.specs.Prelude.{All}
 use Rattle.std.proofs.lemmas.List.Elements.{All-head, All-tail, All-cons, All-nil}
 use Rattle.dart_types.specs.Ty.{Ty}
@@ -11,7 +11,7 @@ use Rattle.core_ir.specs.declared.facts.SlotFact.{SlotFact}
 use Rattle.core_ir.specs.declared.points.SlotId.{SlotId}
 use Rattle.core_check.specs.WellFormed.{IsSlot}
 use Rattle.core_emit.specs.Emitted.{AreFactsOf}
-use Rattle.elaborate.specs.Known.{fact_of_local, fact_of_value, facts}
+use Rattle.elaborate.specs.Known.{fact_of_local, fact_of_value, facts, facts_of_locals, says_something}
 use Rattle.elaborate.proofs.Given.{Setting}
 use Rattle.elaborate.proofs.Standing.{AreValues, HasSlots, IsSlotOf, IsValueSlot, Standing}
 
@@ -34,12 +34,15 @@ module _ (c : Setting) where
   abbrev IsInside : SlotFact → Type 0
   IsInside fact = IsSlot c.g fact.slot
 
-  locals_inside : (locals : List Facts) → HasSlots c (map (λ l. (l.var, l.ty)) locals) → All IsInside (map (fact_of_local c.x) locals)
+  locals_inside : (locals : List Facts) → HasSlots c (map (λ l. (l.var, l.ty)) locals) → All IsInside (facts_of_locals c.x locals)
   locals_inside [] slots = All-nil IsInside
   locals_inside (l ∷ locals) slots =
-      All-cons IsInside (fact_of_local c.x l) (map (fact_of_local c.x) locals)
-      (All-head (λ (local : LocalId × Ty). IsSlotOf c local.0.0 local.1) (l.var, l.ty) (map (λ k. (k.var, k.ty)) locals) slots).inside
+      at (says_something l) (All-head (λ (local : LocalId × Ty). IsSlotOf c local.0.0 local.1) (l.var, l.ty) (map (λ k. (k.var, k.ty)) locals) slots).inside
       (locals_inside locals (All-tail (λ (local : LocalId × Ty). IsSlotOf c local.0.0 local.1) (l.var, l.ty) (map (λ k. (k.var, k.ty)) locals) slots))
+    where
+      at : (says : Bool) → IsInside (fact_of_local c.x l) → All IsInside (facts_of_locals c.x locals) → All IsInside (map (fact_of_local c.x) (cond says (l ∷ filter says_something locals) (filter says_something locals)))
+      at true here rest = All-cons IsInside (fact_of_local c.x l) (facts_of_locals c.x locals) here rest
+      at false here rest = rest
 
   values_inside : (values : List SlotId) → AreValues c values → All IsInside (map fact_of_value values)
   values_inside [] are = All-nil IsInside
@@ -51,6 +54,6 @@ module _ (c : Setting) where
   -- all slots of which something is known are the function's
   pub facts_inside : (m : FlowModel) (values : List SlotId) → Standing c m → AreValues c values → AreFactsOf c.g (facts c.x m values)
   facts_inside m values stands are =
-      puts_keep IsInside (fold put [] (map (fact_of_local c.x) m.locals)) (map fact_of_value values)
-      (puts_keep IsInside [] (map (fact_of_local c.x) m.locals) (All-nil IsInside) (locals_inside m.locals stands.slots))
+      puts_keep IsInside (fold put [] (facts_of_locals c.x m.locals)) (map fact_of_value values)
+      (puts_keep IsInside [] (facts_of_locals c.x m.locals) (All-nil IsInside) (locals_inside m.locals stands.slots))
       (values_inside values are)

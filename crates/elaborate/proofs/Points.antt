@@ -20,11 +20,11 @@ use Rattle.core_ir.specs.declared.points.SlotId.{SlotId}
 use Rattle.core_check.specs.Accepted.{SlotImplies}
 use Rattle.core_check.specs.Known.{known_of, is_shared, held_type, unlisted}
 use Rattle.elaborate.specs.Sources.{slot_of_local}
-use Rattle.elaborate.specs.Known.{facts}
+use Rattle.elaborate.specs.Known.{own_held, facts}
 use Rattle.elaborate.proofs.Given.{Setting, Laws}
 use Rattle.elaborate.proofs.SlotFacts.{holds, holds-more, value_known, slot_known, local_at}
 use Rattle.elaborate.proofs.Chains.{last_among}
-use Rattle.elaborate.proofs.Standing.{AreValues, IsSlotOf, IsValueSlot, Standing, found_of, known_here, known_plain, value_slot}
+use Rattle.elaborate.proofs.Standing.{AreValues, IsSlotOf, IsValueSlot, Standing, found_of, known_here, known_plain, own_typed, own_unshared, value_slot}
 use Rattle.elaborate.proofs.Tells.{facts_tell, implies_itself}
 use Rattle.elaborate.proofs.Leaves.{Given, Has, IsUnshared}
 
@@ -67,7 +67,7 @@ module _ (c : Setting) (laws : Laws c) (m : FlowModel) (stands : Standing c m) (
       at : (held : Bool) (found : Option Facts) → facts_of m (local_at c.x i) ≡ found → is_shared (slot_known found held).held ≡ false
       at true found is = refl
       at false None is = refl
-      at false (Some l) is = ap (λ (k : Known). is_shared k.held) (known_plain l (found_of c m (local_at c.x i) l stands is).plain)
+      at false (Some l) is = ap (λ (k : Known). is_shared k.held) (known_plain l (found_of c m (local_at c.x i) l stands is).plain) ∙ own_unshared l
 
   -- a value that is held is one of its slot's type
   pub has_value : (slot : SlotId) (ty : Ty) → holds values slot.0 ≡ true → declared_at c.g slot.0 ≡ ty → Has c (facts c.x m values) (Slot slot) ty
@@ -91,7 +91,7 @@ module _ (c : Setting) (laws : Laws c) (m : FlowModel) (stands : Standing c m) (
       at false is = refl
 
   -- what is known of a local's slot is what is known of the local
-  pub known_local : (var : LocalId) (l : Facts) → facts_of m var ≡ Some l → known_of (facts c.x m values) (slot_of_local c.x var).0 ≡ record { assigned = l.assigned; held = Own (current_of l) }
+  pub known_local : (var : LocalId) (l : Facts) → facts_of m var ≡ Some l → known_of (facts c.x m values) (slot_of_local c.x var).0 ≡ record { assigned = l.assigned; held = own_held l }
   known_local var l is =
       let found = found_of c m var l stands is in
       let from = found.slot.from in
@@ -106,7 +106,7 @@ module _ (c : Setting) (laws : Laws c) (m : FlowModel) (stands : Standing c m) (
   pub has_local : (var : LocalId) (l : Facts) → facts_of m var ≡ Some l → l.assigned ≡ true → Has c (facts c.x m values) (Slot (slot_of_local c.x var)) (current_of l)
   has_local var l is assigned = record {
     assigned = ap (λ (k : Known). k.assigned) (known_local var l is) ∙ assigned;
-    typed = ap (λ (k : Known). held_type (declared_at c.g (slot_of_local c.x var).0) k.held) (known_local var l is);
+    typed = ap (λ (k : Known). held_type (declared_at c.g (slot_of_local c.x var).0) k.held) (known_local var l is) ∙ own_typed (declared_at c.g (slot_of_local c.x var).0) l (found_of c m var l stands is).slot.typed;
   }
 
 -- a value is put into a slot of an expression, where it is held
@@ -153,7 +153,11 @@ module _ (c : Setting) (laws : Laws c) (m m' : FlowModel) (stands : Standing c m
         record {
           fits = subst (λ t. IsTrue (sub c.rows.table ty t)) (sym found.slot.typed) fits;
           here = subst (λ (k : Known). SlotImplies c.rows.table (declared_at c.g (slot_of_local c.x var).0) (record { assigned = true; held = Own ty }) k) (sym (known_local c laws m' stands' values' are' var l is))
-              (record { assigned = λ h. refl; narrower = narrow; shared = λ h. absurd cc });
+              (record {
+                assigned = λ h. refl;
+                narrower = subst (λ t. IsTrue (sub c.rows.table ty t)) (sym (own_typed (declared_at c.g (slot_of_local c.x var).0) l found.slot.typed)) narrow;
+                shared = λ h. absurd cc;
+              });
           others = others_stay;
         }
 
@@ -161,7 +165,8 @@ module _ (c : Setting) (laws : Laws c) (m m' : FlowModel) (stands : Standing c m
     pub leaves_unset : l.assigned ≡ false → current_of l ≡ l.ty → SlotImplies c.rows.table (declared_at c.g (slot_of_local c.x var).0) unlisted (known_of (facts c.x m' values') (slot_of_local c.x var).0)
     leaves_unset unset whole =
         let found = found_of c m' var l stands' is in
-        let typed : declared_at c.g (slot_of_local c.x var).0 ≡ current_of l = found.slot.typed ∙ sym whole in
+        let typed : declared_at c.g (slot_of_local c.x var).0 ≡ held_type (declared_at c.g (slot_of_local c.x var).0) (own_held l) =
+        found.slot.typed ∙ sym whole ∙ sym (own_typed (declared_at c.g (slot_of_local c.x var).0) l found.slot.typed) in
         subst (λ (k : Known). SlotImplies c.rows.table (declared_at c.g (slot_of_local c.x var).0) unlisted k) (sym (known_local c laws m' stands' values' are' var l is))
         (record { assigned = λ h. absurd cc; narrower = subst (λ t. IsTrue (sub c.rows.table (declared_at c.g (slot_of_local c.x var).0) t)) typed ((implies_itself c laws (declared_at c.g (slot_of_local c.x var).0) unlisted).narrower); shared = λ h. absurd cc })
 

@@ -6,7 +6,7 @@ use Rattle.std.proofs.lemmas.Bool.{or_cases}
 use Rattle.std.proofs.lemmas.Bool.Decides.{nat_tests}
 use Rattle.std.proofs.lemmas.List.Elements.{All-head, All-tail, All-cons, All-nil}
 use Rattle.dart_types.specs.Ty.{Ty}
-use Rattle.flow_model.specs.Flow.{FlowModel, is_of, facts_of, current_of}
+use Rattle.flow_model.specs.Flow.{FlowModel, is_of, facts_of, current_of, last_or}
 use Rattle.flow_model.specs.Join.{HaveSameScope, scope_of}
 use Rattle.flow_model.specs.Chains.{HasDescendingChain}
 use Rattle.flow_model.specs.declared.locals.Facts.{Facts}
@@ -15,12 +15,11 @@ use Rattle.judgement.specs.NodeFacts.{NodeFacts}
 use Rattle.rule_laws.specs.Keys.{declared_number}
 use Rattle.rule_laws.specs.Plain.{IsPlain, IsPlainLocal}
 use Rattle.core_ir.specs.Values.{declared_at}
-use Rattle.core_ir.specs.declared.facts.Held.TheVariants.{Own}
+use Rattle.core_ir.specs.declared.facts.Held.TheVariants.{Declared, Own, Shared}
 use Rattle.core_ir.specs.declared.facts.Known.{Known}
 use Rattle.core_ir.specs.declared.points.SlotId.{SlotId}
-use Rattle.core_check.specs.Known.{known_of}
-use Rattle.core_check.specs.Types.{held_as}
-use Rattle.elaborate.specs.Known.{known_of_local, facts}
+use Rattle.core_check.specs.Known.{known_of, held_type, is_shared}
+use Rattle.elaborate.specs.Known.{is_promoted, known_of_local, own_held, facts}
 use Rattle.elaborate.proofs.Given.{Setting, Laws}
 use Rattle.elaborate.proofs.SlotFacts.{holds, slot_known, local_at, AreFrom, known_at}
 
@@ -109,8 +108,24 @@ pub same_slots : (c : Setting) (a m : FlowModel) → HaveSameScope a m → HasSl
 same_slots c a m same slots = subst (HasSlots c) (sym same) slots
 
 -- what is known of a plain local
-pub known_plain : (l : Facts) → IsPlainLocal l → known_of_local l ≡ record { assigned = l.assigned; held = Own (current_of l) }
-known_plain l plain = ap (λ b. let k : Known = record { assigned = l.assigned; held = held_as b (current_of l) } in k) plain.own
+pub known_plain : (l : Facts) → IsPlainLocal l → known_of_local l ≡ record { assigned = l.assigned; held = own_held l }
+known_plain l plain = ap (λ b. let k : Known = record { assigned = l.assigned; held = cond b Shared (own_held l) } in k) plain.own
+
+-- its value has its current type, where its slot has its declared one
+pub own_typed : (declared : Ty) (l : Facts) → declared ≡ l.ty → held_type declared (own_held l) ≡ current_of l
+own_typed declared l typed = ap (λ t. held_type t (own_held l)) typed ∙ at l.ty l.chain
+  where
+    at : (t : Ty) (chain : List Ty) → held_type t (cond (is_promoted chain) (Own (last_or t chain)) Declared) ≡ last_or t chain
+    at t [] = refl
+    at t (u ∷ us) = refl
+
+-- and it isn't shared
+pub own_unshared : (l : Facts) → is_shared (own_held l) ≡ false
+own_unshared l = at (current_of l) l.chain
+  where
+    at : (t : Ty) (chain : List Ty) → is_shared (cond (is_promoted chain) (Own t) Declared) ≡ false
+    at t [] = refl
+    at t (u ∷ us) = refl
 
 module _ (c : Setting) (laws : Laws c) (m : FlowModel) (stands : Standing c m) where
   -- what is known of a slot

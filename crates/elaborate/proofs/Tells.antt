@@ -1,22 +1,22 @@
 -- Which facts of a point tell at least as much as which.
 use Rattle.std.proofs.Common.{◌≡◌, ◌≢◌, ℕ, ◌+◌, ◌-◌, ◌<◌, Bool, true, false, List, [], ◌∷◌, ◌++◌, length, Option, Some, None, refl, sym, ◌∙◌, subst, arith, IsTrue}
 use Rattle.dart_types.specs.Ty.{Ty}
+use Rattle.dart_types.specs.SubTest.{sub}
 use Rattle.flow_model.specs.Flow.{FlowModel, facts_of, current_of}
 use Rattle.flow_model.specs.Order.{Implies, SaysMore}
 use Rattle.flow_model.specs.declared.locals.Facts.{Facts}
 use Rattle.flow_model.specs.declared.locals.LocalId.{LocalId}
 use Rattle.core_ir.specs.PointFacts.{PointFacts}
 use Rattle.core_ir.specs.Values.{declared_at}
-use Rattle.core_ir.specs.declared.facts.Held.TheVariants.{Own}
 use Rattle.core_ir.specs.declared.facts.Known.{Known}
 use Rattle.core_ir.specs.declared.points.SlotId.{SlotId}
 use Rattle.core_check.specs.Known.{known_of, unlisted, held_type}
 use Rattle.core_check.specs.Accepted.{SlotImplies}
-use Rattle.elaborate.specs.Known.{known_of_local, facts}
+use Rattle.elaborate.specs.Known.{known_of_local, own_held, facts}
 use Rattle.elaborate.proofs.Given.{Setting, Laws}
 use Rattle.elaborate.proofs.SlotFacts.{holds, value_known, slot_known, local_at}
 use Rattle.elaborate.proofs.Chains.{sub_itself, sub_through, narrower, last_below}
-use Rattle.elaborate.proofs.Standing.{AreValues, Standing, found_of, known_here, known_plain, none_of_value, value_slot}
+use Rattle.elaborate.proofs.Standing.{AreValues, Standing, found_of, known_here, known_plain, none_of_value, own_typed, own_unshared, value_slot}
 
 -- the first facts tell at least as much as the second: the second may be reached where the first may, and of each slot more is known
 pub record Tells (c : Setting) (f f' : PointFacts) : Type 0 where
@@ -54,20 +54,30 @@ module _ (c : Setting) (laws : Laws c) where
     slot_implies_unlisted i (Some l) is false =
         let found = found_of c a (local_at c.x i) l stands is in
         let typed : declared_at c.g i ≡ l.ty = subst (λ (n : ℕ). declared_at c.g n ≡ l.ty) (omega arith) found.slot.typed in
+        let below : IsTrue (sub c.rows.table (current_of l) l.ty) = laws.types.sub_complete (current_of l) l.ty (last_below c laws l.ty l.chain found.descends) in
         subst (λ (k : Known). SlotImplies c.rows.table (declared_at c.g i) k unlisted) (sym (known_plain l found.plain))
-        (subst (λ (t : Ty). SlotImplies c.rows.table t (let k : Known = record { assigned = l.assigned; held = Own (current_of l) } in k) unlisted) (sym typed)
-        (record { assigned = λ h. absurd cc; narrower = laws.types.sub_complete (current_of l) l.ty (last_below c laws l.ty l.chain found.descends); shared = λ h. absurd cc }))
+        (record {
+          assigned = λ h. absurd cc;
+          narrower = subst (λ (t : Ty). IsTrue (sub c.rows.table t (declared_at c.g i))) (sym (own_typed (declared_at c.g i) l typed)) (subst (λ (t : Ty). IsTrue (sub c.rows.table (current_of l) t)) (sym typed) below);
+          shared = λ h. absurd (let quiet = own_unshared l in cc);
+        })
 
   -- a local of which more is said
   local_implies : (a : FlowModel) → Standing c a → (declared : Ty) (var : LocalId) (l m : Facts) → facts_of a var ≡ Some l → SaysMore l m
-      → ((k : Facts) → facts_of a var ≡ Some k → known_of_local k ≡ record { assigned = k.assigned; held = Own (current_of k) })
-      → known_of_local m ≡ record { assigned = m.assigned; held = Own (current_of m) }
+      → declared ≡ m.ty
+      → known_of_local m ≡ record { assigned = m.assigned; held = own_held m }
       → SlotImplies c.rows.table declared (known_of_local l) (known_of_local m)
-  local_implies a stands declared var l m is more plain known =
+  local_implies a stands declared var l m is more typed known =
       let found = found_of c a var l stands is in
+      let below : IsTrue (sub c.rows.table (current_of l) (current_of m)) = laws.types.sub_complete (current_of l) (current_of m) (narrower c laws l m found.descends more) in
       subst (λ (k : Known). SlotImplies c.rows.table declared k (known_of_local m)) (sym (known_plain l found.plain))
-      (subst (λ (k : Known). SlotImplies c.rows.table declared (let j : Known = record { assigned = l.assigned; held = Own (current_of l) } in j) k) (sym known)
-      (record { assigned = more.assigned; narrower = laws.types.sub_complete (current_of l) (current_of m) (narrower c laws l m found.descends more); shared = λ h. absurd cc }))
+      (subst (λ (k : Known). SlotImplies c.rows.table declared (let j : Known = record { assigned = l.assigned; held = own_held l } in j) k) (sym known)
+      (record {
+        assigned = more.assigned;
+        narrower = subst (λ (t : Ty). IsTrue (sub c.rows.table t (held_type declared (own_held m)))) (sym (own_typed declared l (typed ∙ sym more.declared)))
+            (subst (λ (t : Ty). IsTrue (sub c.rows.table (current_of l) t)) (sym (own_typed declared m typed)) below);
+        shared = λ h. absurd (let quiet = own_unshared l in cc);
+      }))
 
   module _ (a b : FlowModel) (from : Standing c a) (to : Standing c b) (implies : Implies a b) (reached : IsTrue a.reachable) where
     -- of a slot that no expression has
@@ -79,7 +89,7 @@ module _ (c : Setting) (laws : Laws c) where
         let found = found_of c b (local_at c.x i) m to is in
         subst (λ (o : Option Facts). SlotImplies c.rows.table (declared_at c.g i) (slot_known o false) (known_of_local m)) (sym knows.known)
         (local_implies a from (declared_at c.g i) (local_at c.x i) knows.facts m knows.known knows.says_more
-        (λ k at. known_plain k (found_of c a (local_at c.x i) k from at).plain)
+        (subst (λ (n : ℕ). declared_at c.g n ≡ m.ty) (omega arith) found.slot.typed)
         (known_plain m found.plain))
 
     -- of a slot, where fewer values are held after than before

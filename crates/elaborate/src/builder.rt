@@ -1,11 +1,10 @@
 //! The points of a program that is being laid out, from its end to its start.
 
-ghost use Rattle.std.specs.Prelude.{◌≡◌, ◌+◌, ◌<◌, ◌^◌, [], true, IfOk, IsTrue, OnOk, fold, length, map};
-ghost use Rattle.core_check.specs.Types.{held_as};
+ghost use Rattle.std.specs.Prelude.{◌≡◌, ◌+◌, ◌<◌, ◌^◌, [], true, IfOk, IsTrue, OnOk, fold, if◌then◌else◌, length, map};
 ghost use Rattle.core_emit.specs.Code.{Step, step_to};
 ghost use Rattle.core_emit.specs.Emitted.{with_point, with_term};
 ghost use Rattle.core_ir.specs.PointFacts.{put};
-ghost use Rattle.core_ir.specs.declared.facts.Held.TheVariants.{Declared};
+ghost use Rattle.core_ir.specs.declared.facts.Held.TheVariants.{Declared, Shared};
 ghost use Rattle.elaborate.specs.Elaborated.{main_function};
 ghost use Rattle.elaborate.specs.Known as known;
 ghost use Rattle.elaborate.specs.Laid.{IsLaid, made};
@@ -13,20 +12,21 @@ ghost use Rattle.elaborate.specs.Rows.{site_of, step_at};
 
 use crate::said::Said;
 use core_ir::{
-    Facts, FunctionId, Held, Known, Pages, Point, PointId, SharedFact, SlotFact, SlotId, Span, Term,
+    Facts, FunctionId, Held, Known, Pages, Point, PointId, SharedFact, SlotFact, SlotId, Span,
+    Term, put_lists_in_order,
 };
 use dart_tree::Place;
-use dart_types::DartType;
-use flow_model::Flow;
+use flow_model::{Facts as LocalFacts, Flow};
 use std::alloc::{AllocError, Global};
 
-/// The points that were laid, and what was last known of each slot and of many in a row, which points at
-/// which the same is known share.
+/// The points that were laid, and what was last known of the locals, of each slot and of many in a row,
+/// which points at which the same is known share.
 #[derive(Drop)]
 pub(crate) struct Builder {
     alloc: Global,
     shared: Vec<Option<SharedFact>>,
     pages: Pages,
+    last: Option<Facts>,
     /// The points.
     pub(crate) points: Vec<Point>,
 }
@@ -44,6 +44,7 @@ impl Builder {
             alloc,
             shared,
             pages: Pages::new(alloc),
+            last: None,
             points: Vec::new(alloc),
         })
     }
@@ -109,23 +110,40 @@ impl Builder {
         ensures facts { IfOk result (λ facts. facts ≡ known.facts said.now flow.now values.now) }
         ensures points { OnOk result (self.new.points.items ≡ self.old.points.items) }
     {
-        let mut facts = Facts::new(self.alloc, flow.reachable());
-        self.put_locals(said, flow, &mut facts)?;
+        let mut facts = self.facts_of_locals(said, flow)?;
         self.put_values(values, &mut facts)?;
+        Ok(facts)
+    }
+
+    // What is known at a point, where this is known of the locals and no value is held. Where the same was
+    // known of the locals at the point before, it is shared.
+    fn facts_of_locals(&mut self, said: &Said, flow: &Flow) -> Result<Facts, AllocError>
+        ensures facts { IfOk result (λ facts. facts ≡ known.facts said.now flow.now []) }
+        ensures points { OnOk result (self.new.points.items ≡ self.old.points.items) }
+    {
+        if let Some(last) = &self.last {
+            if lists_locals(said, flow, last) {
+                return last.share(flow.reachable());
+            }
+        }
+        let mut facts = Facts::new(self.alloc, flow.reachable())?;
+        self.put_locals(said, flow, &mut facts)?;
+        facts.settle(&mut self.pages)?;
+        self.last = Some(facts.share(true)?);
         Ok(facts)
     }
 
     // Puts what is known of the slots of locals.
     fn put_locals(&mut self, said: &Said, flow: &Flow, facts: &mut Facts) -> Result<(), AllocError>
-        ensures facts { OnOk result (facts.new ≡ record facts.old { listed = fold put facts.old.listed (map (known.fact_of_local said.now) flow.now.locals) }) }
+        ensures facts { OnOk result (facts.new ≡ record facts.old { listed = fold put facts.old.listed (known.facts_of_locals said.now flow.now.locals) }) }
         ensures points { OnOk result (self.new.points.items ≡ self.old.points.items) }
     {
-        for local in flow.locals() {
-            let local = local.facts();
-            let slot = said.slot_of_local(local.var);
-            let fact = self.local_fact(slot, local.assigned, local.captured, local.current())?;
-            facts.put(fact)?;
-            facts.settle(&mut self.pages)?;
+        for place in 0..flow.len() {
+            let local = flow.local(place).facts();
+            if says_something(local) {
+                let fact = self.local_fact(said.slot_of_local(local.var), local)?;
+                facts.put(fact)?;
+            }
         }
         Ok(())
     }
@@ -142,28 +160,24 @@ impl Builder {
         Ok(())
     }
 
-    // What is known of the slot of a local that has this type.
-    fn local_fact(
-        &mut self,
-        slot: SlotId,
-        assigned: bool,
-        captured: bool,
-        ty: &DartType,
-    ) -> Result<SharedFact, AllocError>
-        ensures fact { IfOk result (λ fact. fact ≡ record { slot = slot; known = record { assigned = assigned; held = held_as captured ty.now } }) }
+    // What is known of the slot of a local.
+    fn local_fact(&mut self, slot: SlotId, local: &LocalFacts) -> Result<SharedFact, AllocError>
+        ensures fact { IfOk result (λ fact. fact ≡ record { slot = slot; known = known.known_of_local local.now }) }
         ensures points { OnOk result (self.new.points.items ≡ self.old.points.items) }
     {
-        if let Some(last) = self.last(slot) {
-            if last.fact().slot == slot && is_of_local(&last.fact().known, assigned, captured, ty) {
+        if let Some(last) = self.last_fact(slot) {
+            if is_of_local(last.fact(), slot, local) {
                 return last.share();
             }
         }
-        let held = if captured {
-            Held::Shared
-        } else {
-            Held::Own(ty.copy(self.alloc)?)
-        };
-        self.share(slot, Known { assigned, held })
+        let held = held_of(self.alloc, local)?;
+        self.share(
+            slot,
+            Known {
+                assigned: local.assigned,
+                held,
+            },
+        )
     }
 
     // What is known of the slot of a value that is held.
@@ -171,7 +185,7 @@ impl Builder {
         ensures fact { IfOk result (λ fact. fact ≡ known.fact_of_value slot) }
         ensures points { OnOk result (self.new.points.items ≡ self.old.points.items) }
     {
-        if let Some(last) = self.last(slot) {
+        if let Some(last) = self.last_fact(slot) {
             if last.fact().slot == slot && is_of_value(&last.fact().known) {
                 return last.share();
             }
@@ -187,7 +201,7 @@ impl Builder {
     }
 
     // What was last known of a slot.
-    fn last(&self, slot: SlotId) -> Option<&SharedFact> {
+    fn last_fact(&self, slot: SlotId) -> Option<&SharedFact> {
         match self.shared.get(slot.0 as usize) {
             Some(Some(last)) => Some(last),
             Some(None) => None,
@@ -219,18 +233,67 @@ pub(crate) fn site_of(at: Place) -> Option<Span>
     })
 }
 
-// Whether this is known of a slot as of that of a local with this type.
-fn is_of_local(known: &Known, assigned: bool, captured: bool, ty: &DartType) -> bool
-    ensures { IsTrue result → known.now ≡ record { assigned = assigned; held = held_as captured ty.now } }
+// Whether a local is promoted to some type.
+fn is_promoted(local: &LocalFacts) -> bool
+    ensures { result ≡ known.is_promoted local.now.chain }
 {
-    if known.assigned != assigned {
+    !local.chain.as_slice().is_empty()
+}
+
+// Whether anything is known of a local.
+fn says_something(local: &LocalFacts) -> bool
+    ensures { result ≡ known.says_something local.now }
+{
+    local.assigned || is_promoted(local) || local.captured
+}
+
+// What type the value of a local has, and whether its slot is shared.
+fn held_of(alloc: Global, local: &LocalFacts) -> Result<Held, AllocError>
+    ensures { IfOk result (λ held. held ≡ (if local.now.captured then Shared else known.own_held local.now)) }
+{
+    if local.captured {
+        return Ok(Held::Shared);
+    }
+    if is_promoted(local) {
+        return Ok(Held::Own(local.current().copy(alloc)?));
+    }
+    Ok(Held::Declared)
+}
+
+// Whether this is known of the slot with a number, as of that of a local.
+fn is_of_local(fact: &SlotFact, slot: SlotId, local: &LocalFacts) -> bool
+    ensures { IsTrue result → fact.now ≡ record { slot = slot; known = known.known_of_local local.now } }
+{
+    if fact.slot != slot || fact.known.assigned != local.assigned {
         return false;
     }
-    match &known.held {
-        Held::Declared => false,
-        Held::Shared => captured,
-        Held::Own(own) => !captured && own.is_same(ty),
+    match &fact.known.held {
+        Held::Shared => local.captured,
+        Held::Declared => !local.captured && !is_promoted(local),
+        Held::Own(own) => !local.captured && is_promoted(local) && own.is_same(local.current()),
     }
+}
+
+// Whether facts list what is known of the locals, and nothing else.
+fn lists_locals(said: &Said, flow: &Flow, facts: &Facts) -> bool
+    ensures { IsTrue result → facts.now.listed ≡ fold put [] (known.facts_of_locals said.now flow.now.locals) }
+{
+    facts.are_in_order();
+    put_lists_in_order();
+    let mut count = 0;
+    for place in 0..flow.len() {
+        let local = flow.local(place).facts();
+        if says_something(local) {
+            if count >= facts.len() {
+                return false;
+            }
+            if !is_of_local(facts.at(count), said.slot_of_local(local.var), local) {
+                return false;
+            }
+            count += 1;
+        }
+    }
+    count == facts.len()
 }
 
 // Whether this is known of a slot as of that of a value that is held.

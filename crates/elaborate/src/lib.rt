@@ -40,8 +40,8 @@ use std::alloc::{AllocError, Global};
 use tree_numbers::numbering_laws;
 
 /// The core program of the function `main` of a library in whose text nothing is wrong. It takes time
-/// and memory linear in the points times the locals in scope; points at which the same is known of a
-/// slot share that. The error is want of memory.
+/// linear in the points times the locals in scope, and shares what is known of locals between the points
+/// at which it is the same. The error is want of memory.
 pub fn elaborate(alloc: Global, checked: &Checked, body: &Body) -> Result<CoreProgram, AllocError>
     requires faultless { IsFaultless checked.now }
     requires body { option_map (λ main. main.1) (main_of_checked checked.now) ≡ Some body.now }

@@ -20,9 +20,10 @@ use plain_text::PlainText;
 use std::alloc::{AllocError, Global};
 
 /// The core program of a block, in a library with these classes, from what the rules said of its nodes. It
-/// has no more than two points for each node and two more. A point costs a pointer for each page of the
-/// locals in scope there, and one for each local and value behind the last page; each node costs a look at
-/// what was said of it. The error is want of memory.
+/// has no more than two points for each node and two more. A point at which the same is known of the locals
+/// as at the one laid before it costs some pointers; another a pointer for each page of locals of which
+/// something is known, and the pages of which something else is known than before. Each node costs a look
+/// at what was said of it. The error is want of memory.
 pub(crate) fn build_program(
     alloc: Global,
     rows: Rows,
@@ -66,6 +67,6 @@ fn lay_body(
     let facts = build.facts(said, said.known_behind(at), &[])?;
     let end = build.lay(None, facts, Term::End)?;
     let begin = lay_statements(said, build, statements, end)?;
-    let none = Facts::new(build.alloc(), true);
+    let none = Facts::new(build.alloc(), true)?;
     build.lay(None, none, Term::Goto { next: begin })
 }

@@ -12,4 +12,5 @@ invariant_of-self-2 c = (
       c.in_ok-push.ensures.items,
   c.self.invariant.1,
   c.self.invariant.2,
+  c.self.invariant.3,
 )

@@ -1,4 +1,4 @@
-use Rattle.std.proofs.Common.{◌≡◌, List, ap, ◌∙◌, arith, subst}
+use Rattle.std.proofs.Common.{◌≡◌, List, [], ap, ◌∙◌, arith, refl, subst}
 use Rattle.core_ir.specs.PointFacts.{PointFacts, AreInOrder, put}
 use Rattle.core_ir.specs.declared.facts.SlotFact.{SlotFact}
 use Rattle.core_ir.proofs.Puts.{put_order}
@@ -10,4 +10,5 @@ invariant_of-self c =
     let order : AreInOrder (put c.args.self.now.listed c.args.fact) =
     put_order c.args.self.now.listed c.args.fact (subst AreInOrder (ap (λ (f : PointFacts). f.listed) c.self.view_is) c.self.invariant.0) in
     let made : c.put_in.new.listed.items ≡ put c.args.self.now.listed c.args.fact = c.in_ok-put_in.ensures ∙ ap (λ (l : List SlotFact). put l c.args.fact) c.in_ok-listed.ensures in
-    rw (c.clear.ensures.items, made) (order, (λ k d lt. absurd (omega arith)), omega arith)
+    let none : c.in_ok-self-inside.field-0.value.items ≡ [] = ap (λ v. v.items) c.in_ok-self-inside.ensures.ok ∙ c.new.ensures.items in
+    rw (none, made) (order, (λ k d lt. absurd (omega arith)), refl, omega arith)

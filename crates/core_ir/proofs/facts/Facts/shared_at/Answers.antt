@@ -1,24 +1,20 @@
-use Rattle.std.proofs.Common.{ap, ◌∙◌, get_or, ◌%◌}
+use Rattle.std.proofs.Common.{◌≡◌, ◌-◌, ◌∙◌, List, ap, get_or, sym, arith}
 use Rattle.core_ir.specs.PointFacts.{PointFacts}
-use Rattle.core_ir.proofs.Paged.{own_place, listed_behind, listed_in_page}
+use Rattle.core_ir.specs.declared.pages.Page.{Page}
+use Rattle.core_ir.proofs.Paged.{listed_in_page}
 use Rattle.core_ir.proofs.facts.Facts.shared_at.Goals as goal
 
--- it lies behind the pages
-pub index-requires-in-None : goal.index-requires-in-None
-index-requires-in-None c =
-    own_place _ (λ page. page.value.items) c.self.inside.pages.items c.self.inside.own.items c.args.self.now.listed c.self.invariant.1
-    (ap (λ (f : PointFacts). f.listed) c.self.view_is) c.deref.result.now c.args.place c.deref.ensures.value c.len.result c.self.inside.own.len
-    (c.len.ensures ∙ c.self.inside.pages.ok.0) c.self.inside.own.ok.0 c.in-None.ensures.lookup.3 c.requires
-
-pub returns-in-None : goal.returns-in-None
-returns-in-None c =
-    listed_behind _ (λ page. page.value.items) c.self.inside.pages.items c.self.inside.own.items c.args.self.now.listed c.self.invariant.1
-    (ap (λ (f : PointFacts). f.listed) c.self.view_is) c.deref.result.now c.args.place c.deref.ensures.value c.index-in-None.result.now c.len.result
-    (c.len.ensures ∙ c.self.inside.pages.ok.0) c.in-None.ensures.lookup.3 c.index-in-None.ensures
-
 -- it lies in a page
-pub returns-in-Some : goal.returns-in-Some
-returns-in-Some c =
-    listed_in_page _ (λ page. page.value.items) c.self.inside.pages.items c.self.inside.own.items c.args.self.now.listed c.self.invariant.1
-    (ap (λ (f : PointFacts). f.listed) c.self.view_is) c.deref.result.now c.args.place c.deref.ensures.value c.index.result.now c.in-Some.page.now
-    c.in-Some.ensures.lookup.3.0 c.in-Some.ensures.lookup.1 (c.index.ensures ∙ ap (λ v. get_or v.items (c.args.place % 32) c.index.result.now) c.deref-in-Some.ensures)
+pub returns-then-place-self : goal.returns-then-place-self
+returns-then-place-self c =
+    let counted = c.self.invariant.1 in
+    let paged = c.self.invariant.2 in
+    let before = c.if-place-self.true in
+    let seen : c.deref-then-place-self-2.result.now ≡ c.self.inside.pages.value.items = c.deref-then-place-self-2.ensures.value ∙ ap (λ v. v.items) c.deref-then-place-self.ensures in
+    let pages : c.deref.result.now.items ≡ c.self.inside.pages.value.items = ap (λ v. v.items) c.deref.ensures in
+    listed_in_page Page (λ p. p.before) (λ p. p.facts.value.items) c.self.inside.pages.value.items c.deref-then-place-self-2.result.now c.self.inside.own.items c.args.self.now.listed c.args.place c.page_of.result c.index-page.result.now c.index.result.now
+    counted (ap (λ (f : PointFacts). f.listed) c.self.view_is) seen (omega arith) c.page_of.ensures.within
+    (c.index-page.ensures ∙ ap (λ (l : List Page). get_or l c.page_of.result c.index-page.result.now) (pages ∙ sym seen))
+    (c.page_of.ensures.begins c.index-page.result.now)
+    (c.page_of.ensures.ends c.index-page.result.now)
+    (c.index.ensures ∙ ap (λ v. get_or v.items (c.args.place - c.index-page.result.now.before) c.index.result.now) c.deref-then-place-self-3.ensures)

@@ -1,11 +1,11 @@
-use Rattle.std.proofs.Common.{◌≡◌, fold, map, take}
+use Rattle.std.proofs.Common.{◌≡◌, fold, take}
 use Rattle.core_ir.specs.PointFacts.{put}
-use Rattle.elaborate.specs.Known.{fact_of_local}
+use Rattle.elaborate.specs.Known.{facts_of_locals}
 use Rattle.elaborate.proofs.builder.Builder.put_locals.Given as goal
 
--- those of the locals before the index have been put, and no point is laid
-abbrev pub invariant-loop-local : goal.invariant-loop-local
-invariant-loop-local l = record {
-  facts : l.facts ≡ record l.initial.facts { listed = fold put l.initial.facts.listed (map (fact_of_local l.said) (take l.local-index l.local-items)) };
+-- those of the locals before the place have been put, and no point is laid
+abbrev pub invariant-loop-place : goal.invariant-loop-place
+invariant-loop-place l = record {
+  facts : l.facts ≡ record l.initial.facts { listed = fold put l.initial.facts.listed (facts_of_locals l.said (take l.place l.flow.locals)) };
   points : l.self.points.items ≡ l.initial.self.points.items;
 }
