@@ -1,5 +1,5 @@
 -- A point has no faults just where no clause fails there.
-use Rattle.std.proofs.Common.{◌≡◌, ℕ, suc, Bool, true, false, nat_eq, List, [], ◌∷◌, if◌then◌else◌, length, arith, refl, IsTrue, ◌↔◌, All, eq-eqb, eqb-true}
+use Rattle.std.proofs.Common.{◌≡◌, ℕ, suc, Bool, true, false, nat_eq, List, [], ◌∷◌, if◌then◌else◌, length, not, refl, IsTrue, IsFalse, ◌↔◌, All, eq-eqb, eqb-true}
 use Rattle.std.specs.Prelude.{flat_map}
 use Rattle.dart_types.specs.Ty.{Ty}
 use Rattle.core_ir.specs.PointFacts.{PointFacts}
@@ -11,8 +11,8 @@ use Rattle.core_check.specs.declared.parts.Asked.{Asked}
 use Rattle.core_check.specs.Known.{point_at, function_of, facts_at, known_of, is_shared, held_type, is_assigned}
 use Rattle.core_check.specs.Shapes.{WayShape, TermShape, shape}
 use Rattle.core_check.specs.Types.{type_from, known_on}
-use Rattle.core_check.specs.Accepted.{SlotImplies, Leads, IsFine, IsEntry, IsFineAt}
-use Rattle.core_check.specs.Faults.{Fault, SlotPart, of_assigned, of_type, of_shared, unless, slot_on, way_faults, reach_faults, next_faults, read_faults, stored_faults, asked_faults, shape_faults, entry_faults, faults_at}
+use Rattle.core_check.specs.Accepted.{SlotImplies, Leads, IsFine, BeginsEmpty, IsEntry, IsFineAt}
+use Rattle.core_check.specs.Faults.{Fault, SlotPart, of_assigned, of_type, of_shared, unless, unless_below, slot_on, way_faults, reach_faults, next_faults, read_faults, stored_faults, asked_faults, shape_faults, entry_fact_faults, entry_faults, faults_at}
 use Rattle.core_check.proofs.NoFaults.{unless_none, below_none, implies_none, both_none, append_none, four_none, none_four, each_none, all_none, all_map, slots_none, none_slots}
 
 module _ (p : Program) (g : Function) (f : PointFacts) where
@@ -74,20 +74,53 @@ module _ (p : Program) (g : Function) (f : PointFacts) where
         leads = leads_all s.ways none.3;
       }
 
--- a list is empty just where it has no items
-no_items : (xs : List SlotFact) → (xs ≡ []) ↔ IsTrue (nat_eq (length xs) 0)
-no_items [] = (λ h. refl, λ h. refl)
-no_items (x ∷ xs) = (λ h. absurd cc, λ h. absurd (let e : suc (length xs) ≡ 0 = eqb-true (suc (length xs)) 0 h in omega arith))
+-- something doesn't hold just where this gives no fault
+unless_not_none : (b : Bool) → IsFalse b ↔ (unless (not b) ≡ [])
+unless_not_none true = (λ h. absurd cc, λ h. absurd cc)
+unless_not_none false = (λ h. refl, λ h. refl)
 
-entry_none : (f : PointFacts) → IsEntry f → entry_faults f ≡ []
-entry_none f entry =
-    append_none (unless f.reachable) (unless (nat_eq (length f.listed) 0)) ((unless_none f.reachable).0 entry.reachable)
-    ((unless_none (nat_eq (length f.listed) 0)).0 ((no_items f.listed).0 entry.nothing_known))
+module _ (p : Program) (g : Function) where
+  -- the declared type of the slot of a fact, and the one that the fact tells
+  abbrev declared_by : SlotFact → Ty
+  declared_by fact = declared_at g fact.slot.0
 
-entry_from_none : (f : PointFacts) → entry_faults f ≡ [] → IsEntry f
-entry_from_none f h =
-    let both = both_none (unless f.reachable) (unless (nat_eq (length f.listed) 0)) h in
-    record { reachable = (unless_none f.reachable).1 both.0; nothing_known = (no_items f.listed).1 ((unless_none (nat_eq (length f.listed) 0)).1 both.1) }
+  abbrev held_by : SlotFact → Ty
+  held_by fact = held_type (declared_by fact) fact.known.held
+
+  -- where a fact says what holds where the function begins, no part of it fails
+  begins_none : (part : SlotPart) (fact : SlotFact) → BeginsEmpty p g fact → entry_fact_faults p g part fact ≡ []
+  begins_none of_assigned fact b = (unless_not_none fact.known.assigned).0 b.unassigned
+  begins_none of_type fact b =
+      append_none (unless_below p.rows.table (held_by fact) (declared_by fact)) (unless_below p.rows.table (declared_by fact) (held_by fact))
+      ((below_none p.rows.table (held_by fact) (declared_by fact)).0 b.below) ((below_none p.rows.table (declared_by fact) (held_by fact)).0 b.above)
+  begins_none of_shared fact b = (unless_not_none (is_shared fact.known.held)).0 b.own
+
+  begins_from_none : (fact : SlotFact) → entry_fact_faults p g of_assigned fact ≡ [] → entry_fact_faults p g of_type fact ≡ [] → entry_fact_faults p g of_shared fact ≡ [] → BeginsEmpty p g fact
+  begins_from_none fact assigned typed shared =
+      let both = both_none (unless_below p.rows.table (held_by fact) (declared_by fact)) (unless_below p.rows.table (declared_by fact) (held_by fact)) typed in
+      record {
+        unassigned = (unless_not_none fact.known.assigned).1 assigned;
+        below = (below_none p.rows.table (held_by fact) (declared_by fact)).1 both.0;
+        above = (below_none p.rows.table (declared_by fact) (held_by fact)).1 both.1;
+        own = (unless_not_none (is_shared fact.known.held)).1 shared;
+      }
+
+  entry_none : (f : PointFacts) → IsEntry p g f → entry_faults p g f ≡ []
+  entry_none f entry =
+      none_four (unless f.reachable) (flat_map (entry_fact_faults p g of_assigned) f.listed) (flat_map (entry_fact_faults p g of_type) f.listed) (flat_map (entry_fact_faults p g of_shared) f.listed)
+      ((unless_none f.reachable).0 entry.reachable)
+      (all_none (entry_fact_faults p g of_assigned) f.listed (all_map f.listed (begins_none of_assigned) entry.begins))
+      (all_none (entry_fact_faults p g of_type) f.listed (all_map f.listed (begins_none of_type) entry.begins))
+      (all_none (entry_fact_faults p g of_shared) f.listed (all_map f.listed (begins_none of_shared) entry.begins))
+
+  entry_from_none : (f : PointFacts) → entry_faults p g f ≡ [] → IsEntry p g f
+  entry_from_none f h =
+      let none = four_none (unless f.reachable) (flat_map (entry_fact_faults p g of_assigned) f.listed) (flat_map (entry_fact_faults p g of_type) f.listed) (flat_map (entry_fact_faults p g of_shared) f.listed) h in
+      record {
+        reachable = (unless_none f.reachable).1 none.0;
+        begins = λ k d lt.
+            begins_from_none _ (each_none (entry_fact_faults p g of_assigned) f.listed none.1 k d lt) (each_none (entry_fact_faults p g of_type) f.listed none.2 k d lt) (each_none (entry_fact_faults p g of_shared) f.listed none.3 k d lt);
+      }
 
 -- a list that stands under a condition
 under_none : (b : Bool) (xs : List Fault) → (IsTrue b → xs ≡ []) ↔ ((if b then xs else []) ≡ [])
@@ -102,26 +135,26 @@ abbrev reached_faults : Program → ℕ → List Fault
 reached_faults p k = if (facts_at p k).reachable then shape_faults p (function_of p k) (facts_at p k) (shape (point_at p k).term) else []
 
 abbrev first_faults : Program → ℕ → List Fault
-first_faults p k = if nat_eq (function_of p k).entry.0 k then entry_faults (facts_at p k) else []
+first_faults p k = if nat_eq (function_of p k).entry.0 k then entry_faults p (function_of p k) (facts_at p k) else []
 
 reached_is : (p : Program) (k : ℕ) → (IsTrue (facts_at p k).reachable → shape_faults p (function_of p k) (facts_at p k) (shape (point_at p k).term) ≡ []) ↔ (reached_faults p k ≡ [])
 reached_is p k = under_none (facts_at p k).reachable (shape_faults p (function_of p k) (facts_at p k) (shape (point_at p k).term))
 
-first_none : (p : Program) (k : ℕ) → (IsTrue (nat_eq (function_of p k).entry.0 k) → entry_faults (facts_at p k) ≡ []) ↔ (first_faults p k ≡ [])
-first_none p k = under_none (nat_eq (function_of p k).entry.0 k) (entry_faults (facts_at p k))
+first_none : (p : Program) (k : ℕ) → (IsTrue (nat_eq (function_of p k).entry.0 k) → entry_faults p (function_of p k) (facts_at p k) ≡ []) ↔ (first_faults p k ≡ [])
+first_none p k = under_none (nat_eq (function_of p k).entry.0 k) (entry_faults p (function_of p k) (facts_at p k))
 
 none_at_fine : (p : Program) (k : ℕ) → IsFineAt p k → faults_at p k ≡ []
 none_at_fine p k fine =
     append_none (reached_faults p k) (first_faults p k)
     ((reached_is p k).0 (λ reached. shape_none p (function_of p k) (facts_at p k) (shape (point_at p k).term) (fine.fine reached)))
-    ((first_none p k).0 (λ first. entry_none (facts_at p k) (fine.entry ((same_number (function_of p k).entry.0 k).1 first))))
+    ((first_none p k).0 (λ first. entry_none p (function_of p k) (facts_at p k) (fine.entry ((same_number (function_of p k).entry.0 k).1 first))))
 
 fine_at_none : (p : Program) (k : ℕ) → faults_at p k ≡ [] → IsFineAt p k
 fine_at_none p k h =
     let both = both_none (reached_faults p k) (first_faults p k) h in
     record {
       fine = λ reached. fine_from_none p (function_of p k) (facts_at p k) (shape (point_at p k).term) ((reached_is p k).1 both.0 reached);
-      entry = λ first. entry_from_none (facts_at p k) ((first_none p k).1 both.1 ((same_number (function_of p k).entry.0 k).0 first));
+      entry = λ first. entry_from_none p (function_of p k) (facts_at p k) ((first_none p k).1 both.1 ((same_number (function_of p k).entry.0 k).0 first));
     }
 
 -- no clause fails at a point just where it has no fault

@@ -24,7 +24,7 @@ listed_behind p g n way well same is_way =
 abbrev pub parts_of : Program → ℕ → Point → Function → List Fault
 parts_of p k point g =
     (if point.facts.reachable then shape_faults p g point.facts (shape point.term) else [])
-    ++ (if nat_eq g.entry.0 k then entry_faults point.facts else [])
+    ++ (if nat_eq g.entry.0 k then entry_faults p g point.facts else [])
 
 pub faults_are : (p : Program) (k : ℕ) (point : Point) (g : Function) → point ≡ point_at p k → g ≡ function_at p point.function.0 → faults_at p k ≡ parts_of p k point g
 faults_are p k point g same of =

@@ -1,5 +1,5 @@
 -- Which programs are accepted: the clauses.
-use Rattle.std.specs.Prelude.{◌≡◌, ℕ, ◌<◌, IsTrue, [], All, length}
+use Rattle.std.specs.Prelude.{◌≡◌, ℕ, ◌<◌, IsTrue, IsFalse, All, length}
 use Rattle.dart_types.specs.Ty.{Ty}
 use Rattle.dart_types.specs.SubTest.{sub}
 use Rattle.dart_types.specs.Tables.{Table}
@@ -7,6 +7,7 @@ use Rattle.core_ir.specs.PointFacts.{PointFacts}
 use Rattle.core_ir.specs.Program.{Function, Program}
 use Rattle.core_ir.specs.Values.{declared_at}
 use Rattle.core_ir.specs.declared.facts.Known.{Known}
+use Rattle.core_ir.specs.declared.facts.SlotFact.{SlotFact}
 use Rattle.core_ir.specs.declared.points.Operand.{Operand}
 use Rattle.core_check.specs.declared.parts.Stored.{Stored}
 use Rattle.core_check.specs.declared.parts.Asked.{Asked}
@@ -44,15 +45,22 @@ pub record IsFine (p : Program) (g : Function) (f : PointFacts) (s : TermShape) 
   pub asked : All (FitsAsked p g f) s.asks
   pub leads : All (Leads p g f) s.ways
 
--- a run may come to an entry, and nothing is known there: no slot has a value, and each has its declared type and isn't shared
-pub record IsEntry (f : PointFacts) : Type 0 where
+-- a fact says what holds where a function begins: its slot has no value, has its declared type, and isn't shared
+pub record BeginsEmpty (p : Program) (g : Function) (fact : SlotFact) : Type 0 where
+  pub unassigned : IsFalse fact.known.assigned
+  pub below : IsTrue (sub p.rows.table (held_type (declared_at g fact.slot.0) fact.known.held) (declared_at g fact.slot.0))
+  pub above : IsTrue (sub p.rows.table (declared_at g fact.slot.0) (held_type (declared_at g fact.slot.0) fact.known.held))
+  pub own : IsFalse (is_shared fact.known.held)
+
+-- a run may come to an entry, and its facts say what holds where the function begins; so does a slot that isn't listed
+pub record IsEntry (p : Program) (g : Function) (f : PointFacts) : Type 0 where
   pub reachable : IsTrue f.reachable
-  pub nothing_known : f.listed ≡ []
+  pub begins : All (BeginsEmpty p g) f.listed
 
 -- no clause fails at the point with the number k: its term is fine if a run may come to it, and the entry of its function is an entry
 pub record IsFineAt (p : Program) (k : ℕ) : Type 0 where
   pub fine : IsTrue (facts_at p k).reachable → IsFine p (function_of p k) (facts_at p k) (shape (point_at p k).term)
-  pub entry : (function_of p k).entry.0 ≡ k → IsEntry (facts_at p k)
+  pub entry : (function_of p k).entry.0 ≡ k → IsEntry p (function_of p k) (facts_at p k)
 
 -- no clause fails at any point
 pub record IsAccepted (p : Program) : Type 0 where

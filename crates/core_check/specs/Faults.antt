@@ -7,6 +7,7 @@ use Rattle.core_ir.specs.PointFacts.{PointFacts}
 use Rattle.core_ir.specs.Program.{Function, Program}
 use Rattle.core_ir.specs.Values.{declared_at}
 use Rattle.core_ir.specs.declared.facts.Known.{Known}
+use Rattle.core_ir.specs.declared.facts.SlotFact.{SlotFact}
 use Rattle.core_ir.specs.declared.points.Operand.{Operand}
 use Rattle.core_check.specs.declared.parts.Stored.{Stored}
 use Rattle.core_check.specs.declared.parts.Asked.{Asked}
@@ -32,16 +33,16 @@ abbrev pub of_slots : ℕ → (ℕ → List Fault) → List Fault
 of_slots zero faults = []
 of_slots (suc n) faults = of_slots n faults ++ faults n
 
--- what the facts of a next point ask of a slot, in this order
+-- what is asked of a slot, in this order
 pub data SlotPart : Type 0 where
-  -- that it is assigned, where they say so
+  -- by a next point, that it is assigned where its facts say so; by an entry, that it isn't
   of_assigned : SlotPart
-  -- that it has a subtype of its type there
+  -- by a next point, that it has a subtype of its type there; by an entry, that it has its declared type
   of_type : SlotPart
-  -- that it is shared there if it was
+  -- by a next point, that it is shared there if it was; by an entry, that it isn't
   of_shared : SlotPart
 
--- what fails of a part, for a slot by its declared type, what is known of it before and after
+-- what fails of a part on a way, for a slot by its declared type, what is known of it before and after
 abbrev pub slot_faults : SlotPart → Table → Ty → (before after : Known) → List Fault
 slot_faults of_assigned table declared before after = unless (not after.assigned || before.assigned)
 slot_faults of_type table declared before after = unless_below table (held_type declared before.held) (held_type declared after.held)
@@ -85,15 +86,30 @@ shape_faults p g f s =
     ++ flat_map (asked_faults p g f) s.asks
     ++ next_faults p g f s.ways
 
--- what fails at an entry
-abbrev pub entry_faults : PointFacts → List Fault
-entry_faults f = unless f.reachable ++ unless (nat_eq (length f.listed) 0)
+-- what fails of a part at an entry, for a slot by its declared type and what is known of it
+abbrev pub entry_slot_faults : SlotPart → Table → Ty → Known → List Fault
+entry_slot_faults of_assigned table declared known = unless (not known.assigned)
+entry_slot_faults of_type table declared known =
+    unless_below table (held_type declared known.held) declared ++ unless_below table declared (held_type declared known.held)
+entry_slot_faults of_shared table declared known = unless (not (is_shared known.held))
+
+-- what fails of a part at an entry, for the slot of a fact
+abbrev pub entry_fact_faults : Program → Function → SlotPart → SlotFact → List Fault
+entry_fact_faults p g part fact = entry_slot_faults part p.rows.table (declared_at g fact.slot.0) fact.known
+
+-- what fails at an entry: that a run may come there, and then part by part, in each part fact by fact
+abbrev pub entry_faults : Program → Function → PointFacts → List Fault
+entry_faults p g f =
+    unless f.reachable
+    ++ flat_map (entry_fact_faults p g of_assigned) f.listed
+    ++ flat_map (entry_fact_faults p g of_type) f.listed
+    ++ flat_map (entry_fact_faults p g of_shared) f.listed
 
 -- what fails at the point with the number k: at its term, if a run may come to it, and then at the entry, if it is that of its function
 abbrev pub faults_at : Program → ℕ → List Fault
 faults_at p k =
     (if (facts_at p k).reachable then shape_faults p (function_of p k) (facts_at p k) (shape (point_at p k).term) else [])
-    ++ (if nat_eq (function_of p k).entry.0 k then entry_faults (facts_at p k) else [])
+    ++ (if nat_eq (function_of p k).entry.0 k then entry_faults p (function_of p k) (facts_at p k) else [])
 
 -- the fault is the first at the point with the number k, and no clause fails at a lesser one
 pub record IsFirstFault (p : Program) (k : ℕ) (fault : Fault) : Type 0 where

@@ -10,6 +10,7 @@
 
 mod acceptance;
 mod context;
+mod entries;
 mod known;
 mod laws;
 mod merge;

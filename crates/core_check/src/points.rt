@@ -11,19 +11,12 @@ ghost use Rattle.core_check.specs.Refusals.{IsCause};
 
 use crate::acceptance::AcceptRefusal;
 use crate::context::{Context, CoreTypes};
-use crate::misses::{Miss, ask};
+use crate::entries::check_entry;
+use crate::misses::Miss;
 use crate::shapes::shape_of;
 use crate::terms::check_shape;
 use core_ir::{CoreFunction, CoreProgram, Facts, FunctionId, Point, PointId, Term};
 use std::alloc::Global;
-
-// Whether the facts are those of an entry.
-fn check_entry(facts: &Facts) -> Result<(), Miss>
-    ensures { Tells result (entry_faults facts.now) }
-{
-    ask(facts.is_reachable())?;
-    ask(facts.len() == 0)
-}
 
 // Whether no clause fails at a term, if a run may come to it.
 fn check_reached(context: Context<'_>, facts: &Facts, term: Term) -> Result<(), Miss>
@@ -43,11 +36,13 @@ fn check_reached(context: Context<'_>, facts: &Facts, term: Term) -> Result<(), 
 
 // Whether the facts are those of an entry, at the entry of the function.
 fn check_first(context: Context<'_>, facts: &Facts, number: usize) -> Result<(), Miss>
-    ensures { Tells result (if nat_eq context.entry.function.now.entry.0 number then entry_faults facts.now else []) }
+    requires { All (λ fact. IsSlot context.function.now fact.slot) facts.now.listed }
+    ensures { let p = context.entry.program.now in let g = context.entry.function.now in
+        Tells result (if nat_eq g.entry.0 number then entry_faults p g facts.now else []) }
 {
     let function = context.function;
     if function.entry.0 as usize == number {
-        return check_entry(facts);
+        return check_entry(context, facts);
     }
     Ok(())
 }
@@ -60,7 +55,7 @@ fn check_parts(context: Context<'_>, point: &Point, number: usize) -> Result<(),
     requires shape_in { IsShape context.program.now context.function.now context.number.0 (shape point.now.term) }
     ensures { let p = context.entry.program.now in let g = context.entry.function.now in
         Tells result ((if point.now.facts.reachable then shape_faults p g point.now.facts (shape point.now.term) else [])
-        ++ (if nat_eq g.entry.0 number then entry_faults point.now.facts else [])) }
+        ++ (if nat_eq g.entry.0 number then entry_faults p g point.now.facts else [])) }
 {
     check_reached(context, &point.facts, point.term)?;
     check_first(context, &point.facts, number)

@@ -32,7 +32,7 @@ has_supertype p laws out v s t h below =
     laws.sub_complete (type_of no_objects v) t (laws.sub_transitive out (type_of no_objects v) s t (laws.sub_sound (type_of no_objects v) s h) (laws.sub_sound s t below))
 
 -- null is no value of a class without arguments
-null_not_class : (table : Table) (c : ClassId) → sub table null (interface c no_more) ≡ false
+pub null_not_class : (table : Table) (c : ClassId) → sub table null (interface c no_more) ≡ false
 unfolding sub
 null_not_class table c = refl
 

@@ -15,10 +15,10 @@ use Rattle.core_ir.specs.declared.values.Value.{Value}
 use Rattle.core_ir.specs.declared.values.Value.TheVariants.{Null, Integer, Boolean}
 use Rattle.core_machine.specs.declared.effect.RunEnd.{RunEnd}
 use Rattle.core_machine.specs.declared.effect.Effect.TheVariants.{Write}
-use Rattle.core_machine.specs.Steps.{Kind, ReadUnassignedLocal, Slots, Row, Does, Fails, value_of, value_at, with_value, store_fault, has_type, put, on_integers, choose, row}
+use Rattle.core_machine.specs.Steps.{Kind, BadArgument, NotBool, ReadUnassignedLocal, Slots, Row, Does, Fails, value_of, value_at, with_value, store_fault, has_type, put, on_integers, choose, row}
 use Rattle.core_machine.specs.Values.{sum_of, less_of, same_value}
 use Rattle.core_machine.specs.State.{State, Wrong, after, unless_over, step_of, row_at}
-use Rattle.core_machine.specs.GoingWrong.{lacks_value, term_of, ReadsNothing, StoresMisfit}
+use Rattle.core_machine.specs.GoingWrong.{lacks_value, term_of, is_integer, is_boolean, receiver_fault, Decides, Operates, ReadsNothing, StoresMisfit}
 
 -- a row that goes wrong is a step that does, unless the run is over
 wrong_step : (p : Program) (s : State) (kind : Kind) → s.end ≡ None → row_at p s.running ≡ Fails kind → step_of p s ≡ Wrong kind
@@ -71,6 +71,55 @@ stores_misfit_wrong p s v here =
     (λ is. ap (row p g slots) is ∙ fails)
     (λ is. ap (row p g slots) is ∙ fails)
     here.store)
+
+-- an operator of int goes wrong where its receiver is no integer, and else where its argument is none
+receiver_misfit : (operator : ℤ → ℤ → Value) (go : Value → Row) (a b : Value) → IsFalse (is_integer a) → on_integers operator go a b ≡ Fails (receiver_fault a)
+receiver_misfit operator go Null b none = refl
+receiver_misfit operator go (Integer n) b none = absurd (cc)
+receiver_misfit operator go (Boolean a) b none = refl
+
+argument_misfit : (operator : ℤ → ℤ → Value) (go : Value → Row) (a b : Value) → IsTrue (is_integer a) → IsFalse (is_integer b) → on_integers operator go a b ≡ Fails BadArgument
+argument_misfit operator go Null b one none = absurd (cc)
+argument_misfit operator go (Boolean a) b one none = absurd (cc)
+argument_misfit operator go (Integer n) Null one none = refl
+argument_misfit operator go (Integer n) (Integer m) one none = absurd (cc)
+argument_misfit operator go (Integer n) (Boolean b) one none = refl
+
+-- a row that reads two operands goes on with their values
+with_both : (o q : Option Value) (a b : Value) (go : Value → Value → Row) → o ≡ Some a → q ≡ Some b → with_value o (λ x. with_value q (go x)) ≡ go a b
+with_both o q a b go first second =
+    ap (λ (x : Option Value). with_value x (λ y. with_value q (go y))) first ∙ ap (λ (x : Option Value). with_value x (go a)) second
+
+-- so does a step of such an operator go wrong
+operator_wrong : (p : Program) (s : State) (a b : Value) (kind : Kind) → ((operator : ℤ → ℤ → Value) (go : Value → Row) → on_integers operator go a b ≡ Fails kind) → Operates p s a b → step_of p s ≡ Wrong kind
+operator_wrong p s a b kind misfit here =
+    let slots = s.running.slots in
+    let g = function_at p s.running.function.0 in
+    wrong_step p s kind here.going (⊎_elim
+    (λ is. ap (row p g slots) is ∙ with_both (value_of slots here.left) (value_of slots here.right) a b (on_integers sum_of (put p g here.to here.next)) here.receiver here.argument ∙ misfit sum_of (put p g here.to here.next))
+    (λ is. ap (row p g slots) is ∙ with_both (value_of slots here.left) (value_of slots here.right) a b (on_integers less_of (put p g here.to here.next)) here.receiver here.argument ∙ misfit less_of (put p g here.to here.next))
+    here.operator)
+
+pub receiver_wrong : (p : Program) (s : State) (a b : Value) → Operates p s a b → IsFalse (is_integer a) → step_of p s ≡ Wrong (receiver_fault a)
+receiver_wrong p s a b here none = operator_wrong p s a b (receiver_fault a) (λ operator go. receiver_misfit operator go a b none) here
+
+pub argument_wrong : (p : Program) (s : State) (a b : Value) → Operates p s a b → IsTrue (is_integer a) → IsFalse (is_integer b) → step_of p s ≡ Wrong BadArgument
+argument_wrong p s a b here one none = operator_wrong p s a b BadArgument (λ operator go. argument_misfit operator go a b one none) here
+
+-- a condition that is no truth value goes wrong
+choice_misfit : (when_true when_false : PointId) (v : Value) → IsFalse (is_boolean v) → choose when_true when_false v ≡ Fails NotBool
+choice_misfit when_true when_false Null none = refl
+choice_misfit when_true when_false (Integer n) none = refl
+choice_misfit when_true when_false (Boolean b) none = absurd (cc)
+
+pub condition_wrong : (p : Program) (s : State) (v : Value) → Decides p s v → IsFalse (is_boolean v) → step_of p s ≡ Wrong NotBool
+condition_wrong p s v here none =
+    let slots = s.running.slots in
+    let g = function_at p s.running.function.0 in
+    wrong_step p s NotBool here.going
+    (ap (row p g slots) here.branch
+    ∙ ap (λ (x : Option Value). with_value x (choose here.when_true here.when_false)) here.condition
+    ∙ choice_misfit here.when_true here.when_false v none)
 
 -- what a row writes has the declared type of its slot
 abbrev Declares : Program → Function → Row → Type 0

@@ -1,5 +1,5 @@
 -- Steps that go wrong, and for each way to go wrong a program that takes it.
-use Rattle.std.specs.Prelude.{◌≡◌, ℕ, ◌⊎◌, Bool, true, not, is_some, IsTrue, IsFalse, List, [], ◌∷◌, map, length, Some, None, pos}
+use Rattle.std.specs.Prelude.{◌≡◌, ℕ, ◌⊎◌, Bool, true, false, not, is_some, IsTrue, IsFalse, List, [], ◌∷◌, map, length, Some, None, pos}
 use Rattle.std.specs.List.{list_any}
 use Rattle.dart_types.specs.FormedTable.{FormedTable}
 use Rattle.core_ir.specs.Program.{Program}
@@ -40,6 +40,43 @@ pub record StoresMisfit (p : Program) (s : State) (v : Value) : Type 0 where
   pub store : (term_of p s ≡ Store to from next) ⊎ (term_of p s ≡ Initialize to from next)
   pub held : value_of s.running.slots from ≡ Some v
   pub misfit : IsFalse (has_type p v (declared_at (function_at p s.running.function.0) to.0))
+
+-- whether a value is an integer, or a truth value
+abbrev pub is_integer : Value → Bool
+is_integer Null = false
+is_integer (Integer n) = true
+is_integer (Boolean b) = false
+
+abbrev pub is_boolean : Value → Bool
+is_boolean Null = false
+is_boolean (Integer n) = false
+is_boolean (Boolean b) = true
+
+-- a run that isn't over stands at an operator of int, whose operands have these values
+pub record Operates (p : Program) (s : State) (a b : Value) : Type 0 where
+  pub going : s.end ≡ None
+  pub to : SlotId
+  pub left : Operand
+  pub right : Operand
+  pub next : PointId
+  pub operator : (term_of p s ≡ Add to left right next) ⊎ (term_of p s ≡ Less to left right next)
+  pub receiver : value_of s.running.slots left ≡ Some a
+  pub argument : value_of s.running.slots right ≡ Some b
+
+-- how a value goes wrong that is the receiver of an operator which it hasn't
+abbrev pub receiver_fault : Value → Kind
+receiver_fault Null = NullMember
+receiver_fault (Integer n) = NoMember
+receiver_fault (Boolean b) = NoMember
+
+-- a run that isn't over stands at a branch, whose condition has this value
+pub record Decides (p : Program) (s : State) (v : Value) : Type 0 where
+  pub going : s.end ≡ None
+  pub on : Operand
+  pub when_true : PointId
+  pub when_false : PointId
+  pub branch : term_of p s ≡ Branch on when_true when_false
+  pub condition : value_of s.running.slots on ≡ Some v
 
 -- a slot of the type int
 abbrev number_slot : SlotId

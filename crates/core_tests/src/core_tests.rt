@@ -6,6 +6,7 @@
 //! `int`, and t of the type `bool`. Other operands are values.
 
 ghost use Rattle.std.specs.Prelude.{◌≡◌, [], IfOk};
+ghost use Rattle.core_check.specs.WellFormed.{IsWellFormed};
 
 use core_check::{
     AcceptRefusal, Accepted, accept, faults_are_clauses_that_fail, is_well_formed,
@@ -25,7 +26,8 @@ use std::test::Fail;
 
 // What is known at points, numbered from 0: whether a run may come there; and of x, y, z and t, in this
 // order, `+` where the slot has a value for certain and `-` where it hasn't, before the type of the value,
-// `n` for `int?`, `i` for `int` and `b` for `bool`, or before `*` where the slot is shared.
+// `n` for `int?`, `i` for `int` and `b` for `bool`, or before `*` where the slot is shared. A slot of which
+// nothing is known isn't listed, unless `=` stands for `-`.
 const KNOWN: &str = "\
 reached -n -i -n -b
 reached +n -i -n -b
@@ -35,7 +37,10 @@ reached +n +i +i +b
 reached +i +i +i +b
 unreached +n +i +i +b
 reached +* +i +i +b
-reached -n -i -n +b";
+reached -n -i -n +b
+reached =n -i -n =b
+reached -* -i -n -b
+reached -i -i -n -b";
 
 // The points of this program, numbered from 0, whose loop begins at the point 3:
 // `int? x = null; int y = 0; int? z = 1;
@@ -85,7 +90,11 @@ const CHANGED: &str = "\
 6:7 test_null x 8 7 = rejected at 6: int, nullable
 -- something is assigned at the entry, and no run comes there
 0:1 initialize x null 1 = rejected at 0: invalid, invalid
-0:6 initialize x null 1 = rejected at 0: invalid, invalid";
+0:6 initialize x null 1 = rejected at 0: invalid, invalid
+-- slots are listed at the entry of which nothing is known; or one is shared there, or has not its declared type
+0:9 initialize x null 1 = 12 points, 19 steps: 3/
+0:10 initialize x null 1 = rejected at 0: invalid, invalid
+0:11 initialize x null 1 = rejected at 0: int, nullable";
 
 // Terms, and what a program prints that does the term and then prints the slot which it writes.
 const OPERATORS: &str = "\
@@ -309,7 +318,7 @@ fn known_in(alloc: Global, sign: u8, letter: u8, declared: u8) -> Result<Known, 
     let assigned = sign == b'+';
     let held = if letter == b'*' {
         Held::Shared
-    } else if letter == declared {
+    } else if letter == declared && sign != b'=' {
         Held::Declared
     } else {
         Held::Own(type_of(alloc, letter)?)
@@ -342,7 +351,7 @@ fn put(alloc: Global, facts: &mut Facts, number: usize, text: &str) -> Result<()
 // What is known at a point, by its line.
 fn facts_in(alloc: Global, line: &str) -> Result<Facts, Fail> {
     let (word, slots) = line.split_once(' ').ok_or("no facts")?;
-    let mut facts = Facts::new(alloc, word == "reached");
+    let mut facts = Facts::new(alloc, word == "reached")?;
     let mut number = 0usize;
     for slot in slots.split(' ') {
         put(alloc, &mut facts, number, slot)?;
@@ -415,7 +424,7 @@ fn run(alloc: Global, program: Accepted, after_each: bool) -> Result<String, All
 
 // Laws of the program, which are proved.
 fn laws_hold(program: &CoreProgram)
-    requires { program.now.rows.table.classes ≡ [] }
+    requires { IsWellFormed program.now }
 {
     faults_are_clauses_that_fail(program);
     a_run_that_is_over_stays(program);
@@ -427,11 +436,11 @@ fn laws_hold(program: &CoreProgram)
 // What becomes of the program of these points.
 fn told(alloc: Global, points: Vec<Point>, after_each: bool) -> Result<String, Fail> {
     let program = program(alloc, points)?;
-    laws_hold(&program);
     rows_of_no_class_leave_nothing_out(&program.rows);
     if !is_well_formed(alloc, &program)? {
         return Ok(format!(in alloc; "ill formed")?);
     }
+    laws_hold(&program);
     let told = match accept(alloc, program) {
         Ok(accepted) => run(alloc, accepted, after_each)?,
         Err(
