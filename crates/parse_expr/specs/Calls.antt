@@ -1,10 +1,10 @@
 -- What is parsed at a place of a text.
-use Rattle.std.specs.Prelude.{ℕ, ◌+◌, ◌-◌, List, length, drop, Option, option_map}
+use Rattle.std.specs.Prelude.{ℕ, ◌-◌, suc, nat_lt, List, length, drop, Option, None, option_map, if◌then◌else◌}
 use Rattle.readings.specs.Readings.{Reading}
 use Rattle.readings.specs.Descent.{Descent}
 use Rattle.dart_tree.specs.Tree.{Tree}
 use Rattle.grammar.specs.declared.token.Token.{Token}
-use Rattle.grammar.specs.Descents.{Lower, lower}
+use Rattle.grammar.specs.Descents.{Lower, lower, take_parameter_list}
 use Rattle.grammar.specs.Whole.{most_nodes, whole}
 
 -- how many nodes may lie on a way down from a node at a depth, itself among them
@@ -18,3 +18,7 @@ whole_at text room x = (whole text room x.0, length text - length x.1)
 -- what is found where so many tokens lie before it, with its root at a depth
 abbrev pub parsed : (Lower → Descent Token Tree) → (text : List Token) → (at depth : ℕ) → Option (Tree × ℕ)
 parsed reads text at depth = option_map (whole_at text (room_at depth)) (reads (lower (room_at depth)) (drop at text))
+
+-- which parameters are found where so many tokens lie before them, of a node at a depth; there are none where that lies deeper than a tree goes
+abbrev pub parsed_parameters : (text : List Token) → (at depth : ℕ) → Option (Tree × ℕ)
+parsed_parameters text at depth = if nat_lt depth most_nodes then parsed take_parameter_list text at (suc depth) else None

@@ -10,7 +10,7 @@ ghost use Rattle.std.specs.List.Sorted.{IsNonDecreasingBy};
 ghost use Rattle.grammar.specs.Descents.{lower, take_parameter_list};
 ghost use Rattle.parse_leaves.specs.Answers.{Gives, IsDeep};
 ghost use Rattle.parse_expr.specs.Parts.{tree_of, reads, IsFormOf};
-ghost use Rattle.parse_expr.specs.Calls.{room_at as room_of, parsed};
+ghost use Rattle.parse_expr.specs.Calls.{room_at as room_of, parsed, parsed_parameters};
 
 use crate::lists::{TextLists, statement_at};
 use crate::node::part_at;
@@ -180,10 +180,9 @@ pub fn parse_block(
     }
 }
 
-/// The parameters in parentheses at a place of a text, of a node at the depth, their lists of
-/// statements read, and the place behind them. The error is want of memory.
+/// The same of the parameters in parentheses, of a node at the depth.
 #[tactic(auto, using(crate::proofs::Found::parameters_found, crate::proofs::Found::parameters_missing))]
-pub fn parse_parameters(
+fn parameters_below(
     alloc: Global,
     text: &[Token],
     at: usize,
@@ -210,4 +209,21 @@ pub fn parse_parameters(
         Err(Miss::NoReading) => Ok(None),
         Err(Miss::Memory) => Err(AllocError),
     }
+}
+
+/// The parameters in parentheses at a place of a text, of a node at the depth, their lists of
+/// statements read, and the place behind them. The error is want of memory.
+pub fn parse_parameters(
+    alloc: Global,
+    text: &[Token],
+    at: usize,
+    depth: u32,
+) -> Result<Option<(ParameterList, usize)>, AllocError>
+    requires ordered { IsNonDecreasingBy (λ t. t.start) text.now }
+    ensures { IfOk result (λ found. option_map (λ x. (x.0, x.1)) found ≡ parsed_parameters text.now at depth) }
+{
+    if depth > 200 {
+        return Ok(None);
+    }
+    parameters_below(alloc, text, at, depth)
 }

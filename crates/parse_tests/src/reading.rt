@@ -14,7 +14,7 @@ use tree_notation::{expression_text, statement_text};
 
 /// Each token begins where the one before it does, or later.
 #[tactic(auto, using(crate::proofs::Orders::in_order_next, crate::proofs::Orders::in_order_at_end))]
-fn are_in_order(tokens: &[Token]) -> bool
+pub(crate) fn are_in_order(tokens: &[Token]) -> bool
     ensures { result ≡ true → IsNonDecreasingBy (λ t. t.start) tokens.now }
 {
     for place in 1..tokens.len() {
