@@ -89,6 +89,10 @@ String describeN(StationN<String> station) {
 
 """
 
+# Identifiers that begin so, with eight characters more, all have one hash: its seed is fixed, and the number by which it
+# multiplies those eight is 0.
+CHOSEN = "tGKSSYZhYYSyVQFn2TNohU1X"
+
 # A time below this many seconds tells nothing of a slope.
 SHORTEST = 0.005
 
@@ -200,6 +204,11 @@ def backticks(count: int) -> str:
     return "void main() {}\n" + "`" * count
 
 
+def chosen(count: int) -> str:
+    """So many variables, whose names are chosen so that all have one hash."""
+    return "void main() {}\n" + "".join(f"int {CHOSEN}{number:08};" for number in range(count))
+
+
 @dataclass(frozen=True)
 class Sizes:
     """What a table is of: its name, a line about it, what it counts, and the sizes that are measured."""
@@ -237,6 +246,8 @@ FAMILIES = (
     Family("errors", "an error in every tenth line", "errors", (2_500, 5_000, 10_000), errors_in_lines, for_each=("undefined_name",)),
     Family("backticks", "characters that begin no lexeme, each an error", "errors", (100_000, 200_000, 400_000), backticks,
            for_each=("illegal_character",)),
+    Family("chosen", "variables whose names have one hash: 0.25, 0.5 and 1 MB", "of them", (6_750, 13_500, 27_000), chosen,
+           for_each=("not_built",)),
 )
 
 

@@ -5,23 +5,23 @@ ghost use Rattle.std.specs.List.{position_or_len};
 ghost use Rattle.dart_scan.specs.Scanned.{with_word};
 
 use dart_tokens::Words;
-use indexmap::IndexSet;
 use plain_text::PlainText;
 use std::alloc::{AllocError, Global};
 use std::marker::Model;
+use text_places::TextPlaces;
 
 /// Words in the order of their first places, which the text lends.
 #[derive(Drop)]
 pub struct Places<'t> {
-    set: IndexSet<&'t str>,
+    texts: TextPlaces<'t>,
 }
 
 impl<'t> Model for Places<'t> {
-    ghost use Rattle.std.specs.Prelude.{ℕ, List, map};
+    ghost use Rattle.std.specs.Prelude.{ℕ, List};
 
     ghost Value = { List (List ℕ) };
 
-    ghost view = { λ w. map (λ word. word.now) w.set.keys };
+    ghost view = { λ w. w.texts };
 }
 
 impl<'t> Places<'t> {
@@ -30,7 +30,7 @@ impl<'t> Places<'t> {
         ensures { result ≡ [] }
     {
         Places {
-            set: IndexSet::new(alloc),
+            texts: TextPlaces::new(alloc),
         }
     }
 
@@ -41,8 +41,7 @@ impl<'t> Places<'t> {
         ensures within { IfOk result (λ place. place ≤ length self.old) }
         ensures place { IfOk result (λ place. place ≡ position_or_len (bytes_eq word.now) self.old) }
     {
-        let (place, _) = self.set.insert_full(word)?;
-        Ok(place)
+        self.texts.add(word)
     }
 
     /// The words, each in memory of its own.
@@ -50,7 +49,7 @@ impl<'t> Places<'t> {
         ensures { IfOk result (λ words. words ≡ self.now) }
     {
         let mut words = Vec::new(alloc);
-        let lent = self.set.as_slice();
+        let lent = self.texts.as_slice();
         for word in lent {
             words.push(PlainText::new(alloc, *word)?)?;
         }

@@ -1,4 +1,4 @@
-pub mod Lent
+pub mod Among
 pub mod Within
 pub mod Seconds
 pub mod Distinct

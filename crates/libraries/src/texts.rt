@@ -4,22 +4,22 @@ ghost use Rattle.std.specs.Prelude.{◌≡◌, [], bytes_eq, position, OnOk};
 ghost use Rattle.std.specs.List.{list_any};
 ghost use Rattle.libraries.specs.Files.{with_text};
 
-use indexmap::IndexSet;
 use std::alloc::{AllocError, Global};
 use std::marker::Model;
+use text_places::TextPlaces;
 
 /// Texts, each once, that others lend.
 #[derive(Drop)]
 pub struct Texts<'t> {
-    set: IndexSet<&'t str>,
+    texts: TextPlaces<'t>,
 }
 
 impl<'t> Model for Texts<'t> {
-    ghost use Rattle.std.specs.Prelude.{ℕ, List, map};
+    ghost use Rattle.std.specs.Prelude.{ℕ, List};
 
     ghost Value = { List (List ℕ) };
 
-    ghost view = { λ t. map (λ text. text.now) t.set.keys };
+    ghost view = { λ t. t.texts };
 }
 
 impl<'t> Texts<'t> {
@@ -28,7 +28,7 @@ impl<'t> Texts<'t> {
         ensures { result ≡ [] }
     {
         Texts {
-            set: IndexSet::new(alloc),
+            texts: TextPlaces::new(alloc),
         }
     }
 
@@ -36,7 +36,7 @@ impl<'t> Texts<'t> {
     pub(crate) fn add(&mut self, text: &'t str) -> Result<(), AllocError>
         ensures { OnOk result (self.new ≡ with_text self.old text.now) }
     {
-        self.set.insert_full(text)?;
+        self.texts.add(text)?;
         Ok(())
     }
 
@@ -44,13 +44,13 @@ impl<'t> Texts<'t> {
     pub(crate) fn has(&self, text: &str) -> bool
         ensures { result ≡ list_any (bytes_eq text.now) self.now }
     {
-        self.set.contains(text)
+        self.texts.place_of(text).is_some()
     }
 
     /// The place of a text.
     pub fn place(&self, text: &str) -> Option<usize>
         ensures { result ≡ position (bytes_eq text.now) self.now }
     {
-        self.set.get_index_of(text)
+        self.texts.place_of(text)
     }
 }

@@ -1,7 +1,8 @@
-use Rattle.std.proofs.Common.{refl, ap, ◌∙◌}
-use Rattle.std.specs.List.{list_any}
-use Rattle.libraries.proofs.Lent.{any-map}
+use Rattle.std.proofs.Common.{◌≡◌, bytes_eq, is_some, position, ap, ◌∙◌, rules}
+use Rattle.libraries.proofs.Among.{is_some_position}
 use Rattle.libraries.proofs.texts.Texts.has.Goals as goal
 
 pub returns : goal.returns
-returns c = c.contains.ensures ∙ any-map _ (λ t. t.now) c.args.text.now (λ a. refl) c.self.inside.set.keys ∙ ap (list_any _) c.self.view_is
+returns c =
+    let at : c.place_of.result ≡ position (bytes_eq c.args.text.now) c.args.self.now = search rules in
+    c.is_some.ensures ∙ (ap is_some at ∙ is_some_position (bytes_eq c.args.text.now) c.args.self.now)
