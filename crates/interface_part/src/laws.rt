@@ -11,14 +11,14 @@ ghost use Rattle.interface_part.specs.Order.{RangesInOrder, TokensInOrder, is_le
 ghost use Rattle.interface_part.specs.Runs.{seen_of};
 ghost use Rattle.interface_part.specs.Same.{same_parts};
 
-/// An edit inside a body leaves the interface part: those of two units are equal exactly where the
-/// lexemes before, between and behind what a mark stands for agree one by one, by kind, letters and
-/// the adjacency of each `>`, whatever stands in its place and wherever it stands. Where tokens and
+/// Interface parts of two units are equal exactly where what is seen of the units is: the lexemes
+/// before, between and behind what a mark stands for agree one by one, by kind, letters and the
+/// adjacency of each `>`, whatever stands in its place and wherever it stands. Where tokens and
 /// ranges stand in the order of the text, the lexemes of an interface part are those of the tokens
 /// that begin within no range for which a mark stands, and it has as many marks as there are such
 /// ranges. And two interface parts are the same exactly where they are equal.
 pub fn interface_laws()
-    ensures edit { (u v : Unit) → (interface_of u ≡ interface_of v) ↔ (seen_of u ≡ seen_of v) }
+    ensures seen { (u v : Unit) → (interface_of u ≡ interface_of v) ↔ (seen_of u ≡ seen_of v) }
     ensures lexemes { (words : List (List ℕ)) (hidden : List Hidden) (tokens : List Token) → TokensInOrder 0 tokens → RangesInOrder 0 hidden
         → filter is_lexeme (parts_of words hidden tokens) ≡ unmarked words tokens hidden tokens }
     ensures marks { (words : List (List ℕ)) (hidden : List Hidden) (tokens : List Token) → TokensInOrder 0 tokens → RangesInOrder 0 hidden

@@ -1,8 +1,8 @@
 //! The interface part of a unit: what of it other libraries may see.
 //!
 //! It is the list of the unit's lexemes, with one mark in the place of each body of a declared
-//! function, member or constructor and of each initializer of a variable with a written type. An edit
-//! inside such a part leaves it as it is, and so can matter to no other library.
+//! function, member or constructor and of each initializer of a variable with a written type. What
+//! stands in such a part is no part of it, and so can matter to no other library.
 //! `specs/Hidden.antt` says which ranges of a text are hidden, `specs/Interface.antt` what the
 //! interface part is, and `interface_part` gives exactly that, in time that is linear in the tokens;
 //! `interface_laws` says when two are equal, and which lexemes they hold. The crate stands on the

@@ -5,7 +5,7 @@ use Rattle.interface_part.proofs.laws.interface_laws.Goals as goal
 
 pub returns : goal.returns
 returns c = record {
-  edit = equal-seen;
+  seen = equal-seen;
   lexemes = lexemes_are_unmarked;
   marks = marks_are_counted;
   same = same_parts_Decides;
