@@ -1,11 +1,12 @@
 //! The checker that keeps nothing.
 
 ghost use Rattle.std.specs.Prelude.{◌≡◌, [], None};
+ghost use Rattle.protocol_rules.specs.Files.{analyzed_count};
 ghost use Rattle.protocol_rules.specs.State.{at_start};
 
 use crate::linked::{faults_of, link_contents};
 use load_files::Packages;
-use protocol_rules::Contents;
+use protocol_rules::{Contents, analyzed_count};
 use request_core::{Checker, Faults};
 use std::alloc::{AllocError, Global};
 use work_counts::{Work, WorkKind};
@@ -34,6 +35,9 @@ impl Checker for Plain {
 
     ghost kept = { λ p. None };
 
+    // all of them: it doesn't keep for which it has answered
+    ghost due = { λ p. analyzed_count p.contents };
+
     fn set_contents(&mut self, _alloc: Global, contents: &Contents) -> Result<(), AllocError> {
         self.contents = contents.copy()?;
         Ok(())
@@ -52,5 +56,9 @@ impl Checker for Plain {
         work.raise(WorkKind::Link);
         work.raise(WorkKind::Check);
         Ok(faults)
+    }
+
+    fn work(&self) -> u64 {
+        analyzed_count(&self.contents) as u64
     }
 }

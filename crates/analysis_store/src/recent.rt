@@ -2,14 +2,14 @@
 
 ghost use Rattle.std.specs.Prelude.{◌≡◌, [], None, IfOk};
 ghost use Rattle.check_files.specs.Links.{AreLinked};
-ghost use Rattle.protocol_rules.specs.Files.{AreDiagnosticsOf, files_of};
+ghost use Rattle.protocol_rules.specs.Files.{AreDiagnosticsOf, analyzed_count, files_of};
 ghost use Rattle.protocol_rules.specs.State.{State, at_start};
 ghost use Rattle.analysis_store.specs.Keeping.{IsCurrent};
 
 use crate::linked::{faults_of, link_contents};
 use check_files::{Linked, link_again};
 use load_files::Packages;
-use protocol_rules::Contents;
+use protocol_rules::{Contents, analyzed_count};
 use request_core::{Checker, Faults};
 use std::alloc::{AllocError, Global};
 use std::marker::Model;
@@ -157,6 +157,9 @@ impl Checker for Recent {
 
     ghost kept = { λ s. None };
 
+    // all of them: it keeps what it has read, and not for which files it has answered
+    ghost due = { λ s. analyzed_count s };
+
     fn set_contents(&mut self, _alloc: Global, contents: &Contents) -> Result<(), AllocError> {
         let contents = contents.copy()?;
         self.kept = earlier(replace(&mut self.kept, Kept::Nothing));
@@ -177,5 +180,9 @@ impl Checker for Recent {
         self.kept = Kept::Current(reading);
         work.raise(WorkKind::Check);
         Ok(faults)
+    }
+
+    fn work(&self) -> u64 {
+        analyzed_count(&self.contents) as u64
     }
 }

@@ -72,7 +72,7 @@ module _ {X : Type 0} where
   back_none [] ys h = h
   back_none (x ∷ xs) ys h = absurd (cc h)
 
-  first_or_later : (x : X) (xs : List X) (q : X) → Contains (x ∷ xs) q → (x ≡ q) ⊎ Contains xs q
+  pub first_or_later : (x : X) (xs : List X) (q : X) → Contains (x ∷ xs) q → (x ≡ q) ⊎ Contains xs q
   first_or_later x xs q c = elim (Contains-append_cases (x ∷ []) xs q c) [
     | inl first ↦ elim (Contains-push_cases [] x q first) [
       | inl nothing ↦ absurd (omega (arith, nothing.1))
@@ -81,10 +81,10 @@ module _ {X : Type 0} where
     | inr later ↦ inr later
   ]
 
-  in_none : (q : X) → Contains [] q → ⊥
+  pub in_none : (q : X) → Contains [] q → ⊥
   in_none q c = omega (arith, c.1)
 
-  first_in : (x : X) (xs : List X) → Contains (x ∷ xs) x
+  pub first_in : (x : X) (xs : List X) → Contains (x ∷ xs) x
   first_in x xs = Contains-append_left (x ∷ []) xs x (Contains-push [] x)
 
   -- of what a test lets pass nothing is left

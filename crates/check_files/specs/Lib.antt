@@ -8,3 +8,4 @@ pub mod Reports
 pub mod Lines
 pub mod Settled
 pub mod Clear
+pub mod Laws

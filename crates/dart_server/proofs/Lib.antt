@@ -5,3 +5,6 @@ pub mod FoundLemmas
 pub mod EndLemmas
 pub mod ShortageLemmas
 pub mod ServeLemmas
+pub mod OneLemmas
+pub mod ServedLemmas
+pub mod SettledLemmas

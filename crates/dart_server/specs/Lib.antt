@@ -3,3 +3,4 @@ pub mod Writes
 pub mod Run
 pub mod Libraries
 pub mod Output
+pub mod Settled

@@ -6,4 +6,3 @@ pub mod WithinLemmas
 pub mod ReadingLemmas
 pub mod Rows
 pub mod TurnLemmas
-pub mod SettledLemmas

@@ -1,5 +1,5 @@
 -- What the files of a session contain, and what is wrong with them.
-use Rattle.std.specs.Prelude.{◌≡◌, ℕ, Bool, not, ◌&&◌, ◌||◌, List, [], ◌++◌, map, bytes_eq, find, Option, None, Some, is_some, option_map}
+use Rattle.std.specs.Prelude.{◌≡◌, ℕ, Bool, not, ◌&&◌, ◌||◌, List, [], ◌++◌, map, count_by, bytes_eq, find, Option, None, Some, is_some, option_map}
 use Rattle.std.specs.List.{filter, list_any}
 use Rattle.std.specs.Option.{option_map_or}
 use Rattle.judgement.specs.declared.fault.Fault.{Fault}
@@ -55,6 +55,10 @@ is_included roots path = list_any (λ root. lies_in root path) roots.included
 abbrev pub is_analyzed : State → List ℕ → Bool
 is_analyzed s path =
     (is_library path && is_some (text_in path s.overlays)) || (is_some (contents_at path s.snapshot) && is_included s.roots path)
+
+-- how many of all files are analyzed
+abbrev pub analyzed_count : State → ℕ
+analyzed_count s = count_by (λ file. is_analyzed s file.0) (files_of s)
 
 -- the text of a path, as it is read now
 abbrev pub text_of : State → List ℕ → List ℕ

@@ -6,3 +6,4 @@ pub mod Reading
 pub mod Turns
 pub mod Answers
 pub mod Updates
+pub mod Settled

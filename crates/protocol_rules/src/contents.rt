@@ -5,7 +5,7 @@ ghost use Rattle.std.specs.List.{filter};
 ghost use Rattle.load_files.specs.Kept.{are_kept};
 ghost use Rattle.load_files.specs.declared.loading.TheConstants.{MAX_PATHS};
 ghost use Rattle.check_files.specs.Lent.{contents_view, table_view};
-ghost use Rattle.load_files.specs.Tables.{contents_at};
+ghost use Rattle.load_files.specs.Tables.{IsInOrder, contents_at};
 ghost use Rattle.serve_loop.specs.Marks.{Tells};
 ghost use Rattle.protocol_rules.specs.Files.{current, files_of, given_file, is_analyzed, is_included, is_new, overlaid};
 ghost use Rattle.protocol_rules.specs.Limits.{AreWithin, kept_in, passes_limit};
@@ -127,6 +127,13 @@ impl Contents {
         &self.roots
     }
 
+    /// What the store had when the roots were last read.
+    pub fn snapshot(&self) -> &Snapshot
+        ensures { result.now ≡ self.now.snapshot }
+    {
+        &self.snapshot
+    }
+
     /// The texts that the client has given.
     pub fn overlays(&self) -> &Overlays
         ensures { result.now ≡ self.now.overlays }
@@ -146,6 +153,15 @@ impl Contents {
             snapshot,
             overlays,
         })
+    }
+
+    /// A law of all contents: the files and the texts keep within the limits together, and the paths
+    /// of the files stand in order.
+    pub fn are_within_limits(&self)
+        ensures within { AreWithin self.now.snapshot self.now.overlays }
+        ensures order { IsInOrder self.now.snapshot }
+    {
+        self.snapshot.paths_are_in_order();
     }
 
     /// These contents with other overlays, None where they pass a limit.

@@ -1,4 +1,4 @@
-//! Laws of replies and states, over their definitions alone.
+//! Laws of replies and states, over their definitions alone. `specs/Settled.antt` has the last one for proofs.
 
 ghost use Rattle.std.specs.Prelude.{◌≡◌, ◌≢◌, ℕ, Bool, List, [], true, false, Option, Ok, Some, Err};
 ghost use Rattle.std.specs.Option.{option_map_or};

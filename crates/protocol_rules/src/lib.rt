@@ -6,15 +6,18 @@
 //! state has the roots, what the store had there and the texts that the client has given, and nothing
 //! that was computed from them: `AreDiagnosticsOf` in `specs/Files.antt` states the diagnostics of a file
 //! over all files of the state. The crate has these definitions, their laws, the type of a state
-//! (`Contents`) and the tests of lines and limits; sessions above are proved against it.
+//! (`Contents`), the tests of lines and limits, and the count of the files of which errors may be
+//! asked; sessions above are proved against it.
 #![tactic(auto)]
 
+mod analyzed;
 mod contents;
 mod files;
 mod laws;
 mod limits;
 mod skipped;
 
+pub use analyzed::analyzed_count;
 pub use contents::Contents;
 pub use files::is_library;
 pub use laws::{

@@ -1,8 +1,9 @@
 -- What a checker may tell of its earlier work: three tables, of what it parsed, linked and checked last of each path. What it then needs to answer is what has changed since.
-use Rattle.std.specs.Prelude.{◌≡◌, ◌⊎◌, ℕ, zero, suc, ◌+◌, Bool, true, not, ◌&&◌, T, List, [], ◌∷◌, ◌++◌, length, map, bytes_eq, nat_eq, slice_index_or, if◌then◌else◌, Option, None, Some, is_some, Contains}
+use Rattle.std.specs.Prelude.{◌≡◌, ◌⊎◌, ℕ, zero, suc, ◌+◌, Bool, true, not, ◌&&◌, T, List, [], ◌∷◌, ◌++◌, length, map, bytes_eq, nat_eq, slice_index_or, if◌then◌else◌, Option, None, Some, is_some, option_map, Contains}
 use Rattle.std.specs.List.{filter, flat_map, list_any}
 use Rattle.std.specs.Option.{option_map_or}
 use Rattle.load_files.specs.declared.contents.FileContents.{FileContents}
+use Rattle.load_files.specs.declared.contents.FileContents.TheVariants.{Text, NotUtf8, TooLong}
 use Rattle.work_counts.specs.Counts.{Counts, raised_by}
 use Rattle.library_graph.specs.declared.edges.Edge.{Edge}
 use Rattle.library_graph.specs.Cycles.{AreCycles, AreReached}
@@ -23,6 +24,17 @@ use Rattle.protocol_rules.specs.State.{State}
 abbrev pub Path : Type 0
 Path = List ℕ
 
+-- what of a file is compared: its text, or which of the two marks stands for one. How many bytes a file without a text has is no part of it
+pub data TextOrMark : Type 0 where
+  the_text : List ℕ → TextOrMark
+  not_utf8 : TextOrMark
+  too_long : TextOrMark
+
+abbrev pub text_or_mark : FileContents → TextOrMark
+text_or_mark (Text text) = the_text text
+text_or_mark (NotUtf8 bytes) = not_utf8
+text_or_mark (TooLong bytes) = too_long
+
 -- what the files that a library reads let others see, by their paths
 abbrev pub Key : Type 0
 Key = List (Path × List ℕ)
@@ -32,14 +44,14 @@ pub record Linked : Type 0 where
   pub cycle : List Path
   pub key : Key
 
--- a library as it was checked: what its own files contained, and what it read
+-- a library as it was checked: the texts of its own files, and what it read
 pub record Checked : Type 0 where
-  pub contents : List (Path × Option FileContents)
+  pub texts : List (Path × Option TextOrMark)
   pub key : Key
 
 -- what was done last with each path, nothing where it was never done or is no longer kept
 pub record Kept : Type 0 where
-  pub parsed : Path → Option FileContents
+  pub parsed : Path → Option TextOrMark
   pub linked : Path → Option Linked
   pub checked : Path → Option Checked
 
@@ -58,6 +70,10 @@ heads_now s = heads_of s.roots.packages (sources_now s)
 -- the path of the file at a place
 abbrev pub path_at : State → (place : ℕ) → Path
 path_at s place = slice_index_or (map (λ source. source.path) (sources_now s)) place []
+
+-- the text of a path as it is now, or its mark
+abbrev pub text_now : State → Path → Option TextOrMark
+text_now s path = option_map text_or_mark (current s path)
 
 -- a directive leads to the file that it names
 abbrev pub edge_to : (from : ℕ) → Option ℕ → List Edge
@@ -95,13 +111,13 @@ pub record IsLinkedNow (s : State) (cycle : List ℕ) (library : ℕ) (linked : 
   pub cycle_is : linked.cycle ≡ map (path_at s) cycle
   pub is_key : IsKey s library linked.key
 
--- what the files of a library contain now
-abbrev pub contents_now : State → (places : List ℕ) → List (Path × Option FileContents)
-contents_now s places = map (λ place. (path_at s place, current s (path_at s place))) places
+-- the texts of the files of a library as they are now
+abbrev pub texts_now : State → (places : List ℕ) → List (Path × Option TextOrMark)
+texts_now s places = map (λ place. (path_at s place, text_now s (path_at s place))) places
 
 -- the library at a place as it is checked now, with its parts
 pub record IsCheckedNow (s : State) (library : ℕ) (checked : Checked) : Type 0 where
-  pub contents_are : checked.contents ≡ contents_now s (units_of (heads_now s) library (aims_at (aims_now s) library))
+  pub texts_are : checked.texts ≡ texts_now s (units_of (heads_now s) library (aims_at (aims_now s) library))
   pub is_key : IsKey s library checked.key
 
 -- a place is among these
@@ -172,7 +188,7 @@ NeedsCheck s kept (Some library) n = OnceUnless (IsChecked s kept library) n
 
 -- what a question needs: one parse for each file that isn't kept as it now is, one link for each cycle of which not all is, and one check
 pub record Needs (s : State) (path : Path) (question : Question s path) (kept : Kept) (work : Counts) : Type 0 where
-  pub parses : ForAll (λ unit n. OnceUnless (kept.parsed unit ≡ current s unit) n) question.units work.parses
+  pub parses : ForAll (λ unit n. OnceUnless (kept.parsed unit ≡ text_now s unit) n) question.units work.parses
   pub links : ForAll (λ cycle n. OnceUnless (AreLinked s kept cycle) n) question.cycles work.links
   pub checks : NeedsCheck s kept (library_asked s path question) work.checks
 
@@ -207,7 +223,7 @@ IsCheckedIf s kept (Some library) = IsChecked s kept library
 
 -- a question leaves what was done for it, and what was kept of other paths
 pub record Replaces (s : State) (path : Path) (question : Question s path) (old new : Kept) : Type 0 where
-  pub parsed : (other : Path) → new.parsed other ≡ (if is_among question.units other then current s other else old.parsed other)
+  pub parsed : (other : Path) → new.parsed other ≡ (if is_among question.units other then text_now s other else old.parsed other)
   pub linked : (cycle : List ℕ) → Contains question.cycles cycle → AreLinked s new cycle
   pub linked_else : (other : Path) → T (is_elsewhere s question.cycles other) → new.linked other ≡ old.linked other
   pub checked : IsCheckedIf s new (library_asked s path question)

@@ -1,6 +1,6 @@
 //! What checks the files of a session.
 
-ghost use Rattle.std.specs.Prelude.{◌≡◌, IfOk, IsTrue, OnOk, OnErr};
+ghost use Rattle.std.specs.Prelude.{◌≡◌, ◌≤◌, IfOk, IsTrue, OnOk, OnErr};
 
 use crate::faults::Faults;
 use protocol_rules::Contents;
@@ -13,9 +13,9 @@ use work_counts::Work;
 /// path. What it answers doesn't depend on that, and is what the rules say from nothing; how much it
 /// does for an answer then follows from what it told. One that keeps nothing has nothing to tell.
 pub trait Checker {
-    ghost use Rattle.std.specs.Prelude.{Option};
+    ghost use Rattle.std.specs.Prelude.{ℕ, Option};
     ghost use Rattle.work_counts.specs.Counts.{NoLess};
-    ghost use Rattle.protocol_rules.specs.Files.{is_analyzed, AreDiagnosticsOf};
+    ghost use Rattle.protocol_rules.specs.Files.{analyzed_count, is_analyzed, AreDiagnosticsOf};
     ghost use Rattle.protocol_rules.specs.State.{State};
     ghost use Rattle.request_core.specs.Kept.{Kept, Handed, Asked};
 
@@ -24,6 +24,9 @@ pub trait Checker {
 
     // what it tells of its earlier work, None where it doesn't tell
     ghost kept: { Self → Option Kept };
+
+    // how many analyzed files it counts as not answered for since a text or a path has changed
+    ghost due: { Self → ℕ };
 
     /// It holds these contents from now on, and drops what it kept of the paths that have nothing any
     /// more. Want of memory leaves what it holds as it was.
@@ -47,4 +50,10 @@ pub trait Checker {
         ensures asked { OnOk result (Asked (holds self.old) path.now (kept self.old) (kept self.new) work.old work.new) }
         ensures no_less { NoLess work.old work.new }
         ensures unraised { OnErr result (work.new ≡ work.old) };
+
+    /// How many analyzed files it counts as not answered for since a text or a path has changed: at
+    /// most all of them. It takes no memory.
+    fn work(&self) -> u64
+        ensures exact { result ≡ due self.now }
+        ensures few { result ≤ analyzed_count (holds self.now) };
 }

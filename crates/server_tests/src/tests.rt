@@ -17,6 +17,7 @@ mod faults;
 mod limits;
 mod roots;
 mod runs;
+mod waiting;
 mod words;
 
 /// Whether a line of a table is no case.

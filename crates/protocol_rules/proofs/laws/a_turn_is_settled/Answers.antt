@@ -1,4 +1,4 @@
-use Rattle.protocol_rules.proofs.SettledLemmas.{turn-settled, turn-told}
+use Rattle.protocol_rules.specs.Settled.{turn-settled, turn-told}
 use Rattle.protocol_rules.proofs.laws.a_turn_is_settled.Goals as goal
 
 pub returns-clause-unasked : goal.returns-clause-unasked
