@@ -128,32 +128,6 @@ fn a_local_has_a_value_where_it_is_written(rt: HostRuntime) -> Result<(), Fail> 
     Ok(())
 }
 
-// Locals of three pages: one of the second is written, and some are taken out of scope.
-#[test]
-fn many_locals_are_in_scope(rt: HostRuntime) -> Result<(), Fail> {
-    let alloc = rt.alloc();
-    let rows = rows(alloc)?;
-    let mut flow = Flow::start(alloc, &[])?;
-    for number in 0..70 {
-        let int = type_of(alloc, b'i')?;
-        declare(alloc, &mut flow, &local(number, or_null(alloc, int)?))?;
-    }
-    let mut other = flow.copy(alloc)?;
-    other.non_null(alloc, &rows, LocalId(40))?;
-    assert!(rt; flow.len() == 70 && other.len() == 70 && !other.is_same(&flow));
-    assert!(rt;
-        has(alloc, &other, LocalId(40), b'i', false)? && has(alloc, &flow, LocalId(40), b'i', true)?
-    );
-    assert!(rt; Flow::join(alloc, &flow, &other)?.is_same(&flow));
-    assert!(rt; Flow::join(alloc, &other, &flow)?.is_same(&flow));
-    other.end(alloc, &[LocalId(40), LocalId(69), LocalId(68)])?;
-    assert!(rt; other.len() == 67 && !other.is_in_scope(LocalId(40)));
-    assert!(rt; other.is_in_scope(LocalId(39)) && other.is_in_scope(LocalId(67)));
-    declare(alloc, &mut other, &local(40, type_of(alloc, b'o')?))?;
-    assert!(rt; other.len() == 68 && has(alloc, &other, LocalId(40), b'o', false)?);
-    Ok(())
-}
-
 // Code that may run any number of times writes the one local, and captures the other.
 #[test]
 fn code_that_may_run_forgets_what_it_changes(rt: HostRuntime) -> Result<(), Fail> {
