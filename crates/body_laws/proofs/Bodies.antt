@@ -5,7 +5,7 @@ use Rattle.dart_tree.specs.Tree.{Tree, trees_of}
 use Rattle.dart_tree.specs.Heights.{heights}
 use Rattle.readings.specs.Readings.{either}
 use Rattle.readings.specs.Descent.{Descent, take_token, take_turn, take_items_at}
-use Rattle.grammar.specs.declared.token.Token.{Token}
+use Rattle.dart_tokens.specs.declared.grouped_token.GroupedToken.{GroupedToken as Token}
 use Rattle.grammar.specs.declared.level.Setting.TheVariants as setting
 use Rattle.grammar.specs.Tokens.{is, heads, heads_name, anything}
 use Rattle.grammar.specs.Types.{heads_field}

@@ -9,7 +9,7 @@ use Rattle.dart_tree.specs.declared.operators.DeclaredOperator.{DeclaredOperator
 use Rattle.dart_tree.specs.declared.places.Span.{Span}
 use Rattle.readings.specs.Readings.{made, tokens_read}
 use Rattle.readings.specs.Descent.{Descent, take_token, ◌▸◌, ◌⊘◌, take_make, take_turn, take_where, all_items}
-use Rattle.grammar.specs.declared.token.Token.{Token}
+use Rattle.dart_tokens.specs.declared.grouped_token.GroupedToken.{GroupedToken as Token}
 use Rattle.grammar.specs.declared.level.Sign.{Sign}
 use Rattle.grammar.specs.declared.level.Sign.TheVariants as sign
 use Rattle.grammar.specs.declared.level.Setting.TheVariants as setting

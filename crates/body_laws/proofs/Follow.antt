@@ -10,7 +10,7 @@ use Rattle.dart_tokens.specs.declared.token.Kind.TheVariants as kind
 use Rattle.dart_tree.specs.declared.places.Span.{Span}
 use Rattle.readings.specs.Readings.{Reading, Test, tokens_read, made, behind, listed, first_behind, whole_or}
 use Rattle.readings.specs.Descent.{Descent, bind, or_else, take_token, take_given, ◌▸◌, ◌⊘◌, take_make, take_turn, take_maybe, take_at_most, take_many, take_onto, take_chain, complete, take_where, take_before, take_inside, take_once, take_levels}
-use Rattle.grammar.specs.declared.token.Token.{Token}
+use Rattle.dart_tokens.specs.declared.grouped_token.GroupedToken.{GroupedToken as Token}
 use Rattle.grammar.specs.Tokens.{is, width, past, last_end, span_over}
 use Rattle.body_laws.specs.Bodies.{Moves, Twins, adjoins_next, Freedom, none, is_free, is_plain, in_braces, in_group, opens_body, opens_group, Alike}
 

@@ -3,7 +3,7 @@ use Rattle.std.proofs.Common.{◌≡◌, ℕ, zero, suc, ◌+◌, ◌-◌, ◌�
 use Rattle.dart_tokens.specs.declared.token.Kind.TheVariants as kind
 use Rattle.readings.specs.Readings.{Reading, made, behind, first_behind, item_or_error}
 use Rattle.readings.specs.Descent.{Descent, bind, or_else, ◌▸◌, take_turn, take_maybe, take_at_most_elements, take_elements, take_items_at, all_items}
-use Rattle.grammar.specs.declared.token.Token.{Token}
+use Rattle.dart_tokens.specs.declared.grouped_token.GroupedToken.{GroupedToken as Token}
 use Rattle.grammar.specs.Tokens.{is}
 use Rattle.grammar.specs.Statements.{segment_at, segment}
 use Rattle.body_laws.specs.Bodies.{Moves}

@@ -7,7 +7,7 @@ use Rattle.interface_part.specs.Hidden.{hidden, hidden_body}
 use Rattle.dart_tree.specs.Tree.{Tree, trees_of, part_of}
 use Rattle.dart_tree.specs.Heights.{height, heights, height_of_part}
 use Rattle.dart_tree.specs.Places.{span_of}
-use Rattle.grammar.specs.declared.token.Token.{Token}
+use Rattle.dart_tokens.specs.declared.grouped_token.GroupedToken.{GroupedToken as Token}
 use Rattle.grammar.specs.Tokens.{span_over}
 use Rattle.grammar.specs.Types.{behind_token, listed_or_none}
 use Rattle.grammar.specs.Expressions.{reads_on}

@@ -6,7 +6,7 @@ use Rattle.dart_tree.specs.Nodes.{list_of}
 use Rattle.dart_tree.specs.declared.places.Place.{Place}
 use Rattle.unread_lists.specs.WithLists.{with_lists, all_with_lists}
 use Rattle.unread_lists.specs.KeptLaws.{place_of-with_lists}
-use Rattle.grammar.specs.declared.token.Token.{Token}
+use Rattle.dart_tokens.specs.declared.grouped_token.GroupedToken.{GroupedToken as Token}
 use Rattle.grammar.specs.Statements.{segment, error_of}
 use Rattle.grammar.specs.Descents.{lower}
 use Rattle.grammar.specs.DeclarationDescents.{take_item, lower_unit}

@@ -1,7 +1,7 @@
 //! What is hidden in texts that differ only in what stands in bodies.
 
 ghost use Rattle.std.specs.Prelude.{◌≡◌, ℕ, Bool, List, false, map, true};
-ghost use Rattle.grammar.specs.declared.token.Token.{Token};
+ghost use Rattle.dart_tokens.specs.declared.grouped_token.GroupedToken.{GroupedToken as Token};
 ghost use Rattle.grammar.specs.Whole.{unit_of};
 ghost use Rattle.interface_part.specs.Hidden.{hidden_in};
 ghost use Rattle.body_laws.specs.Bodies.{Alike, Freedom, Moves, moved, suits_texts};

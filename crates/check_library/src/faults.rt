@@ -4,11 +4,11 @@ ghost use Rattle.std.specs.Prelude.{◌≡◌, ◌++◌, map, IfOk, OnOk};
 ghost use Rattle.check_library.specs.Diagnostics.{code_of_piece, fault_of_piece, code_of_group, span_at, fault_of_group, code_of_segment, fault_of_segment, not_built};
 
 use dart_parse::TreeFault;
-use dart_tokens::{GroupFault, GroupFaultKind, LexFault, LexFaultKind, Token};
+use dart_tokens::{GroupFault, GroupFaultKind, LexFault, LexFaultKind, Token, Tokens};
 use dart_tree::Span;
 use judgement::{DiagnosticCode, Fault};
 use segment_faults::SegmentFault;
-use std::alloc::AllocError;
+use std::alloc::{AllocError, Global};
 
 fn code_of_piece(kind: LexFaultKind) -> DiagnosticCode
     ensures { result ≡ code_of_piece kind }
@@ -114,7 +114,7 @@ pub fn add_lexical(found: &[LexFault], faults: &mut Vec<Fault>) -> Result<(), Al
 }
 
 /// Adds what is wrong with the groups of these tokens.
-pub fn add_groups(
+fn add_groups(
     tokens: &[Token],
     found: &[GroupFault],
     faults: &mut Vec<Fault>,
@@ -125,6 +125,22 @@ pub fn add_groups(
         faults.push(fault_of_group(tokens, *fault))?;
     }
     Ok(())
+}
+
+/// Adds what is wrong with the groups of the tokens of a text, which are listed only where something is.
+pub fn add_groups_of(
+    alloc: Global,
+    tokens: &Tokens,
+    found: &[GroupFault],
+    faults: &mut Vec<Fault>,
+) -> Result<(), AllocError>
+    ensures { OnOk result (faults.new.items ≡ faults.old.items ++ map (fault_of_group tokens.now) found.now) }
+{
+    if found.is_empty() {
+        return Ok(());
+    }
+    let tokens = tokens.listed(alloc)?;
+    add_groups(&tokens, found, faults)
 }
 
 /// Adds what is wrong with segments that derive nothing.

@@ -15,7 +15,7 @@ ghost use Rattle.check_library.specs.Checked.{IsCheckOf, main_of_checked};
 ghost use Rattle.check_library.specs.Diagnostics.{lexical_faults, segment_faults, is_undefined_code, settled, diagnostics, text_diagnostics};
 ghost use Rattle.check_library.specs.Units.{unit_of_text, judged_by};
 
-use crate::faults::{add_groups, add_lexical, add_not_built, add_segments};
+use crate::faults::{add_groups_of, add_lexical, add_not_built, add_segments};
 use crate::order::sorted;
 use built_forms::{Forms, built_bodies_are_blocks, built_main, forms_of};
 use core_rows::core_rows;
@@ -213,9 +213,9 @@ fn tree_diagnostics(alloc: Global, text: &Text, unit: &Unit) -> Result<Vec<Fault
     ensures { IfOk result (λ faults. faults.items ≡ lexical_faults text.now ++ segment_faults text.now) }
 {
     let mut faults = Vec::new(alloc);
-    let tokens = unit.tokens.as_slice();
     add_lexical(unit.lexical_faults.as_slice(), &mut faults)?;
-    add_groups(tokens, unit.group_faults.as_slice(), &mut faults)?;
+    let groups = unit.group_faults.as_slice();
+    add_groups_of(alloc, &unit.tokens, groups, &mut faults)?;
     let segments = tree_faults(alloc, text, unit)?;
     add_segments(segments.as_slice(), &mut faults)?;
     Ok(faults)

@@ -6,7 +6,7 @@ use Rattle.dart_tokens.specs.declared.token.Token.{Token as TextToken}
 use Rattle.dart_tokens.specs.Kinds.{opens}
 use Rattle.dart_tokens.specs.Groups.{partners_of}
 use Rattle.dart_scan.specs.Scanned.{tokens_of}
-use Rattle.grammar.specs.declared.token.Token.{Token}
+use Rattle.dart_tokens.specs.declared.grouped_token.GroupedToken.{GroupedToken as Token}
 use Rattle.grammar.specs.Tokens.{is_unopened, grouped, ungrouped, token_of, tokens_from, grammar_tokens}
 
 -- each begins at an offset or behind it, and none before the one before it

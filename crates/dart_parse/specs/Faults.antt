@@ -4,7 +4,7 @@ use Rattle.std.specs.List.{filter}
 use Rattle.dart_tree.specs.Tree.{Tree}
 use Rattle.dart_tree.specs.declared.places.Place.{Place}
 use Rattle.error_nodes.specs.Errors.{errors_of}
-use Rattle.grammar.specs.declared.token.Token.{Token}
+use Rattle.dart_tokens.specs.declared.grouped_token.GroupedToken.{GroupedToken as Token}
 use Rattle.grammar.specs.Whole.{tokens_over}
 use Rattle.segment_faults.specs.Faults.{fault_of}
 use Rattle.dart_parse.specs.declared.faults.TreeFault.{TreeFault}

@@ -9,7 +9,6 @@ ghost use Rattle.dart_parse.specs.Faults.{fault_over, tree_faults};
 
 use crate::unit::read_tokens;
 use dart_text::Text;
-use dart_tokens::group;
 use dart_tree::{Place, Span, Unit};
 use error_nodes::error_nodes;
 use grammar::Token;
@@ -69,8 +68,5 @@ pub fn tree_faults(alloc: Global, text: &Text, unit: &Unit) -> Result<Vec<TreeFa
     if errors.is_empty() {
         return Ok(Vec::new(alloc));
     }
-    let tokens = unit.tokens.as_slice();
-    let groups = group(alloc, tokens)?;
-    let read = read_tokens(alloc, text, tokens, &groups)?;
-    faults_over(alloc, &read, &errors)
+    faults_over(alloc, read_tokens(text, &unit.tokens), &errors)
 }

@@ -2,7 +2,7 @@
 
 ghost use Rattle.std.specs.Prelude.{◌≡◌, ◌^◌, ◌<◌, ◌≤◌, length, IfOk, OnOk, OnErr};
 ghost use Rattle.std.specs.List.Sorted.{IsNonDecreasingBy};
-ghost use Rattle.dart_tokens.specs.Groups.{partners_of, faults_of as faults_of_groups};
+ghost use Rattle.dart_tokens.specs.Groups.{faults_of as faults_of_groups};
 ghost use Rattle.dart_scan.specs.Scanned.{tokens_of, words_of, faults_of};
 ghost use Rattle.grammar.specs.Tokens.{grammar_tokens};
 ghost use Rattle.dart_text.specs.Edits.{max_text};
@@ -13,7 +13,7 @@ ghost use Rattle.work_counts.specs.declared.kind.WorkKind.TheVariants.{Parse};
 
 use dart_scan::{scan, tokens_rise};
 use dart_text::Text;
-use dart_tokens::{Groups, Scanned, Token as TextToken, group};
+use dart_tokens::{Groups, Scanned, Tokens, group};
 use dart_tree::{Unit, UnitTree};
 use grammar::Token;
 use grouped_tokens::grouped;
@@ -43,29 +43,22 @@ fn scanned(alloc: Global, text: &Text) -> Result<Scanned, AllocError>
     scan(alloc, text)
 }
 
-/// The tokens of a text as the grammar reads them, from its tokens and their groups: each with the size
-/// of the group that it opens. The error is want of memory.
+/// The tokens of a text as the grammar reads them: each with the size of the group that it opens.
 #[tactic(auto, using(crate::proofs::Order::read_few))]
-pub(crate) fn read_tokens(
-    alloc: Global,
-    text: &Text,
-    tokens: &[TextToken],
-    groups: &Groups,
-) -> Result<Vec<Token>, AllocError>
+pub(crate) fn read_tokens<'t>(text: &Text, tokens: &'t Tokens) -> &'t [Token]
     requires few { length tokens.now < 2 ^ 32 }
     requires text { tokens.now ≡ tokens_of text.now }
-    requires groups { groups.now.partner ≡ partners_of tokens.now }
-    ensures read { IfOk result (λ read. read.items ≡ grammar_tokens (tokens_of text.now)) }
-    ensures few { IfOk result (λ read. length read.items < 2 ^ 32) }
-    ensures ordered { IfOk result (λ read. IsNonDecreasingBy (λ t. t.start) read.items) }
+    ensures read { result.now ≡ grammar_tokens (tokens_of text.now) }
+    ensures few { length result.now < 2 ^ 32 }
+    ensures ordered { IsNonDecreasingBy (λ t. t.start) result.now }
 {
-    let read = grouped(alloc, tokens, groups)?;
-    order_law(text, &read);
-    Ok(read)
+    let read = tokens.read();
+    order_law(text, read);
+    read
 }
 
 /// The tree of a text has fewer nodes than there are numbers for them.
-fn few_nodes(text: &Text, in_core: bool, tokens: &[TextToken], tree: &UnitTree)
+fn few_nodes(text: &Text, in_core: bool, tokens: &Tokens, tree: &UnitTree)
     requires tokens { tokens.now ≡ tokens_of text.now }
     requires few { length tokens.now ≤ max_text }
     requires tree { tree.now ≡ unit_of in_core (grammar_tokens (tokens_of text.now)) }
@@ -95,17 +88,17 @@ pub fn parse_unit(
 {
     let scanned = scanned(alloc, text)?;
     let groups = group(alloc, scanned.tokens.as_slice())?;
-    let read = read_tokens(alloc, text, scanned.tokens.as_slice(), &groups)?;
-    // Which brackets belong together stands in what was read, too.
+    let tokens = grouped(alloc, scanned.tokens, &groups)?;
+    // Which brackets belong together stands in the tokens, too.
     let Groups { partner, faults } = groups;
     drop(partner);
-    let mut tree = parse_items(alloc, in_core, &read)?;
-    few_nodes(text, in_core, scanned.tokens.as_slice(), &tree);
+    let mut tree = parse_items(alloc, in_core, read_tokens(text, &tokens))?;
+    few_nodes(text, in_core, &tokens, &tree);
     number_unit(&mut tree);
     work.raise(WorkKind::Parse);
     Ok(Unit {
         tree,
-        tokens: scanned.tokens,
+        tokens,
         words: scanned.words,
         lexical_faults: scanned.faults,
         group_faults: faults,

@@ -11,7 +11,7 @@ use crate::kind::{is_gap, kind_of};
 use crate::piece::Class;
 use crate::words::Places;
 use dart_text::Text;
-use dart_tokens::{LexFault, LexFaults, Scanned, Token, Tokens};
+use dart_tokens::{LexFault, LexFaults, Scanned, TextTokens, Token};
 use plain_text::utf16_len;
 use std::alloc::{AllocError, Global};
 
@@ -87,7 +87,7 @@ impl<'t> Found<'t> {
         let words = self.places.copied(alloc)?;
         self.tokens.shrink_to_fit();
         Ok(Scanned {
-            tokens: Tokens::from_vec(self.tokens),
+            tokens: TextTokens::from_vec(self.tokens),
             words,
             faults: LexFaults::from_vec(self.faults),
         })

@@ -8,3 +8,4 @@ pub mod Faults
 pub mod Rows
 pub mod Pairs
 pub mod MarkLemmas
+pub mod Read

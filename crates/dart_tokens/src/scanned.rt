@@ -63,11 +63,11 @@ impl LexFaults {
 
 /// Tokens in the order of the text.
 #[derive(Debug, Drop)]
-pub struct Tokens {
+pub struct TextTokens {
     tokens: Vec<Token>,
 }
 
-impl Model for Tokens {
+impl Model for TextTokens {
     ghost use Rattle.std.specs.Prelude.{List};
     ghost use Rattle.dart_tokens.specs.declared.token.Token.{Token};
 
@@ -76,12 +76,12 @@ impl Model for Tokens {
     ghost view = { λ a. a.tokens.items };
 }
 
-impl Tokens {
+impl TextTokens {
     /// Those that the vector holds, which takes no memory.
-    pub fn from_vec(tokens: Vec<Token>) -> Tokens
+    pub fn from_vec(tokens: Vec<Token>) -> TextTokens
         ensures { result ≡ tokens.items }
     {
-        Tokens { tokens }
+        TextTokens { tokens }
     }
 
     /// These themselves.
@@ -125,7 +125,7 @@ impl Words {
 /// The tokens of a text, its words, and what is wrong with its parts.
 #[derive(Debug, Drop)]
 pub struct Scanned {
-    pub tokens: Tokens,
+    pub tokens: TextTokens,
     pub words: Words,
     pub faults: LexFaults,
 }

@@ -5,7 +5,7 @@ use Rattle.readings.specs.Leading.{Within, Sole}
 use Rattle.readings.specs.Combinators.{parses_none, parses_sole, sole_longest}
 use Rattle.dart_tokens.specs.declared.token.Kind.TheVariants as kind
 use Rattle.dart_tree.specs.Tree.{Tree}
-use Rattle.grammar.specs.declared.token.Token.{Token}
+use Rattle.dart_tokens.specs.declared.grouped_token.GroupedToken.{GroupedToken as Token}
 use Rattle.grammar.specs.declared.level.Setting.TheVariants as setting
 use Rattle.grammar.specs.Tokens.{is, heads, anything}
 use Rattle.grammar.specs.Types.{heads_field}

@@ -7,7 +7,7 @@ use Rattle.readings.specs.Values.{Gives, Maybe, gives_any, gives_none, gives_seq
 use Rattle.dart_tokens.specs.declared.token.Kind.TheVariants as kind
 use Rattle.dart_tree.specs.Tree.{Tree}
 use Rattle.dart_tree.specs.Heights.{height}
-use Rattle.grammar.specs.declared.token.Token.{Token}
+use Rattle.dart_tokens.specs.declared.grouped_token.GroupedToken.{GroupedToken as Token}
 use Rattle.grammar.specs.declared.level.Setting.TheVariants as setting
 use Rattle.grammar.specs.Tokens.{is, is_name, is_type_name, heads, heads_name, anything, width, past}
 use Rattle.grammar.specs.Operators.{table}

@@ -10,7 +10,7 @@ use Rattle.dart_tree.specs.Tree.{Tree, trees_of, part_of}
 use Rattle.dart_tree.specs.Heights.{higher, height, heights, height_of_part, fits}
 use Rattle.dart_tree.specs.declared.names.ParameterKind.{ParameterKind}
 use Rattle.dart_tree.specs.declared.names.ParameterKind.TheVariants as parameter_kind
-use Rattle.grammar.specs.declared.token.Token.{Token}
+use Rattle.dart_tokens.specs.declared.grouped_token.GroupedToken.{GroupedToken as Token}
 use Rattle.grammar.specs.declared.level.Level.{Level}
 use Rattle.grammar.specs.declared.level.Level.TheVariants as level
 use Rattle.grammar.specs.declared.level.Setting.{Setting}

@@ -13,7 +13,7 @@ use Rattle.readings.specs.Levels.{sole_levels, levels_climb, climb_stays, onto_s
 use Rattle.readings.specs.Elements.{sole_listed}
 use Rattle.dart_tokens.specs.declared.token.Kind.TheVariants as kind
 use Rattle.dart_tree.specs.Tree.{Tree}
-use Rattle.grammar.specs.declared.token.Token.{Token}
+use Rattle.dart_tokens.specs.declared.grouped_token.GroupedToken.{GroupedToken as Token}
 use Rattle.grammar.specs.declared.level.Level.{Level}
 use Rattle.grammar.specs.declared.level.Level.TheVariants as level
 use Rattle.grammar.specs.declared.level.Setting.{Setting}

@@ -8,7 +8,7 @@ use Rattle.readings.specs.Combinators.{parses_within}
 use Rattle.dart_tokens.specs.declared.token.Kind.{Kind}
 use Rattle.dart_tokens.specs.declared.token.Kind.TheVariants as kind
 use Rattle.dart_tokens.specs.contracts.token.Kind as kinds_of
-use Rattle.grammar.specs.declared.token.Token.{Token}
+use Rattle.dart_tokens.specs.declared.grouped_token.GroupedToken.{GroupedToken as Token}
 
 abbrev kinds : List Kind
 kinds =

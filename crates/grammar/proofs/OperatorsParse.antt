@@ -12,7 +12,7 @@ use Rattle.dart_tokens.specs.declared.token.Kind.TheVariants as kind
 use Rattle.dart_tree.specs.declared.places.Span.{Span}
 use Rattle.dart_tree.specs.declared.operators.UnaryOperatorKind.TheVariants as unary
 use Rattle.dart_tree.specs.declared.operators.PostfixOperatorKind.TheVariants as postfix
-use Rattle.grammar.specs.declared.token.Token.{Token}
+use Rattle.dart_tokens.specs.declared.grouped_token.GroupedToken.{GroupedToken as Token}
 use Rattle.grammar.specs.declared.level.Level.{Level}
 use Rattle.grammar.specs.declared.level.Sign.{Sign}
 use Rattle.grammar.specs.declared.level.Sign.TheVariants as sign

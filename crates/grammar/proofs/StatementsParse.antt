@@ -13,7 +13,7 @@ use Rattle.readings.specs.Elements.{sole_inside_offered}
 use Rattle.readings.specs.Items.{sole_braced}
 use Rattle.dart_tokens.specs.declared.token.Kind.TheVariants as kind
 use Rattle.dart_tree.specs.Tree.{Tree}
-use Rattle.grammar.specs.declared.token.Token.{Token}
+use Rattle.dart_tokens.specs.declared.grouped_token.GroupedToken.{GroupedToken as Token}
 use Rattle.grammar.specs.declared.level.Setting.TheVariants as setting
 use Rattle.grammar.specs.Tokens.{is, is_name, heads, heads_name, width, past}
 use Rattle.grammar.specs.Types.{Below, inner}

@@ -12,7 +12,7 @@ use Rattle.readings.specs.Elements.{offers_elements, sole_inside_offered}
 use Rattle.dart_tokens.specs.declared.token.Kind.TheVariants as kind
 use Rattle.dart_tree.specs.declared.names.ParameterKind.{ParameterKind}
 use Rattle.dart_tree.specs.declared.names.ParameterKind.TheVariants as parameter_kind
-use Rattle.grammar.specs.declared.token.Token.{Token}
+use Rattle.dart_tokens.specs.declared.grouped_token.GroupedToken.{GroupedToken as Token}
 use Rattle.grammar.specs.declared.level.Level.{Level}
 use Rattle.grammar.specs.declared.level.Setting.{Setting}
 use Rattle.grammar.specs.declared.level.Setting.TheVariants as setting

@@ -11,7 +11,7 @@ use Rattle.dart_tree.specs.Heights.{height, heights}
 use Rattle.dart_tree.specs.declared.places.Place.{Place}
 use Rattle.unread_lists.specs.WithLists.{with_lists}
 use Rattle.unread_lists.specs.HeightLaws.{height-with_lists}
-use Rattle.grammar.specs.declared.token.Token.{Token}
+use Rattle.dart_tokens.specs.declared.grouped_token.GroupedToken.{GroupedToken as Token}
 use Rattle.grammar.specs.Statements.{segment, error_of}
 use Rattle.grammar.specs.Below.{below}
 use Rattle.grammar.specs.Descents.{lower}

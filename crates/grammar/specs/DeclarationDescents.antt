@@ -6,7 +6,7 @@ use Rattle.dart_tokens.specs.declared.token.Kind.TheVariants as kind
 use Rattle.dart_tree.specs.Tree.{Tree, trees_of, unit}
 use Rattle.dart_tree.specs.declared.names.ConstructorName.{ConstructorName}
 use Rattle.dart_tree.specs.declared.operators.OperatorName.{OperatorName}
-use Rattle.grammar.specs.declared.token.Token.{Token}
+use Rattle.dart_tokens.specs.declared.grouped_token.GroupedToken.{GroupedToken as Token}
 use Rattle.grammar.specs.declared.level.Setting.TheVariants as setting
 use Rattle.grammar.specs.Tokens.{is, is_name, is_type_name, heads, heads_name, width, past, place_over}
 use Rattle.grammar.specs.Operators.{table, heads_sign}

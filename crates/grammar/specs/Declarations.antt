@@ -11,7 +11,7 @@ use Rattle.dart_tree.specs.declared.operators.BinaryOperatorKind.TheVariants.{Mu
 use Rattle.dart_tree.specs.declared.operators.OperatorName.{OperatorName}
 use Rattle.dart_tree.specs.declared.operators.DeclaredOperator.{DeclaredOperator}
 use Rattle.dart_tree.specs.declared.operators.DeclaredOperator.TheVariants as named
-use Rattle.grammar.specs.declared.token.Token.{Token}
+use Rattle.dart_tokens.specs.declared.grouped_token.GroupedToken.{GroupedToken as Token}
 use Rattle.grammar.specs.declared.level.Setting.TheVariants as setting
 use Rattle.grammar.specs.declared.level.Sign.{Sign}
 use Rattle.grammar.specs.declared.level.Sign.TheVariants as sign

@@ -18,7 +18,7 @@ use Rattle.dart_tree.specs.declared.operators.UnaryOperatorKind.TheVariants as u
 use Rattle.dart_tree.specs.declared.operators.PostfixOperator.{PostfixOperator}
 use Rattle.dart_tree.specs.declared.operators.PostfixOperatorKind.{PostfixOperatorKind}
 use Rattle.dart_tree.specs.declared.operators.PostfixOperatorKind.TheVariants as postfix
-use Rattle.grammar.specs.declared.token.Token.{Token}
+use Rattle.dart_tokens.specs.declared.grouped_token.GroupedToken.{GroupedToken as Token}
 use Rattle.grammar.specs.declared.level.Level.{Level}
 use Rattle.grammar.specs.declared.level.Level.TheVariants as level
 use Rattle.grammar.specs.contracts.level.Level as levels_of

@@ -1,7 +1,7 @@
 -- Types by their tokens, whatever stands in the groups in them: so it is told where a `<` opens type arguments, and no text is read for it.
 use Rattle.std.specs.Prelude.{ℕ, zero, suc, Bool, List, [], ◌∷◌, Option, Some, None, drop, length, if◌then◌else◌}
 use Rattle.dart_tokens.specs.declared.token.Kind.TheVariants as kind
-use Rattle.grammar.specs.declared.token.Token.{Token}
+use Rattle.dart_tokens.specs.declared.grouped_token.GroupedToken.{GroupedToken as Token}
 use Rattle.grammar.specs.Tokens.{is, is_name, is_type_name, heads, past}
 use Rattle.grammar.specs.Types.{heads_qualified}
 

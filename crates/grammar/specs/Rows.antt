@@ -14,7 +14,7 @@ use Rattle.dart_tree.specs.declared.names.Name.{Name}
 use Rattle.dart_tree.specs.declared.names.Identifier.{Identifier as NameIn}
 use Rattle.dart_tree.specs.Tree.{Tree, trees_of, absent, present, parenthesis, named_type, type_argument_list, identifier, integer_literal, binary_expression, assignment, type_test, conditional, function_expression, parameter_list, parameter, expression_body, generic_identifier, call, argument_list, argument, property_access, cascade, cascaded_name, block, expression_statement, if_statement, variable_statement, variable_list, variable, function_statement, plain_function, error_node, unit, function_declaration, void_type, class_declaration, constructor_declaration, field_initializer, empty_body, parenthesis}
 use Rattle.dart_tree.specs.declared.names.ParameterKind.TheVariants.{Positional}
-use Rattle.grammar.specs.declared.token.Token.{Token}
+use Rattle.dart_tokens.specs.declared.grouped_token.GroupedToken.{GroupedToken as Token}
 use Rattle.grammar.specs.declared.level.Setting.TheVariants.{Plain}
 use Rattle.grammar.specs.Tokens.{grammar_tokens, place_at}
 use Rattle.grammar.specs.Below.{below}

@@ -3,7 +3,7 @@ use Rattle.std.specs.Prelude.{ℕ, zero, suc, ◌+◌, ◌-◌, Bool, true, fals
 use Rattle.readings.specs.Readings.{Rule, token, ◌▹◌, ◌∣◌, make, turn, maybe, many, chain, longest_of, where_next, prefer, exactly, before, only, inside, within, items}
 use Rattle.dart_tokens.specs.declared.token.Kind.TheVariants as kind
 use Rattle.dart_tree.specs.Tree.{Tree, trees_of, part_of, absent, present, plain_function, variable_list, variable, block, variable_statement, function_statement, expression_statement, if_statement, while_statement, do_statement, for_statement, for_in_statement, for_in_assignment, switch_statement, switch_case, try_statement, catch_clause, return_statement, break_statement, continue_statement, rethrow_statement, labeled_statement, listed_name, expression_body, error_node}
-use Rattle.grammar.specs.declared.token.Token.{Token}
+use Rattle.dart_tokens.specs.declared.grouped_token.GroupedToken.{GroupedToken as Token}
 use Rattle.grammar.specs.declared.level.Setting.TheVariants as setting
 use Rattle.grammar.specs.Tokens.{is, is_either, is_name, heads, heads_name, width, past, place_over, place_of, name_at, identifier_at}
 use Rattle.grammar.specs.Types.{Below, separated_rule, behind_token, inner, listed_or_none, type_parameters_rule, parameter_list_rule}

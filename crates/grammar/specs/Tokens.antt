@@ -1,70 +1,17 @@
 -- The tokens that the grammar reads, and tests of those that come next.
-use Rattle.std.specs.Prelude.{ℕ, suc, ◌+◌, ◌-◌, ◌==◌, Bool, true, false, not, ◌&&◌, ◌||◌, List, [], ◌∷◌, length, take, drop, if◌then◌else◌, Option, None, Some, is_some, slice_get}
+use Rattle.std.specs.Prelude.{ℕ, ◌-◌, ◌==◌, Bool, true, false, ◌&&◌, ◌||◌, List, [], ◌∷◌, length, drop, slice_get}
 use Rattle.std.specs.Option.{option_map_or}
 use denote.Enum.Bare.{sameb}
 use Rattle.readings.specs.Readings.{Test, next}
 use Rattle.dart_tokens.specs.declared.token.Kind.{Kind}
 use Rattle.dart_tokens.specs.contracts.token.Kind as kinds
-use Rattle.dart_tokens.specs.declared.token.Token.{Token as TextToken}
-use Rattle.dart_tokens.specs.Kinds.{opens, closes, is_identifier, may_name_a_type}
-use Rattle.dart_tokens.specs.Groups.{partners_of}
+use Rattle.dart_tokens.specs.Kinds.{is_identifier, may_name_a_type}
+pub use Rattle.dart_tokens.specs.Read.{is_unopened, kept, kept_before, is_closed_by, grouped, ungrouped, token_of, tokens_from, grammar_tokens}
 use Rattle.dart_tree.specs.declared.places.Span.{Span}
 use Rattle.dart_tree.specs.declared.places.Place.{Place}
 use Rattle.dart_tree.specs.declared.names.Name.{Name}
 use Rattle.dart_tree.specs.declared.names.Identifier.{Identifier}
-use Rattle.grammar.specs.declared.token.Token.{Token}
-
--- From the tokens of a text.
-
--- a token closes no group
-abbrev pub is_unopened : Kind → Option ℕ → Bool
-is_unopened k partner = is_some (closes k) && not (is_some partner)
-
--- how many tokens of a text the grammar reads, with their partners beside them
-abbrev pub kept : List TextToken → List (Option ℕ) → ℕ
-kept [] partners = 0
-kept (t ∷ ts) [] = suc (kept ts [])
-kept (t ∷ ts) (p ∷ ps) = if is_unopened t.kind p then kept ts ps else suc (kept ts ps)
-
--- how many of the tokens behind one at a place come before another place
-abbrev pub kept_before : (place end : ℕ) → List TextToken → List (Option ℕ) → ℕ
-kept_before place end ts ps = kept (take (end - suc place) ts) (take (end - suc place) ps)
-
--- the token at a place closes the group that began at another
-abbrev pub is_closed_by : List (Option ℕ) → (end place : ℕ) → Bool
-is_closed_by all end place = option_map_or (λ p. option_map_or (λ b. b == place) p false) (slice_get all end) false
-
--- a token that opens a group, with the tokens behind it, and where the group ends
-abbrev pub grouped : List (Option ℕ) → (place end : ℕ) → TextToken → List TextToken → List (Option ℕ) → Token
-grouped all place end t ts ps =
-    record {
-      kind = t.kind;
-      start = t.start;
-      end = t.end;
-      word = t.word;
-      width = kept_before place end ts ps;
-      past = kept_before place end ts ps + (if is_closed_by all end place then 1 else 0);
-    }
-
--- any other token
-abbrev pub ungrouped : TextToken → Token
-ungrouped t = record { kind = t.kind; start = t.start; end = t.end; word = t.word; width = 0; past = 0 }
-
--- a token of a text, by its partner
-abbrev pub token_of : List (Option ℕ) → (place : ℕ) → Option ℕ → TextToken → List TextToken → List (Option ℕ) → Token
-token_of all place None t ts ps = ungrouped t
-token_of all place (Some partner) t ts ps = if is_some (opens t.kind) then grouped all place partner t ts ps else ungrouped t
-
--- the tokens from a place on, those that close no group left out
-abbrev pub tokens_from : List (Option ℕ) → (place : ℕ) → List TextToken → List (Option ℕ) → List Token
-tokens_from all place [] partners = []
-tokens_from all place (t ∷ ts) [] = ungrouped t ∷ tokens_from all (suc place) ts []
-tokens_from all place (t ∷ ts) (p ∷ ps) =
-    if is_unopened t.kind p then tokens_from all (suc place) ts ps else token_of all place p t ts ps ∷ tokens_from all (suc place) ts ps
-
--- the tokens of a text as the grammar reads them
-abbrev pub grammar_tokens : List TextToken → List Token
-grammar_tokens tokens = tokens_from (partners_of tokens) 0 tokens (partners_of tokens)
+use Rattle.dart_tokens.specs.declared.grouped_token.GroupedToken.{GroupedToken as Token}
 
 -- Kinds.
 

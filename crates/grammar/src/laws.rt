@@ -2,7 +2,7 @@
 
 ghost use Rattle.std.specs.Prelude.{◌≡◌, ◌≤◌, ℕ, suc, Bool, List, map};
 ghost use Rattle.readings.specs.Readings.{longest, optional};
-ghost use Rattle.grammar.specs.declared.token.Token.{Token};
+ghost use Rattle.dart_tokens.specs.declared.grouped_token.GroupedToken.{GroupedToken as Token};
 ghost use Rattle.grammar.specs.declared.level.Level.{Level};
 ghost use Rattle.grammar.specs.declared.level.Setting.{Setting};
 ghost use Rattle.dart_tree.specs.Heights.{height, heights};

@@ -5,8 +5,8 @@ use Rattle.std.proofs.lemmas.List.{drop_more, take_all, length-drop, length-take
 use Rattle.dart_tokens.specs.declared.token.Kind.{Kind}
 use Rattle.dart_tokens.specs.declared.token.Token.{Token as TextToken}
 use Rattle.dart_tokens.specs.Groups.{Open, after_token, partners_from, partners_of}
-use Rattle.grammar.specs.declared.token.Token.{Token}
-use Rattle.grammar.specs.Tokens.{kept, kept_before, tokens_from, token_of, is_unopened}
+use Rattle.dart_tokens.specs.declared.grouped_token.GroupedToken.{GroupedToken as Token}
+use Rattle.dart_tokens.specs.Read.{kept, kept_before, tokens_from, token_of, is_unopened}
 use Rattle.grouped_tokens.specs.Counts.{IsCount, counted}
 
 -- as many tokens as are kept

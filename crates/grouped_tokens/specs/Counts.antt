@@ -2,7 +2,7 @@
 use Rattle.std.specs.Prelude.{◌≡◌, ℕ, suc, ◌≤◌, List, take, length, get_or, Option, if◌then◌else◌}
 use Rattle.dart_tokens.specs.declared.token.Kind.{Kind}
 use Rattle.dart_tokens.specs.declared.token.Token.{Token}
-use Rattle.grammar.specs.Tokens.{kept, is_unopened}
+use Rattle.dart_tokens.specs.Read.{kept, is_unopened}
 
 -- the count behind one more token
 abbrev pub counted : ℕ → Kind → Option ℕ → ℕ

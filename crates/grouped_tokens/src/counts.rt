@@ -1,7 +1,7 @@
 //! How many of the first tokens of a text the grammar reads.
 
 ghost use Rattle.std.specs.Prelude.{◌≡◌, ◌+◌, ◌<◌, ◌^◌, IfOk, length};
-ghost use Rattle.grammar.specs.Tokens.{is_unopened};
+ghost use Rattle.dart_tokens.specs.Read.{is_unopened};
 ghost use Rattle.grouped_tokens.specs.Counts.{IsCount, counted};
 
 use dart_tokens::{Kind, Token, closes};
@@ -15,7 +15,7 @@ pub fn is_unopened(kind: Kind, partner: Option<u32>) -> bool
 }
 
 /// The count behind one more token, which the grammar reads or not.
-fn counted(count: u32, kind: Kind, partner: Option<u32>) -> u32
+pub fn counted(count: u32, kind: Kind, partner: Option<u32>) -> u32
     requires { count + 1 < 2 ^ 32 }
     ensures { result ≡ counted count kind partner }
 {

@@ -2,23 +2,16 @@
 
 ghost use Rattle.std.specs.Prelude.{◌≡◌, ◌+◌, ◌<◌, ◌^◌, ◌++◌, ◌∷◌, [], IfOk, OnOk, drop, length, if◌then◌else◌};
 ghost use Rattle.dart_tokens.specs.Groups.{partners_of};
-ghost use Rattle.grammar.specs.Tokens.{grammar_tokens, kept_before, is_closed_by, token_of};
+ghost use Rattle.dart_tokens.specs.Read.{grammar_tokens, kept_before, is_closed_by, token_of};
 ghost use Rattle.grouped_tokens.specs.Counts.{IsCount};
 
 use crate::counts::{counts, is_unopened};
-use dart_tokens::{Groups, Token as TextToken, opens};
-use grammar::Token;
+use dart_tokens::{GroupedToken, Token, opens};
 use std::alloc::{AllocError, Global};
 
 /// How many of the tokens behind one at a place, up to another place, the grammar reads.
 #[tactic(auto, using(crate::proofs::CountLemmas::width_counts, crate::proofs::CountLemmas::width_few))]
-fn width(
-    tokens: &[TextToken],
-    partners: &[Option<u32>],
-    counts: &[u32],
-    place: usize,
-    end: u32,
-) -> u32
+fn width(tokens: &[Token], partners: &[Option<u32>], counts: &[u32], place: usize, end: u32) -> u32
     requires counts { IsCount tokens.now partners.now (length tokens.now) counts.now }
     requires partners { length tokens.now ≡ length partners.now }
     requires within { place < length tokens.now }
@@ -50,13 +43,13 @@ fn past(width: u32, closed: bool) -> u32
 
 /// A token at a place with the group that it opens.
 fn token_at(
-    tokens: &[TextToken],
+    tokens: &[Token],
     partners: &[Option<u32>],
     counts: &[u32],
     place: usize,
-    token: TextToken,
+    token: Token,
     partner: Option<u32>,
-) -> Token
+) -> GroupedToken
     requires few { length tokens.now < 2 ^ 32 }
     requires counts { IsCount tokens.now partners.now (length tokens.now) counts.now }
     requires partners { length tokens.now ≡ length partners.now }
@@ -67,7 +60,7 @@ fn token_at(
         Some(end) if opens(token.kind).is_some() => {
             let width = width(tokens, partners, counts, place, end);
             let past = past(width, is_closed_by(partners, end, place));
-            Token {
+            GroupedToken {
                 kind: token.kind,
                 start: token.start,
                 end: token.end,
@@ -76,7 +69,7 @@ fn token_at(
                 past,
             }
         }
-        _ => Token {
+        _ => GroupedToken {
             kind: token.kind,
             start: token.start,
             end: token.end,
@@ -88,7 +81,7 @@ fn token_at(
 }
 
 /// Takes a token, unless it closes no group.
-fn add(read: &mut Vec<Token>, token: Token, unopened: bool) -> Result<(), AllocError>
+fn add(read: &mut Vec<GroupedToken>, token: GroupedToken, unopened: bool) -> Result<(), AllocError>
     ensures { OnOk result (read.new.items ≡ (if unopened then read.old.items else read.old.items ++ token ∷ [])) }
 {
     if !unopened {
@@ -97,18 +90,17 @@ fn add(read: &mut Vec<Token>, token: Token, unopened: bool) -> Result<(), AllocE
     Ok(())
 }
 
-/// The tokens that the grammar reads of fewer than 2^32 tokens, of which these are the groups.
+/// The tokens that the grammar reads of fewer than 2^32 tokens, of which these are the partners.
 #[tactic(auto, using(crate::proofs::CountLemmas::partners_length))]
-pub fn grouped(
+pub fn read(
     alloc: Global,
-    tokens: &[TextToken],
-    groups: &Groups,
-) -> Result<Vec<Token>, AllocError>
+    tokens: &[Token],
+    partners: &[Option<u32>],
+) -> Result<Vec<GroupedToken>, AllocError>
     requires few { length tokens.now < 2 ^ 32 }
-    requires groups { groups.now.partner ≡ partners_of tokens.now }
+    requires partners { partners.now ≡ partners_of tokens.now }
     ensures { IfOk result (λ read. read.items ≡ grammar_tokens tokens.now) }
 {
-    let partners = groups.partner.as_slice();
     let counts = counts(alloc, tokens, partners)?;
     let mut read = Vec::with_capacity(alloc, tokens.len())?;
     for place in 0..tokens.len() {

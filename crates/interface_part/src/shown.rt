@@ -150,10 +150,6 @@ pub fn interface_part(alloc: Global, unit: &Unit) -> Result<Interface, AllocErro
     ensures { IfOk result (λ part. part ≡ interface_of unit.now) }
 {
     let hidden = hidden_in(alloc, &unit.tree)?;
-    parts_of(
-        alloc,
-        unit.words.as_slice(),
-        hidden.as_slice(),
-        unit.tokens.as_slice(),
-    )
+    let tokens = unit.tokens.listed(alloc)?;
+    parts_of(alloc, unit.words.as_slice(), hidden.as_slice(), &tokens)
 }

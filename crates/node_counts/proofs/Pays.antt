@@ -4,7 +4,7 @@ use Rattle.readings.specs.Readings.{Reading, Test, tokens_read, made, behind, li
 use Rattle.readings.specs.Descent.{Descent, bind, or_else, take_token, take_given, ◌▸◌, ◌⊘◌, take_make, take_turn, take_maybe, take_at_most, take_many, take_onto, take_chain, complete, take_where, take_before, take_only, take_within, take_inside, take_once, take_levels, take_at_most_elements, take_elements, take_items_at, all_items, take_items}
 use Rattle.readings.specs.Values.{Maybe}
 use Rattle.dart_tree.specs.declared.places.Place.{Place}
-use Rattle.grammar.specs.declared.token.Token.{Token}
+use Rattle.dart_tokens.specs.declared.grouped_token.GroupedToken.{GroupedToken as Token}
 use Rattle.grammar.specs.Tokens.{width, past, place_over}
 use Rattle.node_counts.specs.Rising.{HoldGroups}
 

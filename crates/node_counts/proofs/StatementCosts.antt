@@ -5,7 +5,7 @@ use Rattle.dart_tokens.specs.declared.token.Kind.TheVariants as kind
 use Rattle.dart_tree.specs.Tree.{Tree, trees_of, part_of}
 use Rattle.dart_tree.specs.Numbers.{nodes_in_part}
 use Rattle.dart_tree.specs.declared.places.Place.{Place}
-use Rattle.grammar.specs.declared.token.Token.{Token}
+use Rattle.dart_tokens.specs.declared.grouped_token.GroupedToken.{GroupedToken as Token}
 use Rattle.grammar.specs.declared.level.Setting.TheVariants as setting
 use Rattle.grammar.specs.Tokens.{is, is_name, heads, heads_name, anything}
 use Rattle.grammar.specs.Types.{inner, heads_field}

@@ -6,7 +6,7 @@ use Rattle.readings.specs.Leading.{Each}
 use Rattle.dart_tokens.specs.declared.token.Token.{Token as TextToken}
 use Rattle.dart_tokens.specs.Kinds.{opens}
 use Rattle.dart_tokens.specs.Groups.{partners_of}
-use Rattle.grammar.specs.declared.token.Token.{Token}
+use Rattle.dart_tokens.specs.declared.grouped_token.GroupedToken.{GroupedToken as Token}
 use Rattle.grammar.specs.Tokens.{is_unopened, grouped, ungrouped, token_of, tokens_from, grammar_tokens}
 use Rattle.node_counts.specs.Rising.{Rise, HoldGroups, TextRises}
 

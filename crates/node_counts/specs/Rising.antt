@@ -2,7 +2,7 @@
 use Rattle.std.specs.Prelude.{◌≡◌, ◌<◌, ◌≤◌, ℕ, List, [], ◌∷◌, Some, All, slice_get}
 use Rattle.readings.specs.Leading.{Each}
 use Rattle.dart_tokens.specs.declared.token.Token.{Token as TextToken}
-use Rattle.grammar.specs.declared.token.Token.{Token}
+use Rattle.dart_tokens.specs.declared.grouped_token.GroupedToken.{GroupedToken as Token}
 
 -- each takes a code unit at least, and ends before any later one begins, or right there
 abbrev pub Rise : List Token → Type 0

@@ -2,7 +2,7 @@
 
 ghost use Rattle.std.specs.Prelude.{◌≤◌, ◌*◌, ◌+◌, Bool, List, length};
 ghost use Rattle.dart_tokens.specs.declared.token.Token.{Token as TextToken};
-ghost use Rattle.grammar.specs.declared.token.Token.{Token};
+ghost use Rattle.dart_tokens.specs.declared.grouped_token.GroupedToken.{GroupedToken as Token};
 ghost use Rattle.grammar.specs.Tokens.{grammar_tokens};
 ghost use Rattle.dart_tree.specs.Numbers.{nodes_in};
 ghost use Rattle.grammar.specs.Whole.{unit_of};

@@ -5,7 +5,7 @@ use Rattle.readings.specs.Descent.{Descent, bind, or_else, take_token, ◌▸◌
 use Rattle.dart_tokens.specs.declared.token.Kind.TheVariants as kind
 use Rattle.dart_tree.specs.Tree.{Tree}
 use Rattle.dart_tree.specs.Heights.{fits}
-use Rattle.grammar.specs.declared.token.Token.{Token}
+use Rattle.dart_tokens.specs.declared.grouped_token.GroupedToken.{GroupedToken as Token}
 use Rattle.grammar.specs.Tokens.{is, is_name, is_type_name, heads, anything, width, past}
 use Rattle.grammar.specs.Types.{separated, type_arguments_of, type_parameter_of, type_parameters_of, void_of, heads_qualified, qualified_of, unqualified_of, named_type_of, Tail, tail_of, first_tail_of, next_tail_of, every_time}
 use Rattle.grammar.specs.Outline.{Way, onward, ◌⨾◌, way_or, behind_or, perhaps, go_on, repeated, some_more, over, over_group, over_name, over_angles, over_parameter, over_tail, over_plain, over_type, behind_arguments}

@@ -2,7 +2,7 @@
 use Rattle.std.proofs.Common.{◌≡◌, ℕ, zero, suc, ◌≤◌, Bool, true, false, ◌&&◌, List, [], ◌∷◌, Option, Some, None, length, ◌⊎◌, inl, inr, if◌then◌else◌, refl, ap, subst, sym, ◌∙◌, arith}
 use Rattle.readings.specs.Readings.{next}
 use Rattle.dart_tokens.specs.declared.token.Kind.TheVariants as kind
-use Rattle.grammar.specs.declared.token.Token.{Token}
+use Rattle.dart_tokens.specs.declared.grouped_token.GroupedToken.{GroupedToken as Token}
 use Rattle.grammar.specs.Tokens.{is, is_name, is_type_name, heads, first_then}
 use Rattle.grammar.specs.Types.{heads_qualified}
 use Rattle.grammar.specs.Outline.{Way, onward, ◌⨾◌, way_or, behind_or, perhaps, repeated, some_more, over, over_group, over_name, over_angles, over_parameter, over_tail, over_plain, over_type}

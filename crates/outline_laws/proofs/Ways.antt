@@ -2,7 +2,7 @@
 use Rattle.std.proofs.Common.{◌≡◌, ℕ, zero, suc, Bool, true, false, ◌||◌, List, [], ◌∷◌, Option, Some, None, ◌⊎◌, inl, inr, if◌then◌else◌, refl, ap, subst, sym}
 use Rattle.readings.specs.Readings.{Test, next}
 use Rattle.dart_tokens.specs.declared.token.Kind.TheVariants as kind
-use Rattle.grammar.specs.declared.token.Token.{Token}
+use Rattle.dart_tokens.specs.declared.grouped_token.GroupedToken.{GroupedToken as Token}
 use Rattle.grammar.specs.Tokens.{is, is_either, heads}
 use Rattle.grammar.specs.Outline.{Way, onward, ◌⨾◌, behind_or, go_on, repeated, over, over_group, over_angles}
 use Rattle.outline_laws.proofs.KindTests.{far, within}

@@ -3,7 +3,7 @@
 ghost use Rattle.std.specs.Prelude.{◌≡◌, ◌≤◌, ℕ, List, Some, None};
 ghost use Rattle.readings.specs.Readings.{Reading};
 ghost use Rattle.dart_tree.specs.Tree.{Tree};
-ghost use Rattle.grammar.specs.declared.token.Token.{Token};
+ghost use Rattle.dart_tokens.specs.declared.grouped_token.GroupedToken.{GroupedToken as Token};
 ghost use Rattle.grammar.specs.Outline.{over_angles, over_type, behind_arguments};
 ghost use Rattle.grammar.specs.Descents.{take_type_arguments, lower};
 

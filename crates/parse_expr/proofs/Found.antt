@@ -4,7 +4,7 @@ use Rattle.std.specs.Option.{option_map}
 use Rattle.readings.specs.Descent.{Descent}
 use Rattle.dart_tree.specs.Tree.{Tree}
 use Rattle.unread_lists.specs.WithLists.{with_lists}
-use Rattle.grammar.specs.declared.token.Token.{Token}
+use Rattle.dart_tokens.specs.declared.grouped_token.GroupedToken.{GroupedToken as Token}
 use Rattle.grammar.specs.declared.level.Setting.TheVariants as setting
 use Rattle.grammar.specs.Descents.{Lower, lower, take_parameter_list}
 use Rattle.grammar.specs.Whole.{statements_at, most_nodes}

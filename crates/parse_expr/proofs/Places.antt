@@ -4,7 +4,7 @@ use Rattle.std.specs.List.{AllWithin, filter}
 use Rattle.std.specs.List.Sorted.{IsNonDecreasingBy, IsPartitionedBy}
 use Rattle.std.proofs.lemmas.Bool.Decides.{nat_tests}
 use Rattle.dart_tree.specs.declared.places.Place.{Place}
-use Rattle.grammar.specs.declared.token.Token.{Token}
+use Rattle.dart_tokens.specs.declared.grouped_token.GroupedToken.{GroupedToken as Token}
 use Rattle.grammar.specs.Whole.{tokens_over}
 
 abbrev from_to : ℕ → ℕ → Token → Bool

@@ -4,7 +4,7 @@ use Rattle.dart_tokens.specs.declared.token.Kind.TheVariants as kind
 use Rattle.readings.specs.Readings.{Reading, made}
 use Rattle.readings.specs.Descent.{bind, take_token, take_turn, take_where, take_make, take_inside}
 use Rattle.dart_tree.specs.Tree.{Tree}
-use Rattle.grammar.specs.declared.token.Token.{Token}
+use Rattle.dart_tokens.specs.declared.grouped_token.GroupedToken.{GroupedToken as Token}
 use Rattle.grammar.specs.Tokens.{is, is_name, heads_name, width, past}
 use Rattle.grammar.specs.Expressions.{cascaded_name_of, cascaded_index_of}
 use Rattle.grammar.specs.Descents.{take_section_head}

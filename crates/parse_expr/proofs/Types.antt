@@ -2,7 +2,7 @@
 use Rattle.std.proofs.Common.{◌≡◌, ℕ, suc, List, Result, refl, sym, subst}
 use Rattle.readings.specs.Readings.{Reading}
 use Rattle.dart_tree.specs.Tree.{Tree}
-use Rattle.grammar.specs.declared.token.Token.{Token}
+use Rattle.dart_tokens.specs.declared.grouped_token.GroupedToken.{GroupedToken as Token}
 use Rattle.grammar.specs.declared.level.Setting.{Setting}
 use Rattle.grammar.specs.Descents.{Lower, lower, take_type, take_plain_type}
 use Rattle.parse_leaves.specs.declared.miss.Miss.{Miss}

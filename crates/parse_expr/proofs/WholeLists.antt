@@ -4,7 +4,7 @@ use Rattle.readings.specs.Descent.{all_items}
 use Rattle.dart_tree.specs.Tree.{Tree, Trees, trees_of, more}
 use Rattle.dart_tree.specs.declared.places.Place.{Place}
 use Rattle.unread_lists.specs.WithLists.{with_lists, all_with_lists}
-use Rattle.grammar.specs.declared.token.Token.{Token}
+use Rattle.dart_tokens.specs.declared.grouped_token.GroupedToken.{GroupedToken as Token}
 use Rattle.grammar.specs.Descents.{lower}
 use Rattle.grammar.specs.Statements.{segment, error_of}
 use Rattle.grammar.specs.Whole.{statements_at, tokens_over}

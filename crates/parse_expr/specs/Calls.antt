@@ -3,7 +3,7 @@ use Rattle.std.specs.Prelude.{ℕ, ◌-◌, suc, nat_lt, List, length, drop, Opt
 use Rattle.readings.specs.Readings.{Reading}
 use Rattle.readings.specs.Descent.{Descent}
 use Rattle.dart_tree.specs.Tree.{Tree}
-use Rattle.grammar.specs.declared.token.Token.{Token}
+use Rattle.dart_tokens.specs.declared.grouped_token.GroupedToken.{GroupedToken as Token}
 use Rattle.grammar.specs.Descents.{Lower, lower, take_parameter_list}
 use Rattle.grammar.specs.Whole.{most_nodes, whole}
 

@@ -4,7 +4,7 @@ use Rattle.std.proofs.lemmas.List.{length-drop, append_assoc}
 use Rattle.readings.specs.Readings.{Reading, tokens_read, item_or_error}
 use Rattle.readings.specs.Descent.{Descent, take_items_at}
 use Rattle.dart_tree.specs.Tree.{Tree}
-use Rattle.grammar.specs.declared.token.Token.{Token}
+use Rattle.dart_tokens.specs.declared.grouped_token.GroupedToken.{GroupedToken as Token}
 use Rattle.grammar.specs.Statements.{segment, error_of}
 use Rattle.parse_leaves.specs.Loops.{items_out, items_end}
 use Rattle.parse_expr.specs.Items.{item_found, item_of}

@@ -3,7 +3,7 @@ use Rattle.std.specs.Prelude.{suc, List, take, drop, Option, Some, None}
 use Rattle.readings.specs.Readings.{Reading}
 use Rattle.readings.specs.Descent.{Descent}
 use Rattle.dart_tree.specs.Tree.{Tree}
-use Rattle.grammar.specs.declared.token.Token.{Token}
+use Rattle.dart_tokens.specs.declared.grouped_token.GroupedToken.{GroupedToken as Token}
 use Rattle.grammar.specs.Statements.{segment, error_of}
 
 -- what was found, or an error over the segment that comes next

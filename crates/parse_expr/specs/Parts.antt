@@ -2,7 +2,7 @@
 use Rattle.std.specs.Prelude.{ℕ, ◌-◌, List, length, drop}
 use Rattle.readings.specs.Descent.{Descent}
 use Rattle.dart_tree.specs.Tree.{Tree}
-use Rattle.grammar.specs.declared.token.Token.{Token}
+use Rattle.dart_tokens.specs.declared.grouped_token.GroupedToken.{GroupedToken as Token}
 use Rattle.grammar.specs.declared.level.Level.{Level}
 use Rattle.grammar.specs.Operators.{table}
 use Rattle.grammar.specs.Descents.{Lower}

@@ -6,7 +6,7 @@ ghost use Rattle.std.specs.List.Sorted.{IsNonDecreasingBy};
 ghost use Rattle.readings.specs.Readings.{tokens_read};
 ghost use Rattle.readings.specs.Descent.{all_items};
 ghost use Rattle.dart_tree.specs.Tree.{trees_of};
-ghost use Rattle.grammar.specs.declared.token.Token.{Token};
+ghost use Rattle.dart_tokens.specs.declared.grouped_token.GroupedToken.{GroupedToken as Token};
 ghost use Rattle.grammar.specs.Statements.{segment, error_of};
 ghost use Rattle.grammar.specs.Descents.{lower};
 ghost use Rattle.parse_leaves.specs.Answers.{Gives};

@@ -1,6 +1,6 @@
 -- Ways over the tokens of types.
 use Rattle.std.proofs.Common.{◌≡◌, ℕ, zero, suc, ◌-◌, ◌<◌, List, Some, None, refl, ap, ◌∙◌, arith}
-use Rattle.grammar.specs.declared.token.Token.{Token}
+use Rattle.dart_tokens.specs.declared.grouped_token.GroupedToken.{GroupedToken as Token}
 use Rattle.grammar.specs.Outline.{Way, ◌⨾◌, either_way, go_on, repeated, some_more, over_tail, over_plain, over_type}
 
 -- once more

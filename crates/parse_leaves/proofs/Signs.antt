@@ -9,7 +9,7 @@ use Rattle.grammar.specs.declared.level.Sign.TheVariants as sign
 use Rattle.grammar.specs.contracts.level.Level as levels_of
 use Rattle.grammar.specs.Tokens.{span_over}
 use Rattle.dart_tree.specs.declared.places.Span.{Span}
-use Rattle.grammar.specs.declared.token.Token.{Token}
+use Rattle.dart_tokens.specs.declared.grouped_token.GroupedToken.{GroupedToken as Token}
 use Rattle.grammar.specs.declared.level.Sign.{Sign}
 use Rattle.dart_tokens.specs.declared.token.Kind.{Kind}
 use Rattle.dart_tokens.specs.declared.token.Kind.TheVariants as kind

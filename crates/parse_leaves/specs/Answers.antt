@@ -3,7 +3,7 @@ use Rattle.std.specs.Prelude.{◌≡◌, ◌≤◌, ℕ, List, [], ◌∷◌, ta
 use Rattle.readings.specs.Readings.{Reading}
 use Rattle.dart_tokens.specs.declared.token.Kind.{Kind}
 use Rattle.dart_tree.specs.Tree.{Tree, trees_of}
-use Rattle.grammar.specs.declared.token.Token.{Token}
+use Rattle.dart_tokens.specs.declared.grouped_token.GroupedToken.{GroupedToken as Token}
 use Rattle.dart_tree.specs.Heights.{height, heights}
 use Rattle.grammar.specs.Tokens.{is}
 use Rattle.parse_leaves.specs.declared.miss.Miss.{Miss}

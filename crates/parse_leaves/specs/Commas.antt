@@ -2,7 +2,7 @@
 use Rattle.std.proofs.Common.{◌≡◌, ℕ, ◌-◌, ◌<◌, ◌++◌, List, [], ◌∷◌, Option, Some, None, refl}
 use Rattle.readings.specs.Readings.{Reading}
 use Rattle.readings.specs.Descent.{Descent, take_at_most, ◌▸◌}
-use Rattle.grammar.specs.declared.token.Token.{Token}
+use Rattle.dart_tokens.specs.declared.grouped_token.GroupedToken.{GroupedToken as Token}
 use Rattle.parse_leaves.specs.Loops.{continued, list_goes, list_stop}
 
 -- another one behind a comma

@@ -7,7 +7,7 @@ use Rattle.std.proofs.lemmas.List.{length-drop, take_min}
 use Rattle.dart_tokens.specs.declared.token.Kind.{Kind}
 use Rattle.readings.specs.Readings.{Reading, tokens_read, made}
 use Rattle.readings.specs.Descent.{Descent, bind, complete, take_make, take_inside, take_items, all_items}
-use Rattle.grammar.specs.declared.token.Token.{Token}
+use Rattle.dart_tokens.specs.declared.grouped_token.GroupedToken.{GroupedToken as Token}
 use Rattle.grammar.specs.Tokens.{is, width, past}
 use Rattle.parse_leaves.specs.Answers.{group}
 

@@ -8,7 +8,7 @@ use Rattle.readings.specs.Repetition.{IsFound, found_or}
 use Rattle.readings.specs.Levels.{onto_stays}
 use Rattle.readings.specs.Elements.{preceded}
 use Rattle.dart_tree.specs.Tree.{Tree}
-use Rattle.grammar.specs.declared.token.Token.{Token}
+use Rattle.dart_tokens.specs.declared.grouped_token.GroupedToken.{GroupedToken as Token}
 use Rattle.grammar.specs.Types.{separated}
 use Rattle.dart_tree.specs.Heights.{height, fits}
 

@@ -1,7 +1,7 @@
 -- Where a type stands, as far as that decides what belongs to it.
 use Rattle.readings.specs.Readings.{Test}
 use Rattle.dart_tokens.specs.declared.token.Kind.TheVariants as kind
-use Rattle.grammar.specs.declared.token.Token.{Token}
+use Rattle.dart_tokens.specs.declared.grouped_token.GroupedToken.{GroupedToken as Token}
 use Rattle.grammar.specs.Tokens.{heads, anything}
 use Rattle.grammar.specs.Types.{heads_field}
 use Rattle.grammar.specs.Expressions.{heads_nullable}

@@ -5,7 +5,7 @@ use Rattle.dart_tree.specs.Tree.{Tree, trees_of, part_of}
 use Rattle.dart_tree.specs.View.{for_initializer_of}
 use Rattle.dart_tree.specs.declared.statements.ForInitializer.{ForInitializer}
 use Rattle.dart_tree.specs.declared.statements.ForInitializer.TheVariants as for_initializer
-use Rattle.grammar.specs.declared.token.Token.{Token}
+use Rattle.dart_tokens.specs.declared.grouped_token.GroupedToken.{GroupedToken as Token}
 use Rattle.dart_tree.specs.Heights.{higher, height, heights}
 use Rattle.grammar.specs.Expressions.{string_text_of}
 use Rattle.grammar.specs.Statements.{has_clause}

@@ -6,7 +6,7 @@ use Rattle.dart_tree.specs.declared.operators.AssignmentOperator.{AssignmentOper
 use Rattle.readings.specs.Readings.{Reading, tokens_read}
 use Rattle.readings.specs.Descent.{Descent, take_onto, climb, bind, or_else, take_once, take_where, ◌▸◌}
 use Rattle.readings.specs.Levels.{levels_climb}
-use Rattle.grammar.specs.declared.token.Token.{Token}
+use Rattle.dart_tokens.specs.declared.grouped_token.GroupedToken.{GroupedToken as Token}
 use Rattle.grammar.specs.declared.level.Level.{Level}
 use Rattle.grammar.specs.declared.level.Setting.{Setting}
 use Rattle.grammar.specs.Tokens.{heads}

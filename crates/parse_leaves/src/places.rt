@@ -3,7 +3,7 @@
 ghost use Rattle.std.specs.Prelude.{◌≡◌, List};
 ghost use Rattle.dart_tree.specs.declared.places.Place.{Place};
 ghost use Rattle.dart_tree.specs.declared.places.Span.{Span};
-ghost use Rattle.grammar.specs.declared.token.Token.{Token};
+ghost use Rattle.dart_tokens.specs.declared.grouped_token.GroupedToken.{GroupedToken as Token};
 ghost use Rattle.readings.specs.Readings.{tokens_read};
 ghost use Rattle.dart_tree.specs.Heights.{higher};
 ghost use Rattle.grammar.specs.Tokens.{first_start, last_end, span_over, span_of, place_at, place_over, place_of, name_at, identifier_at};

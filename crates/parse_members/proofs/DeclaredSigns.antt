@@ -5,7 +5,7 @@ use Rattle.dart_tree.specs.declared.places.Span.{Span}
 use Rattle.dart_tree.specs.declared.operators.BinaryOperatorKind.{BinaryOperatorKind}
 use Rattle.dart_tree.specs.declared.operators.DeclaredOperator.{DeclaredOperator}
 use Rattle.readings.specs.Readings.{Reading}
-use Rattle.grammar.specs.declared.token.Token.{Token}
+use Rattle.dart_tokens.specs.declared.grouped_token.GroupedToken.{GroupedToken as Token}
 use Rattle.grammar.specs.declared.level.Sign.{Sign}
 use Rattle.grammar.specs.declared.level.Sign.TheVariants as sign
 use Rattle.grammar.specs.Tokens.{span_over}

@@ -2,7 +2,7 @@
 
 ghost use Rattle.std.specs.Prelude.{◌≡◌, ◌≤◌, List, []};
 ghost use Rattle.readings.specs.Descent.{take_token, take_given, take_maybe, take_make, take_inside, ◌▸◌};
-ghost use Rattle.grammar.specs.declared.token.Token.{Token};
+ghost use Rattle.dart_tokens.specs.declared.grouped_token.GroupedToken.{GroupedToken as Token};
 ghost use Rattle.grammar.specs.Tokens.{is, width, past};
 ghost use Rattle.grammar.specs.Operators.{heads_sign};
 ghost use Rattle.grammar.specs.Declarations.{declared_operator, is_declared, take_declared_sign, tilde_of, index_of};

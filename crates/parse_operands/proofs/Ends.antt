@@ -2,7 +2,7 @@
 use Rattle.std.proofs.Common.{◌≡◌, ◌++◌, List, [], ◌∷◌, ap, ◌∙◌}
 use Rattle.dart_tree.specs.Tree.{Tree, trees_of}
 use Rattle.dart_tree.specs.Heights.{heights}
-use Rattle.grammar.specs.declared.token.Token.{Token}
+use Rattle.dart_tokens.specs.declared.grouped_token.GroupedToken.{GroupedToken as Token}
 use Rattle.grammar.specs.Expressions.{string_text_of}
 use Rattle.parse_leaves.specs.Sizes.{heights_ended}
 

@@ -5,7 +5,7 @@ use Rattle.dart_tree.specs.Tree.{Tree}
 use Rattle.dart_tree.specs.declared.operators.AssignmentOperator.{AssignmentOperator}
 use Rattle.readings.specs.Readings.{Reading, tokens_read}
 use Rattle.readings.specs.Descent.{Descent, bind, climb, take_onto, take_chain, take_where, ◌▸◌}
-use Rattle.grammar.specs.declared.token.Token.{Token}
+use Rattle.dart_tokens.specs.declared.grouped_token.GroupedToken.{GroupedToken as Token}
 use Rattle.grammar.specs.declared.level.Level.{Level}
 use Rattle.grammar.specs.declared.level.Setting.{Setting}
 use Rattle.grammar.specs.Tokens.{heads}

@@ -4,7 +4,7 @@ use Rattle.std.proofs.Math.Seq.{drop-cons}
 use Rattle.dart_tree.specs.Tree.{Tree}
 use Rattle.readings.specs.Readings.{Reading}
 use Rattle.readings.specs.Descent.{bind, take_onto, climb}
-use Rattle.grammar.specs.declared.token.Token.{Token}
+use Rattle.dart_tokens.specs.declared.grouped_token.GroupedToken.{GroupedToken as Token}
 use Rattle.grammar.specs.declared.level.Level.{Level}
 use Rattle.grammar.specs.declared.level.Setting.{Setting}
 use Rattle.grammar.specs.Expressions.{times, side_with, is_open}

@@ -3,7 +3,7 @@ use Rattle.std.proofs.Common.{◌≡◌, ℕ, zero, suc, ◌+◌, ◌-◌, ◌<�
 use Rattle.std.proofs.lemmas.List.{drop-drop}
 use Rattle.dart_tree.specs.Tree.{Tree, trees_of}
 use Rattle.dart_tree.specs.Heights.{higher, height, heights}
-use Rattle.grammar.specs.declared.token.Token.{Token}
+use Rattle.dart_tokens.specs.declared.grouped_token.GroupedToken.{GroupedToken as Token}
 use Rattle.grammar.specs.Statements.{is_case, case_size_at, ends_with_default}
 use Rattle.parse_leaves.specs.Sizes.{higher_zero, zero_higher, higher_twice}
 

@@ -4,7 +4,7 @@ use Rattle.readings.specs.Readings.{Reading, tokens_read}
 use Rattle.readings.specs.Descent.{Descent, bind, take_token, take_maybe, take_many, take_make, take_only, ◌▸◌}
 use Rattle.dart_tokens.specs.declared.token.Kind.TheVariants as kind
 use Rattle.dart_tree.specs.Tree.{Tree}
-use Rattle.grammar.specs.declared.token.Token.{Token}
+use Rattle.dart_tokens.specs.declared.grouped_token.GroupedToken.{GroupedToken as Token}
 use Rattle.grammar.specs.Tokens.{is}
 use Rattle.grammar.specs.Statements.{has_clause, try_of}
 use Rattle.grammar.specs.Descents.{Lower, take_clause, take_try}

@@ -4,7 +4,7 @@ use Rattle.readings.specs.Readings.{Reading, tokens_read, made}
 use Rattle.readings.specs.Descent.{Descent, bind, or_else, take_given, take_token, take_turn, take_maybe, take_where, ◌▸◌}
 use Rattle.dart_tokens.specs.declared.token.Kind.TheVariants as kind
 use Rattle.dart_tree.specs.Tree.{Tree, part_of, if_statement}
-use Rattle.grammar.specs.declared.token.Token.{Token}
+use Rattle.dart_tokens.specs.declared.grouped_token.GroupedToken.{GroupedToken as Token}
 use Rattle.grammar.specs.Tokens.{is, heads, place_over}
 use Rattle.grammar.specs.Statements.{ends_open, with_else}
 use Rattle.grammar.specs.Descents.{Lower, take_condition, take_if}

@@ -4,7 +4,7 @@ use Rattle.std.proofs.lemmas.List.{take_all, drop_all}
 use Rattle.readings.specs.Readings.{Reading}
 use Rattle.readings.specs.Descent.{Descent, all_items, take_items_at}
 use Rattle.dart_tree.specs.Tree.{Tree}
-use Rattle.grammar.specs.declared.token.Token.{Token}
+use Rattle.dart_tokens.specs.declared.grouped_token.GroupedToken.{GroupedToken as Token}
 use Rattle.grammar.specs.Statements.{error_of}
 
 -- there are no tokens

@@ -6,7 +6,7 @@ ghost use Rattle.readings.specs.Descent.{take_token, take_maybe, take_many, take
 ghost use Rattle.dart_tree.specs.Tree.{Tree, part_of};
 ghost use Rattle.dart_tree.specs.Heights.{higher, height, height_of_part};
 ghost use Rattle.grammar.specs.Tokens.{is, is_name, width, past};
-ghost use Rattle.grammar.specs.declared.token.Token.{Token};
+ghost use Rattle.dart_tokens.specs.declared.grouped_token.GroupedToken.{GroupedToken as Token};
 ghost use Rattle.grammar.specs.Types.{behind_token};
 ghost use Rattle.grammar.specs.Statements.{caught, clause_with, on_of, clause_of, has_clause};
 ghost use Rattle.grammar.specs.Descents.{lower, take_catch, take_clause, take_try};

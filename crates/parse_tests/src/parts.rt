@@ -64,13 +64,13 @@ fn found(alloc: Global, case: &str) -> Result<String, Fail> {
     let (depth, text) = rest.split_once(" ").ok_or("no text")?;
     let text = Text::from_str(alloc, text)?;
     let scanned = scan(alloc, &text)?;
-    let tokens = scanned.tokens.as_slice();
-    let groups = group(alloc, tokens)?;
-    let tokens = grouped(alloc, tokens, &groups)?;
-    if !are_in_order(&tokens) {
+    let groups = group(alloc, scanned.tokens.as_slice())?;
+    let grouped = grouped(alloc, scanned.tokens, &groups)?;
+    let tokens = grouped.read();
+    if !are_in_order(tokens) {
         return Ok(String::from_str(alloc, "out of order")?);
     }
-    match end(alloc, what, &tokens, depth.parse::<u32>()?)? {
+    match end(alloc, what, tokens, depth.parse::<u32>()?)? {
         Some(end) => Ok(format!(in alloc; "{end}")?),
         None => Ok(String::from_str(alloc, "none")?),
     }

@@ -74,16 +74,16 @@ fn expression(
 pub fn read(alloc: Global, text: &str, depth: u32) -> Result<String, TextRefusal> {
     let text = Text::from_str(alloc, text)?;
     let scanned = scan(alloc, &text)?;
-    let tokens = scanned.tokens.as_slice();
-    let groups = group(alloc, tokens)?;
-    let tokens = grouped(alloc, tokens, &groups)?;
-    if !are_in_order(&tokens) {
+    let groups = group(alloc, scanned.tokens.as_slice())?;
+    let grouped = grouped(alloc, scanned.tokens, &groups)?;
+    let tokens = grouped.read();
+    if !are_in_order(tokens) {
         return Ok(String::from_str(alloc, "out of order")?);
     }
-    if let Some(text) = statement(alloc, &scanned.words, &tokens, depth)? {
+    if let Some(text) = statement(alloc, &scanned.words, tokens, depth)? {
         return Ok(text);
     }
-    match expression(alloc, &scanned.words, &tokens, depth)? {
+    match expression(alloc, &scanned.words, tokens, depth)? {
         Some(text) => Ok(text),
         None => Ok(String::from_str(alloc, "none")?),
     }

@@ -4,7 +4,7 @@ use Rattle.readings.specs.Readings.{either}
 use Rattle.readings.specs.Descent.{Descent, ◌⊘◌}
 use Rattle.dart_tokens.specs.declared.token.Kind.TheVariants as kind
 use Rattle.dart_tree.specs.Tree.{Tree}
-use Rattle.grammar.specs.declared.token.Token.{Token}
+use Rattle.dart_tokens.specs.declared.grouped_token.GroupedToken.{GroupedToken as Token}
 use Rattle.grammar.specs.declared.level.Setting.TheVariants as setting
 use Rattle.grammar.specs.Tokens.{is, is_name, is_type_name, heads, heads_name}
 use Rattle.grammar.specs.Types.{behind_token, listed_or_none}

@@ -9,7 +9,7 @@ use Rattle.dart_tree.specs.Nodes.{list_of, parts_of}
 use Rattle.dart_tree.specs.Places.{place_of, span_of}
 use Rattle.dart_tree.specs.declared.places.Place.{Place}
 use Rattle.unread_lists.specs.WithLists.{with_lists}
-use Rattle.grammar.specs.declared.token.Token.{Token}
+use Rattle.dart_tokens.specs.declared.grouped_token.GroupedToken.{GroupedToken as Token}
 use Rattle.grammar.specs.Tokens.{width, past, span_over, place_over}
 use Rattle.grammar.specs.Whole.{tokens_over}
 use Rattle.node_counts.specs.Rising.{Rise, HoldGroups}

@@ -5,7 +5,7 @@ use Rattle.readings.specs.Lists.{each_flat}
 use Rattle.dart_tree.specs.Tree.{Tree}
 use Rattle.dart_tree.specs.Nodes.{parts_of}
 use Rattle.dart_tree.specs.Places.{span_of}
-use Rattle.grammar.specs.declared.token.Token.{Token}
+use Rattle.dart_tokens.specs.declared.grouped_token.GroupedToken.{GroupedToken as Token}
 use Rattle.place_laws.specs.Standing.{nodes_at, InOrder, PartsInOrder, StandsOnTokens}
 
 -- a node stands on its tokens, with its parts in order

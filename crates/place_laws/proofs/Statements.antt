@@ -6,7 +6,7 @@ use Rattle.dart_tokens.specs.declared.token.Kind.TheVariants as kind
 use Rattle.dart_tree.specs.Tree.{Tree, trees_of}
 use Rattle.dart_tree.specs.Nodes.{list_of}
 use Rattle.unread_lists.specs.WithLists.{list_read, all_with_lists}
-use Rattle.grammar.specs.declared.token.Token.{Token}
+use Rattle.dart_tokens.specs.declared.grouped_token.GroupedToken.{GroupedToken as Token}
 use Rattle.grammar.specs.declared.level.Setting.TheVariants as setting
 use Rattle.grammar.specs.Tokens.{is, is_name, heads, heads_name, anything, place_over}
 use Rattle.grammar.specs.Types.{inner, heads_field}

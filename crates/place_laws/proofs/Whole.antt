@@ -8,7 +8,7 @@ use Rattle.dart_tree.specs.Nodes.{list_of, parts_of}
 use Rattle.dart_tree.specs.Places.{place_of}
 use Rattle.dart_tree.specs.declared.places.Place.{Place}
 use Rattle.unread_lists.specs.WithLists.{with_lists}
-use Rattle.grammar.specs.declared.token.Token.{Token}
+use Rattle.dart_tokens.specs.declared.grouped_token.GroupedToken.{GroupedToken as Token}
 use Rattle.grammar.specs.Tokens.{place_over}
 use Rattle.grammar.specs.Statements.{segment, error_of}
 use Rattle.grammar.specs.Descents.{lower}

@@ -4,7 +4,7 @@ use Rattle.std.specs.List.{flat_map}
 use Rattle.dart_tree.specs.Tree.{Tree}
 use Rattle.dart_tree.specs.Nodes.{parts_of}
 use Rattle.dart_tree.specs.Places.{place_of, span_of}
-use Rattle.grammar.specs.declared.token.Token.{Token}
+use Rattle.dart_tokens.specs.declared.grouped_token.GroupedToken.{GroupedToken as Token}
 use Rattle.grammar.specs.Tokens.{span_over}
 use Rattle.grammar.specs.Whole.{tokens_over}
 

@@ -3,7 +3,7 @@
 ghost use Rattle.std.specs.Prelude.{Bool, List, ℕ};
 ghost use Rattle.readings.specs.Leading.{Each};
 ghost use Rattle.dart_tokens.specs.declared.token.Token.{Token as TextToken};
-ghost use Rattle.grammar.specs.declared.token.Token.{Token};
+ghost use Rattle.dart_tokens.specs.declared.grouped_token.GroupedToken.{GroupedToken as Token};
 ghost use Rattle.grammar.specs.Tokens.{grammar_tokens};
 ghost use Rattle.grammar.specs.Whole.{unit_of};
 ghost use Rattle.node_counts.specs.Rising.{Rise, HoldGroups, TextRises};

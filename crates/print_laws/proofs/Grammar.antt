@@ -5,7 +5,7 @@ use Rattle.dart_tokens.specs.declared.token.Kind.{Kind}
 use Rattle.dart_tokens.specs.declared.token.Token.{Token as TextToken}
 use Rattle.dart_tokens.specs.Kinds.{opens}
 use Rattle.dart_tokens.specs.Groups.{partners_of}
-use Rattle.grammar.specs.declared.token.Token.{Token}
+use Rattle.dart_tokens.specs.declared.grouped_token.GroupedToken.{GroupedToken as Token}
 use Rattle.grammar.specs.Tokens.{is_unopened, kept_before, is_closed_by, grouped, ungrouped, token_of, tokens_from, grammar_tokens}
 use Rattle.tree_print.specs.Printed.{adjoins}
 use Rattle.range_laws.specs.Agreeing.{Twins, Agree, adjoins_next, AdjoinAlike}

@@ -19,7 +19,7 @@ use Rattle.readings.specs.Readings.{either}
 use Rattle.readings.specs.Descent.{Descent, take_token, take_turn, ◌⊘◌}
 use Rattle.dart_tokens.specs.declared.token.Kind.TheVariants as kind
 use Rattle.dart_tree.specs.Tree.{Tree, part_of}
-use Rattle.grammar.specs.declared.token.Token.{Token}
+use Rattle.dart_tokens.specs.declared.grouped_token.GroupedToken.{GroupedToken as Token}
 use Rattle.grammar.specs.declared.level.Setting.TheVariants as setting
 use Rattle.grammar.specs.Tokens.{is, heads, heads_name}
 use Rattle.grammar.specs.Types.{behind_token, listed_or_none}

@@ -5,7 +5,7 @@ use Rattle.readings.specs.Descent.{Descent, bind, or_else, take_token, take_give
 use Rattle.dart_tree.specs.Tree.{Trees}
 use Rattle.dart_tree.specs.Bare.{all_bare_with}
 use Rattle.dart_tree.specs.declared.places.Place.{Place}
-use Rattle.grammar.specs.declared.token.Token.{Token}
+use Rattle.dart_tokens.specs.declared.grouped_token.GroupedToken.{GroupedToken as Token}
 use Rattle.grammar.specs.Tokens.{is, width, past, place_over}
 use Rattle.range_laws.specs.Agreeing.{Twins, adjoins_next, Agree, AdjoinAlike}
 use Rattle.dart_tokens.specs.declared.token.Kind.TheVariants as kind

@@ -4,7 +4,7 @@ use Rattle.dart_tree.specs.Tree.{Tree, Trees, Part, trees_of, part_of}
 use Rattle.dart_tree.specs.Bare.{bare_of, bare_with, all_bare_with, part_bare_with}
 use Rattle.dart_tree.specs.Heights.{height, heights, height_of_part}
 use Rattle.unread_lists.specs.WithLists.{list_read, with_lists, all_with_lists, part_with_lists}
-use Rattle.grammar.specs.declared.token.Token.{Token}
+use Rattle.dart_tokens.specs.declared.grouped_token.GroupedToken.{GroupedToken as Token}
 use Rattle.grammar.specs.Types.{behind_token, listed_or_none}
 use Rattle.grammar.specs.Expressions.{reads_on}
 use Rattle.grammar.specs.Statements.{ends_open}

@@ -15,7 +15,7 @@ use Rattle.range_laws.proofs.Same.{Same, ListSame, all_same, part_same, behind_s
 use Rattle.range_laws.proofs.Expressions.{Followed, Equal, mark, named, some_same, option_bare, follows_separated, type_parameters_follow, parameter_list_follows, type_follows, plain_type_follows, simple_follows, unary_follows, operand_follows, section_head_follows, section_follows, expression_follows}
 use Rattle.dart_tokens.specs.declared.token.Kind.TheVariants as kind
 use Rattle.dart_tree.specs.Tree.{Tree, trees_of, part_of}
-use Rattle.grammar.specs.declared.token.Token.{Token}
+use Rattle.dart_tokens.specs.declared.grouped_token.GroupedToken.{GroupedToken as Token}
 use Rattle.grammar.specs.declared.level.Setting.TheVariants as setting
 use Rattle.grammar.specs.Tokens.{is, heads, heads_name, anything}
 use Rattle.grammar.specs.Types.{inner, heads_field}

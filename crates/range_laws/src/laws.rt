@@ -1,7 +1,7 @@
 //! What of a tree depends on where its tokens stand.
 
 ghost use Rattle.std.specs.Prelude.{◌≡◌, Bool, List};
-ghost use Rattle.grammar.specs.declared.token.Token.{Token};
+ghost use Rattle.dart_tokens.specs.declared.grouped_token.GroupedToken.{GroupedToken as Token};
 ghost use Rattle.grammar.specs.Whole.{unit_of};
 ghost use Rattle.dart_tree.specs.Bare.{bare_of};
 ghost use Rattle.node_counts.specs.Rising.{Rise};

@@ -2,7 +2,7 @@
 use Rattle.std.proofs.Common.{◌≡◌, ℕ, ◌+◌, true, false, List, [], ◌∷◌, ◌++◌, length, map, replicate, refl}
 use Rattle.dart_tokens.specs.declared.token.Kind.{Kind}
 use Rattle.dart_tokens.specs.declared.token.Kind.TheVariants as kind
-use Rattle.grammar.specs.declared.token.Token.{Token}
+use Rattle.dart_tokens.specs.declared.grouped_token.GroupedToken.{GroupedToken as Token}
 use Rattle.segment_faults.specs.declared.fault.SegmentFault.{SegmentFault}
 use Rattle.segment_faults.specs.declared.fault.SegmentFault.TheVariants as fault
 use Rattle.segment_faults.specs.Nesting.{groups_around, is_deep, is_long}

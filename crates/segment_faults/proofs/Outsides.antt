@@ -1,6 +1,6 @@
 -- Tokens outside groups, one after the other.
 use Rattle.std.proofs.Common.{◌≡◌, ℕ, zero, suc, ◌+◌, ◌-◌, ◌<◌, ◌≤◌, Bool, true, false, List, [], ◌∷◌, drop, filter, length, if◌then◌else◌, refl, ◌∙◌, arith}
-use Rattle.grammar.specs.declared.token.Token.{Token}
+use Rattle.dart_tokens.specs.declared.grouped_token.GroupedToken.{GroupedToken as Token}
 use Rattle.segment_faults.specs.Nesting.{is_punctuation, outside}
 
 -- how many lexemes of punctuation stand outside groups, where the first so many tokens stand in one

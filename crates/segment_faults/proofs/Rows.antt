@@ -1,7 +1,7 @@
 -- Tables in parts.
 use Rattle.std.proofs.Common.{◌≡◌, ℕ, Bool, true, false, List, [], ◌∷◌, ◌++◌, drop, Option, Some, None, refl, sym, ◌∙◌}
 use Rattle.std.specs.Option.{option_or}
-use Rattle.grammar.specs.declared.token.Token.{Token}
+use Rattle.dart_tokens.specs.declared.grouped_token.GroupedToken.{GroupedToken as Token}
 use Rattle.segment_faults.specs.Table.{Row, row_at, fault_at, words, asynchronous, lexemes, forms}
 use Rattle.segment_faults.specs.declared.fault.SegmentFault.{SegmentFault}
 

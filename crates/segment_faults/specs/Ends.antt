@@ -1,6 +1,6 @@
 -- Where groups end.
 use Rattle.std.specs.Prelude.{◌≡◌, ℕ, zero, suc, ◌+◌, ◌<◌, ◌==◌, List, [], ◌∷◌, length, take, get_or, if◌then◌else◌}
-use Rattle.grammar.specs.declared.token.Token.{Token}
+use Rattle.dart_tokens.specs.declared.grouped_token.GroupedToken.{GroupedToken as Token}
 
 -- how many groups of some tokens end with the token at a place: those of the tokens before it of which it is the last one
 abbrev pub ending : (place : ℕ) → List Token → ℕ

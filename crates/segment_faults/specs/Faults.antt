@@ -1,7 +1,7 @@
 -- What is wrong with a segment of a text that derives nothing. It is known by the place of its first token in the text and by the number of its tokens, those in its groups and interpolations among them.
 use Rattle.std.specs.Prelude.{ℕ, zero, suc, List, Option, None, unwrap_or, if◌then◌else◌}
 use Rattle.std.specs.Option.{option_or}
-use Rattle.grammar.specs.declared.token.Token.{Token}
+use Rattle.dart_tokens.specs.declared.grouped_token.GroupedToken.{GroupedToken as Token}
 use Rattle.segment_faults.specs.declared.fault.SegmentFault.{SegmentFault}
 use Rattle.segment_faults.specs.declared.fault.SegmentFault.TheVariants as fault
 use Rattle.segment_faults.specs.Table.{fault_at}

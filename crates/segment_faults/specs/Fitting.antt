@@ -1,6 +1,6 @@
 -- Where the table fits.
 use Rattle.std.specs.Prelude.{◌≡◌, ℕ, ◌+◌, ◌<◌, ◌≤◌, List, Some, None}
-use Rattle.grammar.specs.declared.token.Token.{Token}
+use Rattle.dart_tokens.specs.declared.grouped_token.GroupedToken.{GroupedToken as Token}
 use Rattle.segment_faults.specs.declared.fault.SegmentFault.{SegmentFault}
 use Rattle.segment_faults.specs.Table.{fault_at}
 

@@ -2,7 +2,7 @@
 use Rattle.std.specs.Prelude.{◌≡◌, ℕ, zero, suc, ◌+◌, ◌<◌, Bool, true, false, ◌||◌, nat_lt, List, [], ◌∷◌, length, take, drop, get_or, filter, if◌then◌else◌}
 use Rattle.dart_tokens.specs.declared.token.Kind.{Kind}
 use Rattle.dart_tokens.specs.Kinds.{Bracket, Round, Square, Curly, Interpolation, Sort, PlainName, GrammarName, AsynchronousName, BuiltInName, BuiltInType, ReservedWord, Number, StringPart, Opening, Closing, Mark, sort_of}
-use Rattle.grammar.specs.declared.token.Token.{Token}
+use Rattle.dart_tokens.specs.declared.grouped_token.GroupedToken.{GroupedToken as Token}
 
 -- Groups.
 

@@ -3,7 +3,7 @@ use Rattle.std.specs.Prelude.{ℕ, zero, suc, Bool, false, ◌&&◌, List, [], �
 use Rattle.dart_tokens.specs.declared.token.Kind.{Kind}
 use Rattle.dart_tokens.specs.declared.token.Kind.TheVariants as kind
 use Rattle.readings.specs.Readings.{Test, next, either}
-use Rattle.grammar.specs.declared.token.Token.{Token}
+use Rattle.dart_tokens.specs.declared.grouped_token.GroupedToken.{GroupedToken as Token}
 use Rattle.grammar.specs.Tokens.{is, is_either, is_name, heads, first_then, group_then, adjoins}
 use Rattle.segment_faults.specs.declared.fault.SegmentFault.{SegmentFault}
 use Rattle.segment_faults.specs.declared.fault.SegmentFault.TheVariants as fault

@@ -84,5 +84,6 @@ fn print_tokens(alloc: Global, words: &[PlainText], tokens: &[Token]) -> Result<
 pub fn print(alloc: Global, unit: &Unit) -> Result<String, AllocError>
     ensures { IfOk result (λ text. string_bytes text ≡ printed unit.now.words unit.now.tokens) }
 {
-    print_tokens(alloc, unit.words.as_slice(), unit.tokens.as_slice())
+    let tokens = unit.tokens.listed(alloc)?;
+    print_tokens(alloc, unit.words.as_slice(), &tokens)
 }

@@ -30,8 +30,9 @@ fn faults_text(alloc: Global, unit: &Unit, in_tree: &[TreeFault]) -> Result<Stri
     for each in unit.lexical_faults.as_slice() {
         add_fault(alloc, &mut faults, each.kind, each.start, each.end)?;
     }
+    let tokens = unit.tokens.listed(alloc)?;
     for each in unit.group_faults.as_slice() {
-        if let Some(token) = unit.tokens.as_slice().get(each.token as usize) {
+        if let Some(token) = tokens.get(each.token as usize) {
             add_fault(alloc, &mut faults, each.kind, token.start, token.end)?;
         }
     }

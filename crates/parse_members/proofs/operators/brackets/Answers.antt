@@ -2,7 +2,7 @@
 use Rattle.std.proofs.Common.{List, [], refl, sym, ◌∙◌}
 use Rattle.dart_tokens.specs.declared.token.Kind.TheVariants as kind
 use Rattle.readings.specs.Descent.{take_given}
-use Rattle.grammar.specs.declared.token.Token.{Token}
+use Rattle.dart_tokens.specs.declared.grouped_token.GroupedToken.{GroupedToken as Token}
 use Rattle.parse_leaves.specs.Groups.{tested_cut, tested_whole}
 use Rattle.parse_members.proofs.operators.brackets.Goals as goal
 

@@ -1,6 +1,6 @@
 use Rattle.std.proofs.Common.{◌≡◌, ◌<◌, ◌≤◌, ℕ, ◌+◌, ◌-◌, take, get_or, length, arith}
 use Rattle.dart_tokens.specs.declared.token.Kind.TheVariants as kind
-use Rattle.grammar.specs.declared.token.Token.{Token}
+use Rattle.dart_tokens.specs.declared.grouped_token.GroupedToken.{GroupedToken as Token}
 use Rattle.segment_faults.specs.Ends.{ending}
 use Rattle.segment_faults.proofs.Around.{ending-most, ends-more, ends-same}
 use Rattle.segment_faults.proofs.depths.end_group.Goals as goal

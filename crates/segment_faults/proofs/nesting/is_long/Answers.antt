@@ -1,7 +1,7 @@
 use Rattle.std.proofs.Common.{◌≡◌, ◌≤◌, ℕ, suc, ◌+◌, ◌∷◌, drop, get_or, if◌then◌else◌, true, false, sym, ◌∙◌, arith}
 use Rattle.std.proofs.lemmas.List.{drop_more}
 use Rattle.dart_tokens.specs.declared.token.Kind.TheVariants as kind
-use Rattle.grammar.specs.declared.token.Token.{Token}
+use Rattle.dart_tokens.specs.declared.grouped_token.GroupedToken.{GroupedToken as Token}
 use Rattle.segment_faults.specs.Nesting.{is_punctuation}
 use Rattle.segment_faults.proofs.Outsides.{counted_inside, counted_outside}
 use Rattle.segment_faults.proofs.nesting.is_long.Goals as goal

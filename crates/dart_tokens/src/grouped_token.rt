@@ -1,13 +1,13 @@
 //! Tokens as the grammar reads them.
 
-use dart_tokens::Kind;
+use crate::token::Kind;
 
 /// A token with the group that it opens.
 ///
 /// A bracket that closes no group is no token of the grammar. A group that no bracket closes is a
 /// group all the same, so that what comes behind it is known by the number of tokens up to there.
 #[derive(Clone, Copy, Debug, PartialEq, Eq)]
-pub struct Token {
+pub struct GroupedToken {
     /// What it is.
     pub kind: Kind,
     /// The offset of its first UTF-16 code unit.
