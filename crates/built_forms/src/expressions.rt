@@ -120,7 +120,7 @@ fn is_one_argument(outside: &[Meaning], arguments: &[Argument]) -> bool
 fn are_arguments(outside: &[Meaning], list: &ArgumentList) -> bool
     ensures { result ≡ are_arguments outside.now list.now }
 {
-    is_one_argument(outside, &list.arguments)
+    is_one_argument(outside, &list.node.arguments)
 }
 
 /// Whether an expression that stands as a statement is built.

@@ -1,10 +1,11 @@
 -- Each part of a tree has fewer nodes than the tree.
 use Rattle.std.specs.Prelude.{◌+◌, ◌≤◌, max, List, [], ◌∷◌, Option, Some, None}
+use Rattle.std.specs.Global.{Box}
 use Rattle.std.proofs.Common.{arith}
 use denote.Param.Weighed.{most}
 use Rattle.dart_tree.specs.Tree.{Tree, trees_of}
-use Rattle.dart_tree.specs.Numbers.{nodes_in, nodes_in_all}
-use Rattle.dart_tree.specs.View.{written_type_of, expr_of, string_literal_of, string_element_of, body_of, function_of, stmt_of}
+use Rattle.dart_tree.specs.Numbers.{nodes_in, nodes_in_all, nodes_in_part}
+use Rattle.dart_tree.specs.View.{written_type_of, expr_of, string_literal_of, string_element_of, body_of, function_of, for_initializer_of, stmt_of}
 use Rattle.dart_tree.specs.Parts.{type_arguments_of, type_parameter_of, parameter_type_of, map_entry_of, argument_list_of, argument_of, parameter_list_of, parameter_of, variable_list_of, variable_of, block_of, switch_case_of, catch_clause_of}
 use Rattle.dart_tree.specs.declared.types.WrittenTypeNode.{WrittenTypeNode}
 use Rattle.dart_tree.specs.declared.types.WrittenTypeNode.TheVariants as written_type
@@ -20,12 +21,15 @@ use Rattle.dart_tree.specs.declared.functions.FunctionNode.{FunctionNode}
 use Rattle.dart_tree.specs.declared.functions.FunctionNode.TheVariants as function
 use Rattle.dart_tree.specs.declared.statements.StmtNode.{StmtNode}
 use Rattle.dart_tree.specs.declared.statements.StmtNode.TheVariants as stmt
+use Rattle.dart_tree.specs.declared.statements.ForInitializer.{ForInitializer}
 use Rattle.dart_tree.specs.declared.statements.ForInitializer.TheVariants as for_initializer
-use Rattle.dart_tree.specs.declared.types.TypeArguments.TheInside as type_arguments_inside
+use Rattle.dart_tree.specs.declared.statements.TryParts.{TryParts}
+use Rattle.dart_tree.specs.declared.places.Place.{Place}
+use Rattle.dart_tree.specs.declared.types.TypeArgumentsNode.{TypeArgumentsNode}
 use Rattle.dart_tree.specs.declared.types.TypeParameter.TheInside as type_parameter_inside
 use Rattle.dart_tree.specs.declared.types.ParameterType.TheInside as parameter_type_inside
 use Rattle.dart_tree.specs.declared.expressions.MapEntry.TheInside as map_entry_inside
-use Rattle.dart_tree.specs.declared.expressions.ArgumentList.TheInside as argument_list_inside
+use Rattle.dart_tree.specs.declared.expressions.ArgumentListNode.{ArgumentListNode}
 use Rattle.dart_tree.specs.declared.expressions.Argument.TheInside as argument_inside
 use Rattle.dart_tree.specs.declared.functions.ParameterList.TheInside as parameter_list_inside
 use Rattle.dart_tree.specs.declared.functions.Parameter.TheInside as parameter_inside
@@ -34,7 +38,7 @@ use Rattle.dart_tree.specs.declared.functions.Variable.TheInside as variable_ins
 use Rattle.dart_tree.specs.declared.statements.Block.TheInside as block_inside
 use Rattle.dart_tree.specs.declared.statements.SwitchCase.TheInside as switch_case_inside
 use Rattle.dart_tree.specs.declared.statements.CatchClause.TheInside as catch_clause_inside
-use Rattle.dart_tree.specs.declared.expressions.Argument.TheDeep.{deep-Argument, deep-ArgumentList, deep-Block, deep-BodyNode, deep-CatchClause, deep-ExprNode, deep-FunctionNode, deep-MapEntry, deep-Parameter, deep-ParameterList, deep-ParameterType, deep-StmtNode, deep-StringElementNode, deep-StringLiteralNode, deep-SwitchCase, deep-TypeArguments, deep-TypeParameter, deep-Variable, deep-VariableList, deep-WrittenTypeNode}
+use Rattle.dart_tree.specs.declared.expressions.Argument.TheDeep.{deep-Argument, deep-ArgumentListNode, deep-Block, deep-BodyNode, deep-CatchClause, deep-ExprNode, deep-ForInitializer, deep-FunctionNode, deep-MapEntry, deep-Parameter, deep-ParameterList, deep-ParameterType, deep-StmtNode, deep-StringElementNode, deep-StringLiteralNode, deep-SwitchCase, deep-TypeArgumentsNode, deep-TypeParameter, deep-Variable, deep-VariableList, deep-WrittenTypeNode}
 
 -- a list is as large as its largest tree
 pub most_le-nodes_in_all : (ts : List Tree) → most (λ t. nodes_in t + 1) ts ≤ nodes_in_all (trees_of ts) + 1
@@ -46,8 +50,8 @@ pub written_type_falls : (n : WrittenTypeNode) → max (deep-WrittenTypeNode n) 
 written_type_falls (written_type.Void at) = omega arith
 written_type_falls (written_type.Named at prefix name None nullable) = omega arith
 written_type_falls (written_type.Named at prefix name (Some arguments) nullable) = omega arith
-written_type_falls (written_type.Function at None type_parameters parameters optional nullable) = omega (arith, most_le-nodes_in_all type_parameters.items, most_le-nodes_in_all parameters.items, most_le-nodes_in_all optional.items)
-written_type_falls (written_type.Function at (Some result) type_parameters parameters optional nullable) = omega (arith, most_le-nodes_in_all type_parameters.items, most_le-nodes_in_all parameters.items, most_le-nodes_in_all optional.items)
+written_type_falls (written_type.Function at None parts nullable) = omega (arith, most_le-nodes_in_all parts.value.type_parameters.items, most_le-nodes_in_all parts.value.parameters.items, most_le-nodes_in_all parts.value.optional.items)
+written_type_falls (written_type.Function at (Some result) parts nullable) = omega (arith, most_le-nodes_in_all parts.value.type_parameters.items, most_le-nodes_in_all parts.value.parameters.items, most_le-nodes_in_all parts.value.optional.items)
 
 -- of an expression
 pub expr_falls : (n : ExprNode) → max (deep-ExprNode n) 0 ≤ nodes_in (expr_of n)
@@ -109,6 +113,17 @@ function_falls (function.Setter at (Some result) name parameters body) = omega a
 function_falls (function.Plain at None name type_parameters parameters body) = omega (arith, most_le-nodes_in_all type_parameters.items)
 function_falls (function.Plain at (Some result) name type_parameters parameters body) = omega (arith, most_le-nodes_in_all type_parameters.items)
 
+-- of what a `for` begins with
+for_initializer_falls : (i : ForInitializer) → deep-ForInitializer i ≤ nodes_in_part (for_initializer_of i) + 1
+for_initializer_falls for_initializer.Absent = omega arith
+for_initializer_falls (for_initializer.Variables variables) = omega arith
+for_initializer_falls (for_initializer.Expression value) = omega arith
+
+-- of a `try`
+try_at : (at : Place) (parts : Box TryParts) (finally_block : Option Tree) → max (deep-StmtNode (stmt.Try at (record parts { value = record parts.value { finally_block = finally_block } }))) 0 ≤ nodes_in (stmt_of (stmt.Try at (record parts { value = record parts.value { finally_block = finally_block } })))
+try_at at parts None = omega (arith, most_le-nodes_in_all parts.value.handlers.items)
+try_at at parts (Some finally_block) = omega (arith, most_le-nodes_in_all parts.value.handlers.items)
+
 -- of a statement
 pub stmt_falls : (n : StmtNode) → max (deep-StmtNode n) 0 ≤ nodes_in (stmt_of n)
 stmt_falls (stmt.Block at statements) = omega (arith, most_le-nodes_in_all statements.items)
@@ -120,18 +135,13 @@ stmt_falls (stmt.If at condition then_branch None) = omega arith
 stmt_falls (stmt.If at condition then_branch (Some else_branch)) = omega arith
 stmt_falls (stmt.While at condition body) = omega arith
 stmt_falls (stmt.Do at body condition) = omega arith
-stmt_falls (stmt.For at for_initializer.Absent None updates body) = omega (arith, most_le-nodes_in_all updates.items)
-stmt_falls (stmt.For at (for_initializer.Variables list) None updates body) = omega (arith, most_le-nodes_in_all updates.items)
-stmt_falls (stmt.For at (for_initializer.Expression start) None updates body) = omega (arith, most_le-nodes_in_all updates.items)
-stmt_falls (stmt.For at for_initializer.Absent (Some condition) updates body) = omega (arith, most_le-nodes_in_all updates.items)
-stmt_falls (stmt.For at (for_initializer.Variables list) (Some condition) updates body) = omega (arith, most_le-nodes_in_all updates.items)
-stmt_falls (stmt.For at (for_initializer.Expression start) (Some condition) updates body) = omega (arith, most_le-nodes_in_all updates.items)
+stmt_falls (stmt.For at initializer None updates body) = omega (arith, for_initializer_falls initializer.value, most_le-nodes_in_all updates.items)
+stmt_falls (stmt.For at initializer (Some condition) updates body) = omega (arith, for_initializer_falls initializer.value, most_le-nodes_in_all updates.items)
 stmt_falls (stmt.ForIn at is_final None name iterable body) = omega arith
 stmt_falls (stmt.ForIn at is_final (Some written) name iterable body) = omega arith
 stmt_falls (stmt.ForInAssignment at name iterable body) = omega arith
 stmt_falls (stmt.Switch at value cases) = omega (arith, most_le-nodes_in_all cases.items)
-stmt_falls (stmt.Try at body handlers None) = omega (arith, most_le-nodes_in_all handlers.items)
-stmt_falls (stmt.Try at body handlers (Some finally_block)) = omega (arith, most_le-nodes_in_all handlers.items)
+stmt_falls (stmt.Try at parts) = try_at at parts parts.value.finally_block
 stmt_falls (stmt.Return at None) = omega arith
 stmt_falls (stmt.Return at (Some value)) = omega arith
 stmt_falls (stmt.Break at label) = omega arith
@@ -141,7 +151,7 @@ stmt_falls (stmt.Labeled at label body) = omega arith
 stmt_falls (stmt.Error at) = omega arith
 
 -- of type arguments with their brackets
-pub type_arguments_falls : (a : type_arguments_inside.Inside) → deep-TypeArguments a ≤ nodes_in (type_arguments_of a)
+pub type_arguments_falls : (a : TypeArgumentsNode) → max (deep-TypeArgumentsNode a) 0 ≤ nodes_in (type_arguments_of a)
 type_arguments_falls a = omega (arith, most_le-nodes_in_all a.types.items)
 
 -- of a type parameter
@@ -165,7 +175,7 @@ pub map_entry_falls : (a : map_entry_inside.Inside) → deep-MapEntry a ≤ node
 map_entry_falls a = map_entry_at a a.value
 
 -- of arguments with their parentheses
-pub argument_list_falls : (a : argument_list_inside.Inside) → deep-ArgumentList a ≤ nodes_in (argument_list_of a)
+pub argument_list_falls : (a : ArgumentListNode) → max (deep-ArgumentListNode a) 0 ≤ nodes_in (argument_list_of a)
 argument_list_falls a = omega (arith, most_le-nodes_in_all a.arguments.items)
 
 -- of an argument

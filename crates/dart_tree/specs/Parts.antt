@@ -1,10 +1,10 @@
 -- What a node of one form is as a tree.
 use Rattle.dart_tree.specs.Tree.{Tree, trees_of, part_of, type_argument_list, type_parameter, parameter_type, map_entry, argument_list, argument, parameter_list, parameter, variable_list, variable, block, switch_case, catch_clause, unit, annotation, listed_name}
-use Rattle.dart_tree.specs.declared.types.TypeArguments.TheInside as type_arguments_inside
+use Rattle.dart_tree.specs.declared.types.TypeArgumentsNode.{TypeArgumentsNode}
 use Rattle.dart_tree.specs.declared.types.TypeParameter.TheInside as type_parameter_inside
 use Rattle.dart_tree.specs.declared.types.ParameterType.TheInside as parameter_type_inside
 use Rattle.dart_tree.specs.declared.expressions.MapEntry.TheInside as map_entry_inside
-use Rattle.dart_tree.specs.declared.expressions.ArgumentList.TheInside as argument_list_inside
+use Rattle.dart_tree.specs.declared.expressions.ArgumentListNode.{ArgumentListNode}
 use Rattle.dart_tree.specs.declared.expressions.Argument.TheInside as argument_inside
 use Rattle.dart_tree.specs.declared.functions.ParameterList.TheInside as parameter_list_inside
 use Rattle.dart_tree.specs.declared.functions.Parameter.TheInside as parameter_inside
@@ -18,7 +18,7 @@ use Rattle.dart_tree.specs.declared.names.Annotation.TheInside as annotation_ins
 use Rattle.dart_tree.specs.declared.names.ListedName.TheInside as listed_name_inside
 
 -- type arguments with their brackets
-abbrev pub type_arguments_of : type_arguments_inside.Inside → Tree
+abbrev pub type_arguments_of : TypeArgumentsNode → Tree
 type_arguments_of a = type_argument_list a.at (trees_of a.types.items)
 
 -- a type parameter
@@ -34,7 +34,7 @@ abbrev pub map_entry_of : map_entry_inside.Inside → Tree
 map_entry_of a = map_entry a.at a.key (part_of a.value)
 
 -- arguments with their parentheses
-abbrev pub argument_list_of : argument_list_inside.Inside → Tree
+abbrev pub argument_list_of : ArgumentListNode → Tree
 argument_list_of a = argument_list a.at (trees_of a.arguments.items)
 
 -- an argument

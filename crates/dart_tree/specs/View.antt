@@ -36,7 +36,7 @@ for_initializer_of (for_initializer.Expression value) = present value
 abbrev pub written_type_of : WrittenTypeNode → Tree
 written_type_of (written_type.Void at) = void_type at
 written_type_of (written_type.Named at prefix name arguments nullable) = named_type at prefix name (part_of arguments) nullable
-written_type_of (written_type.Function at result type_parameters parameters optional nullable) = function_type at (part_of result) (trees_of type_parameters.items) (trees_of parameters.items) (trees_of optional.items) nullable
+written_type_of (written_type.Function at result parts nullable) = function_type at (part_of result) (trees_of parts.value.type_parameters.items) (trees_of parts.value.parameters.items) (trees_of parts.value.optional.items) nullable
 
 -- an expression
 abbrev pub expr_of : ExprNode → Tree
@@ -51,7 +51,7 @@ expr_of (expr.Parenthesis at inner) = parenthesis at inner
 expr_of (expr.New at written name arguments) = new_expression at written name arguments
 expr_of (expr.List at type_arguments elements) = list_literal at (part_of type_arguments) (trees_of elements.items)
 expr_of (expr.SetOrMap at type_arguments entries) = set_or_map_literal at (part_of type_arguments) (trees_of entries.items)
-expr_of (expr.Function at parameters body) = function_expression at parameters body
+expr_of (expr.Function at parameters body) = function_expression at parameters.value body.value
 expr_of (expr.GenericIdentifier at name type_arguments) = generic_identifier at name type_arguments
 expr_of (expr.Property at receiver null_aware name) = property_access at receiver null_aware name
 expr_of (expr.Index at receiver null_aware bracket index) = index_expression at receiver null_aware bracket index
@@ -101,11 +101,11 @@ stmt_of (stmt.Expression at value) = expression_statement at (part_of value)
 stmt_of (stmt.If at condition then_branch else_branch) = if_statement at condition then_branch (part_of else_branch)
 stmt_of (stmt.While at condition body) = while_statement at condition body
 stmt_of (stmt.Do at body condition) = do_statement at body condition
-stmt_of (stmt.For at initializer condition updates body) = for_statement at (for_initializer_of initializer) (part_of condition) (trees_of updates.items) body
+stmt_of (stmt.For at initializer condition updates body) = for_statement at (for_initializer_of initializer.value) (part_of condition) (trees_of updates.items) body
 stmt_of (stmt.ForIn at is_final written name iterable body) = for_in_statement at is_final (part_of written) name iterable body
 stmt_of (stmt.ForInAssignment at name iterable body) = for_in_assignment at name iterable body
 stmt_of (stmt.Switch at value cases) = switch_statement at value (trees_of cases.items)
-stmt_of (stmt.Try at body handlers finally_block) = try_statement at body (trees_of handlers.items) (part_of finally_block)
+stmt_of (stmt.Try at parts) = try_statement at parts.value.body (trees_of parts.value.handlers.items) (part_of parts.value.finally_block)
 stmt_of (stmt.Return at value) = return_statement at (part_of value)
 stmt_of (stmt.Break at label) = break_statement at label
 stmt_of (stmt.Continue at label) = continue_statement at label

@@ -86,8 +86,8 @@ pub enum ExprNode {
     /// `(x) => e`, `(x) { .. }`.
     Function {
         at: Place,
-        parameters: ParameterList,
-        body: Body,
+        parameters: Box<ParameterList>,
+        body: Box<Body>,
     },
     /// `f<T>` before `(` or `.`.
     GenericIdentifier {
@@ -275,20 +275,26 @@ impl Drop for MapEntry {
 /// Arguments with their parentheses.
 #[cycle(tree)]
 pub struct ArgumentList {
-    /// Its number and its range of text.
-    pub at: Place,
-    /// The arguments, in their order.
-    pub arguments: Vec<Argument>,
+    /// Its parts.
+    pub node: Box<ArgumentListNode>,
 }
 
 impl Drop for ArgumentList {
     #[cycle(release)]
     fn drop(self) {
-        let ArgumentList {
-            at: _,
-            arguments: _,
-        } = self;
+        let ArgumentList { node } = self;
+        drop(node);
     }
+}
+
+/// The parts of arguments with their parentheses.
+#[cycle(tree)]
+#[derive(Drop)]
+pub struct ArgumentListNode {
+    /// Its number and its range of text.
+    pub at: Place,
+    /// The arguments, in their order.
+    pub arguments: Vec<Argument>,
 }
 
 /// An argument.
@@ -404,13 +410,13 @@ impl Model for ArgumentList {
 
     ghost use Rattle.dart_tree.specs.Parts.{argument_list_of};
 
-    ghost view = { λ a. argument_list_of a };
+    ghost view = { λ a. argument_list_of a.node.value };
 
     ghost size = { nodes_in };
 
     ghost use Rattle.dart_tree.specs.Falls.{argument_list_falls};
 
-    ghost size_decreases = { λ a h. argument_list_falls a };
+    ghost size_decreases = { λ a h. argument_list_falls a.node.value };
 }
 
 impl Model for Argument {

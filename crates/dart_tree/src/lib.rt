@@ -21,8 +21,8 @@ mod types;
 mod unit;
 
 pub use expressions::{
-    Argument, ArgumentList, Expr, ExprNode, MapEntry, StringElement, StringElementNode,
-    StringLiteral, StringLiteralNode,
+    Argument, ArgumentList, ArgumentListNode, Expr, ExprNode, MapEntry, StringElement,
+    StringElementNode, StringLiteral, StringLiteralNode,
 };
 pub use functions::{
     Body, BodyNode, Function, FunctionNode, Parameter, ParameterList, Variable, VariableList,
@@ -35,6 +35,9 @@ pub use operators::{
 };
 pub use places::{NodeId, Place, Span};
 pub use production::Production;
-pub use statements::{Block, CatchClause, ForInitializer, Stmt, StmtNode, SwitchCase};
-pub use types::{ParameterType, TypeArguments, TypeParameter, WrittenType, WrittenTypeNode};
+pub use statements::{Block, CatchClause, ForInitializer, Stmt, StmtNode, SwitchCase, TryParts};
+pub use types::{
+    FunctionTypeParts, ParameterType, TypeArguments, TypeArgumentsNode, TypeParameter, WrittenType,
+    WrittenTypeNode,
+};
 pub use unit::{Combinator, CombinatorNode, Item, ItemNode, Unit, UnitTree};

@@ -68,7 +68,7 @@ pub enum StmtNode {
     /// `for (i; c; u, v) s`, where `i` declares variables or is an expression.
     For {
         at: Place,
-        initializer: ForInitializer,
+        initializer: Box<ForInitializer>,
         condition: Option<Expr>,
         updates: Vec<Expr>,
         body: Stmt,
@@ -98,9 +98,7 @@ pub enum StmtNode {
     /// `try { .. } on T catch (e) { .. } finally { .. }`.
     Try {
         at: Place,
-        body: Block,
-        handlers: Vec<CatchClause>,
-        finally_block: Option<Block>,
+        parts: Box<TryParts>,
     },
     /// `return e;`, `return;`.
     Return {
@@ -143,6 +141,18 @@ pub enum ForInitializer {
     Variables(VariableList),
     /// An expression.
     Expression(Expr),
+}
+
+/// The parts of a `try`.
+#[cycle(tree)]
+#[derive(Drop)]
+pub struct TryParts {
+    /// What is run.
+    pub body: Block,
+    /// What is done with what is thrown.
+    pub handlers: Vec<CatchClause>,
+    /// What is run at last, where that is written.
+    pub finally_block: Option<Block>,
 }
 
 /// Statements between braces, as the body of a `try`, a `catch` or a `finally`.

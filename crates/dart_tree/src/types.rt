@@ -40,27 +40,46 @@ pub enum WrittenTypeNode {
     Function {
         at: Place,
         result: Option<WrittenType>,
-        type_parameters: Vec<TypeParameter>,
-        parameters: Vec<ParameterType>,
-        optional: Vec<Parameter>,
+        parts: Box<FunctionTypeParts>,
         nullable: bool,
     },
+}
+
+/// The parameters of a function type.
+#[cycle(tree)]
+#[derive(Drop)]
+pub struct FunctionTypeParts {
+    /// Its type parameters.
+    pub type_parameters: Vec<TypeParameter>,
+    /// The required parameters.
+    pub parameters: Vec<ParameterType>,
+    /// Those between brackets or braces.
+    pub optional: Vec<Parameter>,
 }
 
 /// Type arguments with their brackets.
 #[cycle(tree)]
 pub struct TypeArguments {
-    /// Its number and its range of text.
-    pub at: Place,
-    /// The types, at least one.
-    pub types: Vec<WrittenType>,
+    /// Its parts.
+    pub node: Box<TypeArgumentsNode>,
 }
 
 impl Drop for TypeArguments {
     #[cycle(release)]
     fn drop(self) {
-        let TypeArguments { at: _, types: _ } = self;
+        let TypeArguments { node } = self;
+        drop(node);
     }
+}
+
+/// The parts of type arguments.
+#[cycle(tree)]
+#[derive(Drop)]
+pub struct TypeArgumentsNode {
+    /// Its number and its range of text.
+    pub at: Place,
+    /// The types, at least one.
+    pub types: Vec<WrittenType>,
 }
 
 /// A type parameter.
@@ -138,13 +157,13 @@ impl Model for TypeArguments {
 
     ghost use Rattle.dart_tree.specs.Parts.{type_arguments_of};
 
-    ghost view = { λ a. type_arguments_of a };
+    ghost view = { λ a. type_arguments_of a.node.value };
 
     ghost size = { nodes_in };
 
     ghost use Rattle.dart_tree.specs.Falls.{type_arguments_falls};
 
-    ghost size_decreases = { λ a h. type_arguments_falls a };
+    ghost size_decreases = { λ a h. type_arguments_falls a.node.value };
 }
 
 impl Model for TypeParameter {

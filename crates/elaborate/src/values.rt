@@ -118,7 +118,7 @@ fn lay_call(
     ensures few { OnOk result (length build.new.points.items ≤ length build.old.points.items + 2 * nodes_in arguments.now) }
 {
     if is_print(said.named_at(at)) {
-        return lay_printed(said, build, values, at, &arguments.arguments, next);
+        return lay_printed(said, build, values, at, &arguments.node.arguments, next);
     }
     Ok(next)
 }

@@ -249,7 +249,7 @@ pub(crate) fn add_from_argument_list(
 ) -> Result<(), AllocError>
     ensures { OnOk result (errors.new.items ≡ errors.old.items ++ errors_of argument_list.now) }
 {
-    add_from_arguments(argument_list.arguments.as_slice(), errors)
+    add_from_arguments(argument_list.node.arguments.as_slice(), errors)
 }
 
 /// Adds the errors in an argument.

@@ -77,15 +77,10 @@ pub(crate) fn add_from_stmt(stmt: &Stmt, errors: &mut Vec<Place>) -> Result<(), 
             add_from_expr(value, errors)?;
             return add_from_cases(cases.as_slice(), errors);
         }
-        StmtNode::Try {
-            body,
-            handlers,
-            finally_block,
-            ..
-        } => {
-            add_from_block(body, errors)?;
-            add_from_handlers(handlers.as_slice(), errors)?;
-            return add_from_optional_block(finally_block, errors);
+        StmtNode::Try { parts, .. } => {
+            add_from_block(&parts.body, errors)?;
+            add_from_handlers(parts.handlers.as_slice(), errors)?;
+            return add_from_optional_block(&parts.finally_block, errors);
         }
         StmtNode::Return { value, .. } => return add_from_optional_expr(value, errors),
         StmtNode::Break { .. } => return Ok(()),

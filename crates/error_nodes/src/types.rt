@@ -21,17 +21,11 @@ pub(crate) fn add_from_written_type(
         WrittenTypeNode::Named { arguments, .. } => add_from_optional_type_arguments(
             arguments, errors,
         ),
-        WrittenTypeNode::Function {
-            result,
-            type_parameters,
-            parameters,
-            optional,
-            ..
-        } => {
+        WrittenTypeNode::Function { result, parts, .. } => {
             add_from_optional_written_type(result, errors)?;
-            add_from_type_parameters(type_parameters.as_slice(), errors)?;
-            add_from_parameter_types(parameters.as_slice(), errors)?;
-            add_from_parameters(optional.as_slice(), errors)
+            add_from_type_parameters(parts.type_parameters.as_slice(), errors)?;
+            add_from_parameter_types(parts.parameters.as_slice(), errors)?;
+            add_from_parameters(parts.optional.as_slice(), errors)
         }
     }
 }
@@ -72,7 +66,7 @@ pub(crate) fn add_from_type_arguments(
 ) -> Result<(), AllocError>
     ensures { OnOk result (errors.new.items ≡ errors.old.items ++ errors_of type_arguments.now) }
 {
-    add_from_written_types(type_arguments.types.as_slice(), errors)
+    add_from_written_types(type_arguments.node.types.as_slice(), errors)
 }
 
 /// Adds those in one that may be left out.

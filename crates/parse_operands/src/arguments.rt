@@ -13,7 +13,9 @@ ghost use Rattle.parse_leaves.specs.Answers.{Gives, IsDeep, AreDeep};
 ghost use Rattle.parse_leaves.specs.Parts.{IsPartDeep, contents_of, contents_height};
 
 use dart_tokens::Kind;
-use dart_tree::{Argument, ArgumentList, Expr, ExprNode, MapEntry, TypeArguments};
+use dart_tree::{
+    Argument, ArgumentList, ArgumentListNode, Expr, ExprNode, MapEntry, TypeArguments,
+};
 use grammar::{Setting, Token};
 use parse_leaves::{
     Below, Contents, Miss, group, heads, heads_label, higher, identifier_at, name, place_over,
@@ -124,7 +126,8 @@ pub fn argument_list<'k, B: Below<'k>>(
     let (_, mut arguments, height, rest) = argument_group(below, alloc, tokens)?;
     arguments.shrink_to_fit();
     let at = place_over(tokens, rest);
-    Ok((ArgumentList { at, arguments }, height, rest))
+    let node = Box::new(alloc, ArgumentListNode { at, arguments })?;
+    Ok((ArgumentList { node }, height, rest))
 }
 
 /// Expressions with commas between them.

@@ -151,6 +151,8 @@ fn closure<'k, B: Below<'k>>(
     let (parameters, tall, rest) = parameter_list(below, alloc, tokens)?;
     let (body, height, rest) = closure_body(below, alloc, setting, rest)?;
     let at = place_over(tokens, rest);
+    let parameters = Box::new(alloc, parameters)?;
+    let body = Box::new(alloc, body)?;
     let node = Box::new(
         alloc,
         ExprNode::Function {

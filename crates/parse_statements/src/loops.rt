@@ -296,7 +296,7 @@ fn for_node(
             updates,
         } => StmtNode::For {
             at,
-            initializer,
+            initializer: Box::new(alloc, initializer)?,
             condition,
             updates,
             body,

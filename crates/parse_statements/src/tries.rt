@@ -14,7 +14,7 @@ ghost use Rattle.parse_leaves.specs.Answers.{Finds, Gives, IsDeep, AreDeep};
 ghost use Rattle.parse_leaves.specs.Parts.{IsPartDeep};
 
 use dart_tokens::Kind;
-use dart_tree::{Block, CatchClause, ListedName, Stmt, StmtNode, WrittenType};
+use dart_tree::{Block, CatchClause, ListedName, Stmt, StmtNode, TryParts, WrittenType};
 use grammar::Token;
 use parse_leaves::{Below, Miss, group, heads, higher, name, place_of, place_over, token};
 use std::alloc::Global;
@@ -283,14 +283,15 @@ pub fn try_statement<'k, B: Below<'k>>(
     if !has_clause(&handlers, &found) {
         return Err(Miss::NoReading);
     }
-    let node = Box::new(
+    let at = place_over(tokens, rest);
+    let parts = Box::new(
         alloc,
-        StmtNode::Try {
-            at: place_over(tokens, rest),
+        TryParts {
             body,
             handlers,
             finally_block: block_behind(found),
         },
     )?;
+    let node = Box::new(alloc, StmtNode::Try { at, parts })?;
     Ok((Stmt { node }, higher(reach, higher(tall, height)) + 1, rest))
 }

@@ -15,7 +15,8 @@ ghost use Rattle.parse_leaves.specs.Parts.{tail_of, tail_height, IsPartDeep, Are
 use crate::parameters::{listed_parameters, some_optional_parameters};
 use dart_tokens::Kind;
 use dart_tree::{
-    Parameter, ParameterType, TypeArguments, TypeParameter, WrittenType, WrittenTypeNode,
+    FunctionTypeParts, Parameter, ParameterType, TypeArguments, TypeArgumentsNode, TypeParameter,
+    WrittenType, WrittenTypeNode,
 };
 use grammar::Token;
 use parse_leaves::{
@@ -74,7 +75,8 @@ pub fn type_arguments<'k, B: Below<'k>>(
     let (types, height, rest) = type_list(below, alloc, rest)?;
     let (_, rest) = token(rest, Kind::Greater).ok_or(Miss::NoReading)?;
     let at = place_over(tokens, rest);
-    Ok((TypeArguments { at, types }, height, rest))
+    let node = Box::new(alloc, TypeArgumentsNode { at, types })?;
+    Ok((TypeArguments { node }, height, rest))
 }
 
 /// Type arguments, if there are any.
@@ -429,14 +431,20 @@ fn tail_alone(
     ensures reading { IfOk result (λ x. x ≡ first_tail_of (tokens_read start.now after.now) (tail_of tail)) }
     ensures deep { IfOk result (λ x. height x ≡ tail_height (tail_of tail) + 1) }
 {
+    let parts = Box::new(
+        alloc,
+        FunctionTypeParts {
+            type_parameters: tail.type_parameters,
+            parameters: tail.parameters,
+            optional: tail.optional,
+        },
+    )?;
     let node = Box::new(
         alloc,
         WrittenTypeNode::Function {
             at: place_over(start, after),
             result: None,
-            type_parameters: tail.type_parameters,
-            parameters: tail.parameters,
-            optional: tail.optional,
+            parts,
             nullable: tail.nullable,
         },
     )?;
@@ -455,14 +463,20 @@ fn tail_behind(
     ensures deep { IfOk result (λ x. height x ≡ higher (height left) (tail_height (tail_of tail)) + 1) }
     ensures whole { result ≢ Err NoReading }
 {
+    let parts = Box::new(
+        alloc,
+        FunctionTypeParts {
+            type_parameters: tail.type_parameters,
+            parameters: tail.parameters,
+            optional: tail.optional,
+        },
+    )?;
     let node = Box::new(
         alloc,
         WrittenTypeNode::Function {
             at: place_over(start, after),
             result: Some(left),
-            type_parameters: tail.type_parameters,
-            parameters: tail.parameters,
-            optional: tail.optional,
+            parts,
             nullable: tail.nullable,
         },
     )?;

@@ -8,8 +8,8 @@ use crate::functions::{read_body, read_parameter_list};
 use crate::lists::ReadsLists;
 use crate::types::{read_optional_type_arguments, read_type_arguments, read_written_type};
 use dart_tree::{
-    Argument, ArgumentList, Expr, ExprNode, MapEntry, StringElement, StringElementNode,
-    StringLiteral, StringLiteralNode,
+    Argument, ArgumentList, ArgumentListNode, Expr, ExprNode, MapEntry, StringElement,
+    StringElementNode, StringLiteral, StringLiteralNode,
 };
 use std::alloc::{AllocError, Global};
 
@@ -307,7 +307,8 @@ pub(crate) fn read_argument_list<R: ReadsLists>(
     requires sound { R.sound reader.now }
     ensures { OnOk result (argument_list.new ≡ with_lists (R.lists reader.now) room argument_list.old) }
 {
-    read_arguments(reader, alloc, room, argument_list.arguments.as_mut_slice())
+    let ArgumentListNode { arguments, .. } = &mut *argument_list.node;
+    read_arguments(reader, alloc, room, arguments.as_mut_slice())
 }
 
 /// Reads the lists of statements in an argument, where `room` nodes may lie on a way down from it.

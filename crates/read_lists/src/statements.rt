@@ -9,7 +9,7 @@ use crate::expressions::{read_expr, read_exprs, read_optional_expr};
 use crate::functions::{read_function, read_variable_list};
 use crate::lists::{ReadsLists, read_list};
 use crate::types::read_optional_written_type;
-use dart_tree::{Block, CatchClause, ForInitializer, Stmt, StmtNode, SwitchCase};
+use dart_tree::{Block, CatchClause, ForInitializer, Stmt, StmtNode, SwitchCase, TryParts};
 use std::alloc::{AllocError, Global};
 
 /// Reads the lists of statements in a statement, where `room` nodes may lie on a way down from it.
@@ -92,12 +92,12 @@ pub fn read_stmt<R: ReadsLists>(
             read_expr(reader, alloc, inside, value)?;
             return read_cases(reader, alloc, inside, cases.as_mut_slice());
         }
-        StmtNode::Try {
-            body,
-            handlers,
-            finally_block,
-            ..
-        } => {
+        StmtNode::Try { parts, .. } => {
+            let TryParts {
+                body,
+                handlers,
+                finally_block,
+            } = &mut **parts;
             read_block(reader, alloc, inside, body)?;
             read_handlers(reader, alloc, inside, handlers.as_mut_slice())?;
             return read_optional_block(reader, alloc, inside, finally_block);

@@ -6,7 +6,10 @@ ghost use Rattle.unread_lists.specs.WithLists.{with_lists, all_with_lists, part_
 
 use crate::functions::read_parameters;
 use crate::lists::ReadsLists;
-use dart_tree::{ParameterType, TypeArguments, TypeParameter, WrittenType, WrittenTypeNode};
+use dart_tree::{
+    FunctionTypeParts, ParameterType, TypeArguments, TypeArgumentsNode, TypeParameter, WrittenType,
+    WrittenTypeNode,
+};
 use std::alloc::{AllocError, Global};
 
 /// Reads the lists of statements in a written type, where `room` nodes may lie on a way down from it.
@@ -27,14 +30,13 @@ pub fn read_written_type<R: ReadsLists>(
         WrittenTypeNode::Named { arguments, .. } => read_optional_type_arguments(
             reader, alloc, inside, arguments,
         ),
-        WrittenTypeNode::Function {
-            result,
-            type_parameters,
-            parameters,
-            optional,
-            ..
-        } => {
+        WrittenTypeNode::Function { result, parts, .. } => {
             read_optional_written_type(reader, alloc, inside, result)?;
+            let FunctionTypeParts {
+                type_parameters,
+                parameters,
+                optional,
+            } = &mut **parts;
             read_type_parameters(reader, alloc, inside, type_parameters.as_mut_slice())?;
             read_parameter_types(reader, alloc, inside, parameters.as_mut_slice())?;
             read_parameters(reader, alloc, inside, optional.as_mut_slice())
@@ -90,7 +92,8 @@ pub(crate) fn read_type_arguments<R: ReadsLists>(
     requires sound { R.sound reader.now }
     ensures { OnOk result (type_arguments.new ≡ with_lists (R.lists reader.now) room type_arguments.old) }
 {
-    read_written_types(reader, alloc, room, type_arguments.types.as_mut_slice())
+    let TypeArgumentsNode { types, .. } = &mut *type_arguments.node;
+    read_written_types(reader, alloc, room, types.as_mut_slice())
 }
 
 /// So of one that may be left out.

@@ -154,7 +154,7 @@ fn generic_name<'t>(out: &mut Pieces<'t>, node: &'t ExprNode) -> Result<(), Allo
 
 /// Writes arguments, each behind a blank.
 pub fn arguments_of<'t>(out: &mut Pieces<'t>, list: &'t ArgumentList) -> Result<(), AllocError> {
-    for each in list.arguments.iter() {
+    for each in list.node.arguments.iter() {
         argument(out, each)?;
     }
     Ok(())

@@ -235,21 +235,15 @@ fn case<'t>(out: &mut Pieces<'t>, case: &'t SwitchCase) -> Result<(), AllocError
 
 /// Writes a statement that catches.
 fn try_statement<'t>(out: &mut Pieces<'t>, node: &'t StmtNode) -> Result<(), AllocError> {
-    let StmtNode::Try {
-        body,
-        handlers,
-        finally_block,
-        ..
-    } = node
-    else {
+    let StmtNode::Try { parts, .. } = node else {
         return Ok(());
     };
     out.text("(try")?;
-    block(out, body)?;
-    for each in handlers.iter() {
+    block(out, &parts.body)?;
+    for each in parts.handlers.iter() {
         handler(out, each)?;
     }
-    if let Some(last) = finally_block {
+    if let Some(last) = &parts.finally_block {
         out.text(" finally")?;
         block(out, last)?;
     }

@@ -43,9 +43,7 @@ fn named_type<'t>(out: &mut Pieces<'t>, node: &'t WrittenTypeNode) -> Result<(),
 fn function_type<'t>(out: &mut Pieces<'t>, node: &'t WrittenTypeNode) -> Result<(), AllocError> {
     let WrittenTypeNode::Function {
         result,
-        type_parameters: variables,
-        parameters,
-        optional,
+        parts,
         nullable,
         ..
     } = node
@@ -57,9 +55,9 @@ fn function_type<'t>(out: &mut Pieces<'t>, node: &'t WrittenTypeNode) -> Result<
         out.text(" ")?;
         out.written(result)?;
     }
-    type_parameters(out, variables.as_slice())?;
-    parameter_types(out, parameters.as_slice())?;
-    parameters_of(out, optional.as_slice())?;
+    type_parameters(out, parts.type_parameters.as_slice())?;
+    parameter_types(out, parts.parameters.as_slice())?;
+    parameters_of(out, parts.optional.as_slice())?;
     out.text(if *nullable { "?)" } else { ")" })
 }
 
@@ -70,7 +68,7 @@ pub fn type_arguments<'t>(
 ) -> Result<(), AllocError> {
     out.text("<")?;
     let mut is_first = true;
-    for each in arguments.types.iter() {
+    for each in arguments.node.types.iter() {
         out.text_if(!is_first, " ")?;
         is_first = false;
         out.written(each)?;

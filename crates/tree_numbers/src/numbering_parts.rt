@@ -7,10 +7,10 @@ ghost use Rattle.dart_tree.specs.Numbers.{nodes_in, nodes_in_all, nodes_in_part,
 use crate::numbering_names::{number_annotations, number_name, number_place};
 use crate::numbering_statements::number_stmts;
 use dart_tree::{
-    Argument, ArgumentList, Block, Body, BodyNode, Expr, ExprNode, Function, FunctionNode,
-    MapEntry, Parameter, ParameterList, ParameterType, Place, StringElement, StringElementNode,
-    StringLiteral, StringLiteralNode, TypeArguments, TypeParameter, Variable, VariableList,
-    WrittenType, WrittenTypeNode,
+    Argument, ArgumentList, ArgumentListNode, Block, Body, BodyNode, Expr, ExprNode, Function,
+    FunctionNode, FunctionTypeParts, MapEntry, Parameter, ParameterList, ParameterType, Place,
+    StringElement, StringElementNode, StringLiteral, StringLiteralNode, TypeArguments,
+    TypeArgumentsNode, TypeParameter, Variable, VariableList, WrittenType, WrittenTypeNode,
 };
 
 /// Numbers a written type's nodes from `first` on, and answers the number after the last.
@@ -29,13 +29,16 @@ pub(crate) fn number_written_type(written_type: &mut WrittenType, first: u32) ->
         WrittenTypeNode::Function {
             at,
             result,
-            type_parameters,
-            parameters,
-            optional,
+            parts,
             ..
         } => {
             let next = number_place(at, first);
             let next = number_optional_written_type(result, next);
+            let FunctionTypeParts {
+                type_parameters,
+                parameters,
+                optional,
+            } = &mut **parts;
             let next = number_type_parameters(type_parameters.as_mut_slice(), next);
             let next = number_parameter_types(parameters.as_mut_slice(), next);
             number_parameters(optional.as_mut_slice(), next)
@@ -80,8 +83,9 @@ fn number_type_arguments(type_arguments: &mut TypeArguments, first: u32) -> u32
     ensures tree { type_arguments.new ≡ numbered first type_arguments.old }
     ensures next { result ≡ first + nodes_in type_arguments.old }
 {
-    let next = number_place(&mut type_arguments.at, first);
-    number_written_types(type_arguments.types.as_mut_slice(), next)
+    let TypeArgumentsNode { at, types } = &mut *type_arguments.node;
+    let next = number_place(at, first);
+    number_written_types(types.as_mut_slice(), next)
 }
 
 /// So of one that may be left out.
@@ -439,8 +443,9 @@ pub(crate) fn number_argument_list(argument_list: &mut ArgumentList, first: u32)
     ensures tree { argument_list.new ≡ numbered first argument_list.old }
     ensures next { result ≡ first + nodes_in argument_list.old }
 {
-    let next = number_place(&mut argument_list.at, first);
-    number_arguments(argument_list.arguments.as_mut_slice(), next)
+    let ArgumentListNode { at, arguments } = &mut *argument_list.node;
+    let next = number_place(at, first);
+    number_arguments(arguments.as_mut_slice(), next)
 }
 
 /// Numbers an argument's nodes from `first` on, and answers the number after the last.

@@ -10,7 +10,9 @@ use crate::numbering_parts::{
     number_expr, number_exprs, number_function, number_optional_expr, number_optional_written_type,
     number_variable_list,
 };
-use dart_tree::{Block, CatchClause, ForInitializer, Function, Stmt, StmtNode, SwitchCase};
+use dart_tree::{
+    Block, CatchClause, ForInitializer, Function, Stmt, StmtNode, SwitchCase, TryParts,
+};
 
 /// Numbers a statement's nodes from `first` on, and answers the number after the last.
 #[cycle(number)]
@@ -108,13 +110,13 @@ fn number_stmt(stmt: &mut Stmt, first: u32) -> u32
             let next = number_expr(value, next);
             number_cases(cases.as_mut_slice(), next)
         }
-        StmtNode::Try {
-            at,
-            body,
-            handlers,
-            finally_block,
-        } => {
+        StmtNode::Try { at, parts } => {
             let next = number_place(at, first);
+            let TryParts {
+                body,
+                handlers,
+                finally_block,
+            } = &mut **parts;
             let next = number_block(body, next);
             let next = number_handlers(handlers.as_mut_slice(), next);
             number_optional_block(finally_block, next)

@@ -166,7 +166,7 @@ fn judge_call(
 {
     let before = point.before;
     match named_by(point.context, point.names, callee) {
-        Meaning::Print => judge_printed(point, at, &arguments.arguments, found),
+        Meaning::Print => judge_printed(point, at, &arguments.node.arguments, found),
         Meaning::Nothing => of_type(at, invalid_type(), before.clone()?),
         Meaning::Local(_) => of_type(at, invalid_type(), before.clone()?),
         Meaning::Class(_) => of_type(at, invalid_type(), before.clone()?),

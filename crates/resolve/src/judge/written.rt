@@ -52,7 +52,7 @@ fn add_written_in_value(
             add_local(named_by(context, names, target), written)
         }
         ExprNode::Call { arguments, .. } => {
-            add_written_in_arguments(context, names, &arguments.arguments, written)
+            add_written_in_arguments(context, names, &arguments.node.arguments, written)
         }
         _ => Ok(()),
     }
