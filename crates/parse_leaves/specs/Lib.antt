@@ -5,6 +5,7 @@ pub mod Groups
 pub mod Grown
 pub mod LastLevels
 pub mod Loops
+pub mod Next
 pub mod Parts
 pub mod Places
 pub mod Sizes

@@ -6,6 +6,7 @@ ghost use Rattle.grammar.specs.Tokens.{is, is_name, is_type_name, is_either, hea
 ghost use Rattle.grammar.specs.Types.{heads_qualified, heads_required, heads_field, goes_on_parameter};
 ghost use Rattle.grammar.specs.Expressions.{goes_on, heads_cast, heads_rest, heads_brace, heads_body, heads_closure, begins_expression, heads_tail, heads_choice, heads_nullable, heads_label, heads_use, behind_call};
 ghost use Rattle.grammar.specs.Descents.{begins_string, begins_prefix};
+ghost use Rattle.parse_leaves.specs.Next.{goes_on_type, type_name_size, heads_untyped};
 
 use crate::leaves::tokens_behind;
 use crate::operators::sign_at;
@@ -105,6 +106,34 @@ pub fn heads_field(tokens: &[Token]) -> bool
 {
     match tokens.split_first() {
         Some((first, _)) => first.kind.is_identifier() || first.kind == Kind::This,
+        None => false,
+    }
+}
+
+/// Behind the name of a type: the type goes on with this token, or a name stands there.
+fn goes_on_type(token: Token) -> bool
+    ensures { result ≡ goes_on_type token }
+{
+    token.kind.is_identifier() || token.kind == Kind::Less || token.kind == Kind::Question
+}
+
+/// How many tokens the name of a type takes that would begin here.
+fn type_name_size(tokens: &[Token]) -> usize
+    ensures { result ≡ type_name_size tokens.now }
+{
+    if heads_qualified(tokens) { 3 } else { 1 }
+}
+
+/// No type in front of a name comes next: the name of one would be the whole type, and no name stands
+/// behind it.
+pub fn heads_untyped(tokens: &[Token]) -> bool
+    ensures { result ≡ heads_untyped tokens.now }
+{
+    if heads(tokens, Kind::Function) {
+        return false;
+    }
+    match tokens_behind(tokens, type_name_size(tokens)).split_first() {
+        Some((next, _)) => !goes_on_type(*next),
         None => false,
     }
 }

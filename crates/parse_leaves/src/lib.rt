@@ -29,7 +29,7 @@ mod type_leaves;
 
 pub use ahead::{
     heads, heads_closure, heads_either, heads_field, heads_label, heads_name, heads_nullable,
-    heads_prefix, heads_qualified, heads_required, heads_string,
+    heads_prefix, heads_qualified, heads_required, heads_string, heads_untyped,
 };
 pub use behind::is_open;
 pub use below::Below;
@@ -39,7 +39,8 @@ pub use leaves::{
 };
 pub use miss::Miss;
 pub use operators::{
-    assignment_operator, binary_operator, heads_binary, postfix_operator, prefix_operator, sign_at,
+    assignment_operator, binary_operator, heads_binary, is_level, next_level, postfix_operator,
+    prefix_operator, sign_at,
 };
 pub use outline::{heads_call, heads_generic};
 pub use parts::{Contents, Header, Selector, Side, Tail};

@@ -5,6 +5,7 @@ ghost use Rattle.grammar.specs.Tokens.{is, adjoins};
 ghost use Rattle.grammar.specs.Operators.{level_of, signs, sign_in, shift_at, greater_at, sign_at, heads_sign, is_binary, take_binary, take_assignment};
 ghost use Rattle.grammar.specs.Descents.{take_prefix, take_postfix};
 ghost use Rattle.parse_leaves.specs.Answers.{Finds};
+ghost use Rattle.parse_leaves.specs.Next.{level_of_word, next_level, is_level};
 
 use crate::leaves::{first_tokens, tokens_behind};
 use crate::places::{span_of, span_over};
@@ -140,6 +141,41 @@ pub fn heads_binary(tokens: &[Token], level: Level) -> bool
     match sign_at(tokens) {
         Some((Sign::Binary(operator), _)) => level_of(operator) == level,
         Some((Sign::Assign(_), _)) => false,
+        None => false,
+    }
+}
+
+/// The level of `?`, `is` and `as`.
+fn level_of_word(token: Token) -> Option<Level>
+    ensures { result ≡ level_of_word token }
+{
+    if token.kind == Kind::Question {
+        Some(Level::Conditional)
+    } else if token.kind == Kind::Is || token.kind == Kind::As {
+        Some(Level::Relation)
+    } else {
+        None
+    }
+}
+
+/// The level that what comes next begins behind an operand, if it begins one.
+pub fn next_level(tokens: &[Token]) -> Option<Level>
+    ensures { result ≡ next_level tokens.now }
+{
+    let (first, _) = tokens.split_first()?;
+    match sign_at(tokens) {
+        Some((Sign::Binary(operator), _)) => Some(level_of(operator)),
+        Some((Sign::Assign(_), _)) => None,
+        None => level_of_word(*first),
+    }
+}
+
+/// The level that comes next is this one.
+pub fn is_level(found: Option<Level>, level: Level) -> bool
+    ensures { result ≡ is_level level found }
+{
+    match found {
+        Some(next) => next == level,
         None => false,
     }
 }

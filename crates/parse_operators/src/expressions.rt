@@ -18,7 +18,7 @@ use dart_tree::{AssignmentOperator, Expr, ExprNode};
 use grammar::{Level, Setting, Token};
 use parse_leaves::{
     Below, Miss, Side, assignment_operator, binary_operator, heads, heads_binary, heads_call,
-    higher, is_open, place_over, token,
+    higher, is_level, is_open, next_level, place_over, token,
 };
 use parse_operands::unary_within;
 use std::alloc::Global;
@@ -299,7 +299,7 @@ fn levels_behind(levels: &[Level], count: usize) -> &[Level]
 }
 
 /// The levels of a table behind an operand, from the one that binds most on.
-#[tactic(auto, using(crate::proofs::Climbing::climb_begins, crate::proofs::Climbing::climb_goes, crate::proofs::Climbing::climb_ends, parse_leaves::specs::LastLevels::last_behind))]
+#[tactic(auto, using(crate::proofs::Climbing::climb_begins, crate::proofs::Climbing::climb_goes, crate::proofs::Climbing::climb_ends, crate::proofs::Climbing::climb_done, parse_leaves::specs::LastLevels::last_behind))]
 fn climb<'k, B: Below<'k>>(
     below: &B,
     alloc: Global,
@@ -322,15 +322,24 @@ fn climb<'k, B: Below<'k>>(
     let mut height = reach;
     let mut rest = tokens;
     let mut more = levels.len();
+    let mut next = next_level(rest);
     while more > 0 {
-        let above = levels_behind(levels, more);
+        if next.is_none() {
+            return Ok((left, height, rest));
+        }
         let level = levels[more - 1];
+        if !is_level(next, level) {
+            more -= 1;
+            continue;
+        }
+        let above = levels_behind(levels, more);
         let (found, tall, after) = repeat(
             below, alloc, setting, level, above, start, left, height, rest,
         )?;
         left = found;
         height = tall;
         rest = after;
+        next = next_level(rest);
         more -= 1;
     }
     Ok((left, height, rest))

@@ -2,3 +2,4 @@ pub mod Cases
 pub mod Clauses
 pub mod Nearest
 pub mod Unread
+pub mod Untyped

@@ -18,8 +18,8 @@ use dart_tree::{
 };
 use grammar::{Setting, Token};
 use parse_leaves::{
-    Below, Miss, block_body, group, heads, heads_closure, heads_name, higher, name, name_at,
-    place_over, token,
+    Below, Miss, block_body, group, heads, heads_closure, heads_name, heads_untyped, higher, name,
+    name_at, place_over, token,
 };
 use parse_types::{listed_type_parameters, parameter_list, some_initializer, some_type_parameters};
 use std::alloc::{AllocError, Global};
@@ -80,6 +80,7 @@ pub fn block_within(alloc: Global, tokens: &[Token]) -> Result<(Block, u32, &[To
 }
 
 /// A type in front of a name.
+#[tactic(auto, using(crate::proofs::Untyped::untyped_none))]
 fn name_type<'k, B: Below<'k>>(
     below: &B,
     alloc: Global,
@@ -90,6 +91,9 @@ fn name_type<'k, B: Below<'k>>(
     ensures reading { Gives (λ x. (x.0, x.2.now)) result (take_before heads_name (lower (B.room below.now)).named tokens.now) }
     ensures deep { IfOk result (λ x. IsDeep (B.room below.now) x.0 x.1) }
 {
+    if heads_untyped(tokens) {
+        return Err(Miss::NoReading);
+    }
     let (written, height, rest) = below.named(alloc, tokens)?;
     if !heads_name(rest) {
         return Err(Miss::NoReading);
