@@ -18,3 +18,4 @@ pub mod KindValues
 pub mod KindLemmas
 pub mod TokenLaws
 pub mod FirstLemmas
+pub mod FirstByteLemmas

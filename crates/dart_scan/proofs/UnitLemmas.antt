@@ -1,12 +1,15 @@
 -- One byte more of a text in its code units.
-use Rattle.std.proofs.Common.{◌≡◌, ℕ, zero, suc, ◌+◌, ◌-◌, ◌*◌, ◌<◌, ◌==◌, false, List, [], ◌∷◌, ◌++◌, length, drop, get_or, refl, sym, ap, ◌∙◌, append_assoc, append-nil, arith}
-use Rattle.std.specs.Str.{chars, chars_after, continuation_len, lead_bits}
+use Rattle.std.proofs.Common.{◌≡◌, ℕ, zero, suc, ◌+◌, ◌-◌, ◌*◌, ◌<◌, ◌==◌, false, List, [], ◌∷◌, ◌++◌, length, drop, get_or, refl, sym, ap, ◌∙◌, append_assoc, append-nil, nat_lt, arith}
+use Rattle.std.specs.Str.{IsAscii, chars, chars_after, continuation_len, lead_bits}
 use Rattle.std.specs.List.{flat_map}
 use Rattle.std.specs.Char.Escape.{encode_utf16}
+use Rattle.std.proofs.lemmas.Bool.{cond-true, lt-ltb}
 use Rattle.std.proofs.lemmas.Grind.{flat_map-append}
 use Rattle.std.proofs.lemmas.List.{drop_more}
+use Rattle.std.proofs.lemmas.List.Sums.{sum_by-cons}
 use Rattle.std.proofs.Math.Dec.{eqb-suc-zero}
 use Rattle.dart_scan.specs.declared.units.Begun.{Begun}
+use Rattle.plain_text.specs.Units.{units_of_byte, units_in}
 use Rattle.dart_scan.specs.Decoding.{begun_after, ended}
 
 -- the characters of the rest, where so many bytes are to come of the first one
@@ -52,3 +55,11 @@ none_pending (suc more) code = refl
 
 pub units-end : (whole done rest : List ℕ) (begun : Begun) → rest ≡ [] → whole ≡ done ++ units_pending begun rest → done ≡ whole
 units-end whole done rest begun none e = sym (e ∙ ap (λ r. done ++ units_pending begun r) none ∙ ap (λ r. done ++ r) (none_pending begun.more begun.code) ∙ append-nil done)
+
+-- a text in ASCII has a code unit for each byte
+pub ascii_units : (bytes : List ℕ) → IsAscii bytes → units_in bytes ≡ length bytes
+ascii_units [] is = refl
+ascii_units (byte ∷ bytes) is =
+    let small : units_of_byte byte ≡ 1 = cond-true (nat_lt byte 128) _ _ (lt-ltb byte 128 (is 0)) in
+    let more : units_in bytes ≡ length bytes = ascii_units bytes (λ i. is (suc i)) in
+    omega (arith, sum_by-cons units_of_byte byte bytes, small, more)

@@ -9,10 +9,10 @@ use crate::cut::cut;
 use crate::fault::push_faults;
 use crate::kind::{is_gap, kind_of};
 use crate::piece::Class;
+use crate::units::units_in;
 use crate::words::Places;
 use dart_text::Text;
 use dart_tokens::{LexFault, LexFaults, Scanned, TextTokens, Token};
-use plain_text::utf16_len;
 use std::alloc::{AllocError, Global};
 
 /// What has been found in the pieces so far: tokens, words and faults.
@@ -104,6 +104,7 @@ pub fn scan(alloc: Global, text: &Text) -> Result<Scanned, AllocError>
     let text = text.as_str();
     let all = cut(alloc, text.as_bytes())?;
     let pieces = all.as_slice();
+    let is_ascii = text.is_ascii();
     let mut found = Found {
         tokens: Vec::new(alloc),
         places: Places::new(alloc),
@@ -113,7 +114,7 @@ pub fn scan(alloc: Global, text: &Text) -> Result<Scanned, AllocError>
     let mut start = 0;
     for piece in pieces {
         let (bytes, after) = rest.split_at(piece.size);
-        let end = start + utf16_len(bytes.as_bytes()) as u32;
+        let end = start + units_in(is_ascii, bytes) as u32;
         found.add(alloc, piece.class, bytes, start, end)?;
         rest = after;
         start = end;

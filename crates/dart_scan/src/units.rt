@@ -1,12 +1,14 @@
 //! The UTF-16 code units of bytes.
 
-ghost use Rattle.std.specs.Prelude.{◌≡◌, ◌+◌, ◌*◌, ◌^◌, ◌<◌, ◌≤◌, ◌++◌, length, IfOk, OnOk};
+ghost use Rattle.std.specs.Prelude.{◌≡◌, ◌+◌, ◌*◌, ◌^◌, ◌<◌, ◌≤◌, ◌++◌, length, true, IfOk, OnOk};
 ghost use Rattle.std.specs.List.{flat_map};
-ghost use Rattle.std.specs.Str.{continuation_len, lead_bits};
+ghost use Rattle.std.specs.Str.{IsAscii, continuation_len, lead_bits};
 ghost use Rattle.std.specs.Char.Escape.{encode_utf16};
+ghost use Rattle.plain_text.specs.Units.{units_in};
 ghost use Rattle.dart_text.specs.Units.{units_of};
 ghost use Rattle.dart_scan.specs.Decoding.{most_bits, begun_after, ended};
 
+use plain_text::utf16_len;
 use std::alloc::{AllocError, Global};
 
 /// How many bytes follow the first byte of a character.
@@ -112,4 +114,16 @@ pub fn units_of(alloc: Global, bytes: &[u8]) -> Result<Vec<u16>, AllocError>
         push_ended(&mut units, begun)?;
     }
     Ok(units)
+}
+
+/// How many code units a part of a text has; where all of the text is ASCII, they aren't counted.
+pub fn units_in(is_ascii: bool, part: &str) -> u64
+    requires { is_ascii ≡ true → IsAscii part.now }
+    ensures count { result ≡ units_in part.now }
+    ensures within { result ≤ 2 * length part.now }
+{
+    if is_ascii {
+        return part.len() as u64;
+    }
+    utf16_len(part.as_bytes())
 }

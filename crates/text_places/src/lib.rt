@@ -8,6 +8,7 @@
 #![tactic(auto)]
 
 mod hashes;
+mod hints;
 mod slots;
 mod text_index;
 mod text_places;

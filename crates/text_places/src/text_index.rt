@@ -28,7 +28,7 @@ fn text_at<'a, 't>(texts: &'a [&'t str], place: usize) -> Option<&'a &'t str>
 }
 
 /// Whether a text stands at a place.
-fn is_at(texts: &[&str], place: usize, text: &str) -> bool
+pub(crate) fn is_at(texts: &[&str], place: usize, text: &str) -> bool
     ensures { (result ≡ true) ↔ (slice_get (map (λ t. t.now) texts.now) place ≡ Some text.now) }
 {
     match text_at(texts, place) {

@@ -1,10 +1,11 @@
 //! Texts, each once.
 
-ghost use Rattle.std.specs.Prelude.{◌≡◌, [], ◌∷◌, ◌++◌, false, bytes_eq, map, position, OnOk, OnErr, IfOk};
+ghost use Rattle.std.specs.Prelude.{◌≡◌, [], ◌∷◌, ◌++◌, false, bytes_eq, map, position, Some, IfSome, OnOk, OnErr, IfOk};
 ghost use Rattle.std.specs.List.{list_any, position_or_len};
 ghost use Rattle.text_places.specs.Tables.{with_text};
 
-use crate::text_index::TextIndex;
+use crate::hints::Hints;
+use crate::text_index::{TextIndex, is_at};
 use std::alloc::{AllocError, Global};
 use std::marker::Model;
 
@@ -13,6 +14,7 @@ use std::marker::Model;
 pub struct TextPlaces<'t> {
     texts: Vec<&'t str>,
     index: TextIndex<'t>,
+    hints: Hints,
 }
 
 impl<'t> Model for TextPlaces<'t> {
@@ -35,6 +37,7 @@ impl<'t> TextPlaces<'t> {
         TextPlaces {
             texts: Vec::new(alloc),
             index: TextIndex::new(alloc),
+            hints: Hints::new(alloc),
         }
     }
 
@@ -71,6 +74,7 @@ impl<'t> TextPlaces<'t> {
         let mut widened = TextPlaces {
             texts: Vec::with_capacity(*self.texts.allocator(), texts.len())?,
             index: self.index.wider()?,
+            hints: self.hints.wider()?,
         };
         for text in texts {
             widened.put(*text)?;
@@ -78,8 +82,27 @@ impl<'t> TextPlaces<'t> {
         Ok(widened)
     }
 
-    /// The place of a text, which comes last if it is new.
-    pub fn add(&mut self, text: &'t str) -> Result<usize, AllocError>
+    /// The place of a text, where a hint tells it.
+    fn hinted(&self, text: &str) -> Option<usize>
+        ensures { IfSome result (λ place. position (bytes_eq text.now) self.now ≡ Some place) }
+    {
+        let place = self.hints.get(text)?;
+        if is_at(self.texts.as_slice(), place, text) {
+            Some(place)
+        } else {
+            None
+        }
+    }
+
+    /// The text is hinted at a place.
+    fn hint(&mut self, text: &str, place: usize)
+        ensures { self.new ≡ self.old }
+    {
+        self.hints.set(text, place);
+    }
+
+    /// The place of a text that no hint tells, which comes last if it is new.
+    fn add_unhinted(&mut self, text: &'t str) -> Result<usize, AllocError>
         ensures texts { OnOk result (self.new ≡ with_text self.old text.now) }
         ensures place { IfOk result (λ place. place ≡ position_or_len (bytes_eq text.now) self.old) }
         ensures kept { OnErr result (self.new ≡ self.old) }
@@ -92,6 +115,20 @@ impl<'t> TextPlaces<'t> {
             *self = self.widened()?;
         }
         self.put(text)?;
+        Ok(place)
+    }
+
+    /// The place of a text, which comes last if it is new.
+    pub fn add(&mut self, text: &'t str) -> Result<usize, AllocError>
+        ensures texts { OnOk result (self.new ≡ with_text self.old text.now) }
+        ensures place { IfOk result (λ place. place ≡ position_or_len (bytes_eq text.now) self.old) }
+        ensures kept { OnErr result (self.new ≡ self.old) }
+    {
+        if let Some(place) = self.hinted(text) {
+            return Ok(place);
+        }
+        let place = self.add_unhinted(text)?;
+        self.hint(text, place);
         Ok(place)
     }
 }

@@ -1,6 +1,6 @@
 //! The forms of strings, and what ends a piece of one.
 
-ghost use Rattle.std.specs.Prelude.{◌≡◌, ◌<◌, ◌≤◌, ◌==◌, ◌&&◌, false, length, not, option_map, true};
+ghost use Rattle.std.specs.Prelude.{◌≡◌, ◌<◌, ◌≤◌, ◌==◌, ◌&&◌, ◌||◌, None, false, length, not, option_map, true};
 ghost use Rattle.dart_scan.specs.Strings.{form_of, opening_of, string_form, begins_interpolation, ends_piece, plain_size};
 ghost use Rattle.dart_scan.specs.Openings.{shape, taken};
 
@@ -98,10 +98,30 @@ fn escaping(quotes: &'static [u8]) -> StringForm
     StringForm { raw: false, quotes }
 }
 
+/// A string may begin with the byte.
+fn begins_opening(byte: u8) -> bool
+    ensures { result ≡ (byte == 114 || (byte == 39 || byte == 34)) }
+{
+    byte == b'r' || (byte == b'\'' || byte == b'"')
+}
+
+/// A string may stand first in the text, by its first byte.
+fn may_open(text: &[u8]) -> bool
+    ensures { result ≡ false → string_form text.now ≡ None }
+{
+    if text.is_empty() {
+        return false;
+    }
+    begins_opening(text[0])
+}
+
 /// The form of the string that a text begins with.
 pub fn string_form(text: &[u8]) -> Option<StringForm>
     ensures { option_map shape result ≡ string_form text.now }
 {
+    if !may_open(text) {
+        return None;
+    }
     match text {
         [b'r', b'\'', b'\'', b'\'', ..] => Some(raw(b"'''")),
         [b'r', b'"', b'"', b'"', ..] => Some(raw(b"\"\"\"")),

@@ -1,7 +1,7 @@
 //! The first piece of a text, strings aside.
 
-ghost use Rattle.std.specs.Prelude.{◌≡◌, ◌+◌, ◌<◌, ◌≤◌, IsTrue, codes, drop, false, length};
-ghost use Rattle.dart_scan.specs.Characters.{is_identifier_start, is_identifier_part, is_blank, is_within_line, is_beyond_ascii};
+ghost use Rattle.std.specs.Prelude.{◌≡◌, ◌+◌, ◌<◌, ◌≤◌, ◌==◌, ◌||◌, IsTrue, codes, drop, false, if◌then◌else◌, length};
+ghost use Rattle.dart_scan.specs.Characters.{is_digit, is_identifier_start, is_identifier_part, is_blank, is_within_line, is_beyond_ascii};
 ghost use Rattle.dart_scan.specs.Lexemes.{begins, mark_size, run, word_size};
 ghost use Rattle.dart_scan.specs.Pieces.{longer, lexeme_at, comment_piece, piece_at};
 
@@ -144,19 +144,33 @@ fn line_comment(text: &[u8]) -> Piece
     gap(2 + rest_of_line(&text[2..]))
 }
 
-/// The first piece of a text that isn't empty and begins with no string. A byte order mark that stands
-/// first of all isn't looked for.
-#[tactic(auto, using(crate::specs::PieceLemmas::piece_least))]
-pub fn piece_at(text: &[u8]) -> Piece
+/// A number or a comment may begin with the byte, or it is beyond ASCII.
+fn begins_beside_marks(byte: u8) -> bool
+    ensures { result ≡ (is_digit byte || (byte == 46 || (byte == 47 || is_beyond_ascii byte))) }
+{
+    digit(byte) || (byte == b'.' || (byte == b'/' || byte >= 128))
+}
+
+/// The mark of punctuation at the front, or one byte that begins none.
+fn mark(text: &[u8]) -> Piece
     requires { 0 < length text.now }
-    ensures piece { result ≡ piece_at false text.now }
-    ensures some { 0 < result.size }
+    ensures piece { result ≡ longer (record { class = Class.Mark; size = mark_size text.now }) (record { class = Class.IllegalCharacter; size = 1 }) }
     ensures within { result.size ≤ length text.now }
 {
-    let blanks = blanks(text);
-    if blanks > 0 {
-        return gap(blanks);
-    }
+    let piece = |class, size| Piece { class, size };
+    longer(
+        piece(Class::Mark, mark_size(text)),
+        piece(Class::IllegalCharacter, 1),
+    )
+}
+
+/// The comment at the front, or else the longest lexeme.
+fn comment_or_lexeme(text: &[u8]) -> Piece
+    requires { 0 < length text.now }
+    ensures piece { result ≡ (if begins text.now (codes "//") then record { class = Class.Gap; size = 2 + run is_within_line (drop 2 text.now) }
+        else (if begins text.now (codes "/*") then comment_piece text.now else lexeme_at text.now)) }
+    ensures within { result.size ≤ length text.now }
+{
     if text.starts_with(b"//") {
         return line_comment(text);
     }
@@ -164,4 +178,30 @@ pub fn piece_at(text: &[u8]) -> Piece
         return comment(text);
     }
     lexeme(text)
+}
+
+/// The first piece of a text that isn't empty and begins with no string. A byte order mark that stands
+/// first of all isn't looked for. Words and white space are most pieces, and are looked for first.
+#[tactic(auto, using(crate::specs::PieceLemmas::piece_least))]
+pub fn piece_at(text: &[u8]) -> Piece
+    requires { 0 < length text.now }
+    ensures piece { result ≡ piece_at false text.now }
+    ensures some { 0 < result.size }
+    ensures within { result.size ≤ length text.now }
+{
+    let word = word_size(text);
+    if word > 0 {
+        return Piece {
+            class: Class::Word,
+            size: word,
+        };
+    }
+    let blanks = blanks(text);
+    if blanks > 0 {
+        return gap(blanks);
+    }
+    if begins_beside_marks(text[0]) {
+        return comment_or_lexeme(text);
+    }
+    mark(text)
 }

@@ -1,6 +1,6 @@
-use Rattle.std.proofs.Common.{◌≡◌, ◌+◌, ◌*◌, ◌≤◌, ◌++◌, length, drop}
+use Rattle.std.proofs.Common.{◌≡◌, ◌+◌, ◌*◌, ◌≤◌, ◌++◌, true, length, drop}
 use Rattle.std.specs.List.{sum_by}
-use Rattle.std.specs.Str.{IsUtf8}
+use Rattle.std.specs.Str.{IsAscii, IsUtf8}
 use Rattle.dart_scan.specs.Scanned.{tokens_behind, words_behind, tokens_of, words_of, faults_of}
 use Rattle.dart_scan.specs.StringTexts.{AreTexts}
 use Rattle.dart_scan.proofs.ScanLemmas.{ahead, lexemes_ahead, faults_ahead}
@@ -12,6 +12,7 @@ invariant-loop-piece l = record {
   cover : sum_by (λ piece. piece.size) (drop l.piece-index l.pieces) ≡ length l.rest;
   few_words : length l.found.places + length l.rest ≤ length l.text;
   few_tokens : length l.found.tokens.items + length l.rest ≤ length l.text;
+  ascii : l.is_ascii ≡ true → IsAscii l.rest;
   utf8 : IsUtf8 l.rest;
   texts : AreTexts (ahead l.pieces l.piece-index l.rest);
   tokens : tokens_of l.text ≡ l.found.tokens.items ++ tokens_behind l.found.places (lexemes_ahead l.pieces l.piece-index l.start l.rest);
