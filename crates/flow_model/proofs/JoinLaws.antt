@@ -40,7 +40,7 @@ or-self true = refl
 or-self false = refl
 
 -- a test that fails at the end
-and-false : (a : Bool) → (a && false) ≡ false
+pub and-false : (a : Bool) → (a && false) ≡ false
 and-false true = refl
 and-false false = refl
 
@@ -119,11 +119,11 @@ is_in-at (t ∷ ts) zero d within = rw (same_type-refl t) refl
 is_in-at (t ∷ ts) (suc j) d within = rw (is_in-at ts j d (omega arith)) (or-true _)
 
 -- what a list has in common with itself
-common_of-self : (ts : List Ty) → common_of ts ts ≡ ts
+pub common_of-self : (ts : List Ty) → common_of ts ts ≡ ts
 common_of-self ts = filter_all (is_in ts) ts (λ j d from to. is_in-at ts j d to)
 
 -- a list has nothing beside itself
-union_of-self : (ts : List Ty) → union_of ts ts ≡ ts
+pub union_of-self : (ts : List Ty) → union_of ts ts ≡ ts
 union_of-self ts =
     ap (λ (rest : List Ty). ts ++ rest) (filter_none (λ t. not (is_in ts t)) ts (λ j d from to. ap not (is_in-at ts j d to)))
     ∙ append-nil ts

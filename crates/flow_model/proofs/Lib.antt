@@ -7,8 +7,11 @@ pub mod SameScope
 pub mod Paged
 pub mod Pairs
 pub mod JoinLaws
+pub mod Meetings
 pub mod Forgets
+pub mod SharedSteps
 pub mod WrittenTypes
+pub mod Unpromoted
 pub mod Kept
 pub mod Captured
 pub mod Descents

@@ -5,7 +5,8 @@ use Rattle.std.specs.List.{flat_map}
 use Rattle.std.proofs.lemmas.Nat.{div-add-mod'}
 use Rattle.std.proofs.lemmas.List.{get_or_append_left, get_or-append_right, length-append, append_assoc, append-nil, set-append_left, set-append_right}
 use Rattle.std.proofs.lemmas.List.Elements.{All-head, All-tail}
-use Rattle.std.proofs.Math.Seq.{take-append-add}
+use Rattle.std.proofs.Math.Seq.{take-append-add, take-suc}
+use Rattle.std.proofs.lemmas.Grind.{flat_map-append}
 
 module _ {X : Type 0} where
   -- a page is full
@@ -29,6 +30,13 @@ module _ {X : Type 0} where
   take_min (suc i) zero xs le within most = absurd (omega (arith, le))
   take_min (suc i) (suc n) [] le within most = absurd (omega (arith, within))
   take_min (suc i) (suc n) (x ∷ xs) le within most = ap (λ l. x ∷ l) (take_min i n xs (omega (arith, le)) (omega (arith, within)) (omega (arith, most)))
+
+  -- one page more
+  pub paged-more : (pages : List (List X)) (i : ℕ) (page : List X) → i < length pages → page ≡ get_or pages i page → paged (take (suc i) pages) ≡ paged (take i pages) ++ page
+  paged-more pages i page within is =
+      ap (λ (l : List (List X)). paged l) (take-suc pages i page within)
+      ∙ flat_map-append (λ (p : List X). p) (take i pages) (get_or pages i page ∷ [])
+      ∙ ap (λ (p : List X). paged (take i pages) ++ p) (append-nil (get_or pages i page) ∙ sym is)
 
   -- how much that is
   pub pages_length : (pages : List (List X)) → All IsFull pages → length (paged pages) ≡ length pages * 32

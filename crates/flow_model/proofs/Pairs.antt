@@ -1,7 +1,7 @@
 -- What is made of the locals of two models, paired by their places.
 use Rattle.std.proofs.Common.{◌≡◌, ℕ, zero, suc, ◌+◌, ◌<◌, ◌≤◌, ◌-◌, Bool, true, false, nat_eq, map, List, [], ◌∷◌, ◌++◌, length, get_or, set, take, drop, drop-cons, length-take, get_or-take, Option, Some, refl, sym, ap, ◌∙◌, arith}
 use Rattle.std.specs.Prelude.{min, zip, find}
-use Rattle.std.proofs.lemmas.List.{append-nil, append_assoc, drop_all, length-append, length-drop, set-append_right}
+use Rattle.std.proofs.lemmas.List.{append-nil, append_assoc, drop_all, get_or-append_right, length-append, length-drop, set-append_right}
 use Rattle.dart_types.specs.Ty.{Ty}
 use Rattle.flow_model.specs.Flow.{IsInOrder, is_of}
 use Rattle.flow_model.specs.declared.locals.LocalId.{LocalId}
@@ -77,6 +77,15 @@ module _ (f : Facts → Facts → Facts) where
     more =
         sym (append_assoc (paired (take i ls) (take i ms)) (f l m ∷ []) (drop (suc i) (take (length ms) ls)))
         ∙ ap (λ (js : List Facts). js ++ drop (suc i) (take (length ms) ls)) (sym (paired-more ls ms i l m in_ls in_ms is_l is_m))
+
+    -- at the place stands the first list's
+    pub first-there : l ≡ get_or (so_far ls ms i) i l
+    first-there =
+        let made = length-paired ls ms i (omega (arith, in_ls)) (omega (arith, in_ms)) in
+        let first : i - i ≡ 0 = omega arith in
+        sym (get_or-append_right (paired (take i ls) (take i ms)) (drop i (take (length ms) ls)) i i l made (omega arith)
+        ∙ (ap (λ (k : ℕ). get_or (drop i (take (length ms) ls)) k l) first
+        ∙ ap (λ (js : List Facts). get_or js 0 l) here))
 
     -- what is made of a local is written over it
     pub changed-more : set (so_far ls ms i) i (f l m) ≡ so_far ls ms (suc i)

@@ -1,5 +1,5 @@
 -- What a binary search finds among locals in order, and what an edit at that place does.
-use Rattle.std.proofs.Common.{◌≡◌, ℕ, suc, ◌+◌, ◌-◌, ◌<◌, ◌≤◌, true, false, not, nat_eq, nat_lt, List, [], ◌∷◌, ◌++◌, length, get_or, set, take, drop, map, if◌then◌else◌, Some, None, IsSome, IsNone, Result, Ok, Err, OnOk, OnErr, refl, sym, ap, ◌∙◌, subst, arith, eq-eqb}
+use Rattle.std.proofs.Common.{◌≡◌, ℕ, zero, suc, ◌+◌, ◌-◌, ◌<◌, ◌≤◌, true, false, not, nat_eq, nat_lt, List, [], ◌∷◌, ◌++◌, length, get_or, set, take, drop, map, if◌then◌else◌, Some, None, IsSome, IsNone, Result, Ok, Err, OnOk, OnErr, refl, sym, ap, ◌∙◌, subst, arith, eq-eqb}
 use Rattle.std.specs.Prelude.{filter, find}
 use Rattle.std.specs.List.{insert, remove}
 use Rattle.std.proofs.lemmas.List.{get_or_default}
@@ -33,6 +33,26 @@ some_facts (l ∷ ls) at within = l
 pub order-after : {T E : Type 0} (r : Result T E) (new made old : List Facts) → OnOk r (new ≡ made) → OnErr r (new ≡ old) → IsInOrder made → IsInOrder old → IsInOrder new
 order-after (Ok x) new made old done kept ordered before = subst IsInOrder (sym done) ordered
 order-after (Err e) new made old done kept ordered before = subst IsInOrder (sym kept) before
+
+-- other facts of the local at a place leave the numbers of the locals
+numbers_kept : (locals : List Facts) (at : ℕ) (l : Facts) → ((d : Facts) → l.var.0 ≡ (get_or locals at d).var.0) → (k : ℕ) (d : Facts) → (get_or (set locals at l) k d).var.0 ≡ (get_or locals k d).var.0
+numbers_kept [] at l same k d = refl
+numbers_kept (m ∷ ms) zero l same zero d = same d
+numbers_kept (m ∷ ms) zero l same (suc k) d = refl
+numbers_kept (m ∷ ms) (suc at) l same zero d = refl
+numbers_kept (m ∷ ms) (suc at) l same (suc k) d = numbers_kept ms at l same k d
+
+-- and how many they are
+as_many_kept : (locals : List Facts) (at : ℕ) (l : Facts) → length (set locals at l) ≡ length locals
+as_many_kept [] at l = refl
+as_many_kept (m ∷ ms) zero l = refl
+as_many_kept (m ∷ ms) (suc at) l = ap suc (as_many_kept ms at l)
+
+-- so they leave the order
+pub order-set : (locals : List Facts) (at : ℕ) (l : Facts) → ((d : Facts) → l.var.0 ≡ (get_or locals at d).var.0) → IsInOrder locals → IsInOrder (set locals at l)
+order-set locals at l same order i j d lt within =
+    let in_range : j < length locals = subst (λ (n : ℕ). j < n) (as_many_kept locals at l) within in
+    rw (numbers_kept locals at l same i d, numbers_kept locals at l same j d) (order i j d lt in_range)
 
 module _ (locals : List Facts) (order : IsInOrder locals) (var : LocalId) (at : ℕ) (stands : StandsAt locals var at) where
   -- the local is at its place

@@ -5,10 +5,11 @@
 //! and whether a function that writes it may have been made. Each of its calls is one equation over
 //! the model, by the definitions of `specs/Flow.antt`, `Promote.antt`, `Assign.antt`, `Steps.antt`,
 //! `Join.antt` and `Restrict.antt`. The locals stand in pages that models share, so a copy of a model
-//! costs two pointers, and a change of one local a page and the list of pages. The laws say what is known of each local after a step, which facts every step
-//! keeps (`specs/Chains.antt`), and which steps keep the order of models by what they say
-//! (`specs/Order.antt`). Types, rows and subtyping are those of `dart_types`, types without null those
-//! of `type_bounds`; the crate stands on these two.
+//! costs two pointers, and a change of one local a page and the list of pages. Some steps go from a
+//! shared model to a shared one, which is the same one where they change nothing. The laws say what is
+//! known of each local after a step, which facts every step keeps (`specs/Chains.antt`), and which
+//! steps keep the order of models by what they say (`specs/Order.antt`). Types, rows and subtyping are
+//! those of `dart_types`, types without null those of `type_bounds`; the crate stands on these two.
 #![tactic(auto)]
 
 mod facts;
@@ -21,6 +22,7 @@ mod page;
 mod pages;
 mod promotions;
 mod restrict;
+mod shared;
 mod types;
 mod writes;
 

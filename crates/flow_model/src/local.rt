@@ -4,10 +4,8 @@ ghost use Rattle.std.specs.Prelude.{◌≡◌, [], true, false, IfOk, IsTrue, �
 ghost use Rattle.flow_model.specs.Flow.{fresh_facts};
 ghost use Rattle.flow_model.specs.Promote.{append_facts, non_null_facts, promote_facts};
 ghost use Rattle.flow_model.specs.Assign.{assign_facts};
-ghost use Rattle.flow_model.specs.Join.{join_facts};
 ghost use Rattle.flow_model.specs.Restrict.{restrict_facts};
 
-use crate::join::join_facts;
 use crate::locals::{Facts, LocalDecl};
 use crate::restrict::{Changes, restrict_facts};
 use dart_types::{DartType, Rows};
@@ -34,14 +32,21 @@ impl Model for Local {
 }
 
 impl Local {
+    /// A local of which this is known.
+    pub(crate) fn new(alloc: Global, facts: Facts) -> Result<Local, AllocError>
+        ensures { IfOk result (λ local. local ≡ facts) }
+    {
+        Ok(Local {
+            facts: Rc::new(alloc, facts)?,
+        })
+    }
+
     /// A local that has just come into scope.
     pub(crate) fn fresh(alloc: Global, local: &LocalDecl) -> Result<Local, AllocError>
         ensures { IfOk result (λ fresh. fresh ≡ fresh_facts local.now) }
     {
         let facts = Facts::fresh(alloc, local)?;
-        Ok(Local {
-            facts: Rc::new(alloc, facts)?,
-        })
+        Local::new(alloc, facts)
     }
 
     /// The same facts once more.
@@ -67,117 +72,79 @@ impl Local {
         self.facts().is_same(other.facts())
     }
 
-    /// The local where a test has told that it has the type `to`.
+    /// What is known of the local where a test has told that it has the type `to`.
     pub(crate) fn promote(
         &self,
         alloc: Global,
         rows: &Rows,
         to: &DartType,
-    ) -> Result<Local, AllocError>
-        ensures { IfOk result (λ local. local ≡ promote_facts rows.now.table to.now self.now) }
+    ) -> Result<Facts, AllocError>
+        ensures { IfOk result (λ facts. facts ≡ promote_facts rows.now.table to.now self.now) }
     {
-        let facts = self.facts().promote(alloc, rows, to)?;
-        self.changed_to(alloc, facts)
+        self.facts().promote(alloc, rows, to)
     }
 
-    /// The local where it isn't null.
-    pub(crate) fn non_null(&self, alloc: Global, rows: &Rows) -> Result<Local, AllocError>
-        ensures { IfOk result (λ local. local ≡ non_null_facts rows.now.table self.now) }
+    /// What is known of the local where it isn't null.
+    pub(crate) fn non_null(&self, alloc: Global, rows: &Rows) -> Result<Facts, AllocError>
+        ensures { IfOk result (λ facts. facts ≡ non_null_facts rows.now.table self.now) }
     {
-        let facts = self.facts().non_null(alloc, rows)?;
-        self.changed_to(alloc, facts)
+        self.facts().non_null(alloc, rows)
     }
 
-    /// The local where it is known to have the type `to`, without a test.
+    /// What is known of the local where it is known to have the type `to`, without a test.
     pub(crate) fn append(
         &self,
         alloc: Global,
         rows: &Rows,
         to: &DartType,
-    ) -> Result<Local, AllocError>
-        ensures { IfOk result (λ local. local ≡ append_facts rows.now.table to.now self.now) }
+    ) -> Result<Facts, AllocError>
+        ensures { IfOk result (λ facts. facts ≡ append_facts rows.now.table to.now self.now) }
     {
-        let facts = self.facts().append(alloc, rows, to)?;
-        self.changed_to(alloc, facts)
+        self.facts().append(alloc, rows, to)
     }
 
-    /// The local after a write of a value of the type `written`.
+    /// What is known of the local after a write of a value of the type `written`.
     pub(crate) fn assign(
         &self,
         alloc: Global,
         rows: &Rows,
         written: &DartType,
-    ) -> Result<Local, AllocError>
-        ensures { IfOk result (λ local. local ≡ assign_facts rows.now.table written.now self.now) }
+    ) -> Result<Facts, AllocError>
+        ensures { IfOk result (λ facts. facts ≡ assign_facts rows.now.table written.now self.now) }
     {
-        let facts = self.facts().assign(alloc, rows, written)?;
-        self.changed_to(alloc, facts)
+        self.facts().assign(alloc, rows, written)
     }
 
-    /// The local without what code that writes it could change.
-    pub(crate) fn forget(&self, alloc: Global) -> Result<Local, AllocError>
-        ensures { IfOk result (λ local. local ≡ record self.now { chain = []; unassigned = false }) }
+    /// What is known of the local without what code that writes it could change.
+    pub(crate) fn forget(&self, alloc: Global) -> Result<Facts, AllocError>
+        ensures { IfOk result (λ facts. facts ≡ record self.now { chain = []; unassigned = false }) }
     {
         let mut facts = self.facts().copy(alloc)?;
         facts.forget(alloc);
-        self.changed_to(alloc, facts)
+        Ok(facts)
     }
 
-    /// The local without what code that captures it could change; it is captured from now on.
-    pub(crate) fn capture(&self, alloc: Global) -> Result<Local, AllocError>
-        ensures { IfOk result (λ local. local ≡ record self.now { chain = []; unassigned = false; captured = true }) }
+    /// What is known of the local without what code that captures it could change; it is captured from now on.
+    pub(crate) fn capture(&self, alloc: Global) -> Result<Facts, AllocError>
+        ensures { IfOk result (λ facts. facts ≡ record self.now { chain = []; unassigned = false; captured = true }) }
     {
         let mut facts = self.facts().copy(alloc)?;
         facts.forget(alloc);
         facts.captured = true;
-        self.changed_to(alloc, facts)
+        Ok(facts)
     }
 
-    /// The local where this path meets another. Where both know the same of a local that isn't
-    /// captured, it is shared, and nothing is made anew.
-    pub(crate) fn join(&self, alloc: Global, other: &Local) -> Result<Local, AllocError>
-        ensures { IfOk result (λ joined. joined ≡ join_facts self.now other.now) }
-    {
-        if self.joins_alike(other) {
-            return self.share();
-        }
-        let facts = join_facts(alloc, self.facts(), other.facts())?;
-        self.changed_to(alloc, facts)
-    }
-
-    /// The local behind a `try` with a `finally` block, where this is what is known behind the body.
+    /// What is known of the local behind a `try` with a `finally` block, where this is what is known
+    /// behind the body.
     pub(crate) fn restrict(
         &self,
         alloc: Global,
         rows: &Rows,
         block: &Local,
         changes: &Changes,
-    ) -> Result<Local, AllocError>
-        ensures { IfOk result (λ local. local ≡ restrict_facts rows.now.table changes.now.written.now changes.now.captured.now self.now block.now) }
+    ) -> Result<Facts, AllocError>
+        ensures { IfOk result (λ facts. facts ≡ restrict_facts rows.now.table changes.now.written.now changes.now.captured.now self.now block.now) }
     {
-        let facts = restrict_facts(alloc, rows, self.facts(), block.facts(), changes)?;
-        self.changed_to(alloc, facts)
-    }
-
-    // Whether it is seen without a join that this path knows what both know.
-    fn joins_alike(&self, other: &Local) -> bool
-        ensures { IsTrue result → join_facts self.now other.now ≡ self.now }
-    {
-        if self.facts().captured {
-            return false;
-        }
-        self.is_same(other)
-    }
-
-    // The local of these facts, which is shared with this one where the facts are the same.
-    fn changed_to(&self, alloc: Global, facts: Facts) -> Result<Local, AllocError>
-        ensures { IfOk result (λ changed. changed ≡ facts) }
-    {
-        if facts.is_same(self.facts()) {
-            return self.share();
-        }
-        Ok(Local {
-            facts: Rc::new(alloc, facts)?,
-        })
+        restrict_facts(alloc, rows, self.facts(), block.facts(), changes)
     }
 }

@@ -8,9 +8,11 @@ ghost use Rattle.flow_model.specs.Join.{join_of};
 ghost use Rattle.flow_model.specs.Promote.{append_facts, non_null_facts, promote_facts};
 ghost use Rattle.flow_model.specs.Steps.{conservative_of, exit_of};
 ghost use Rattle.flow_model.specs.Restrict.{restrict_of};
-ghost use Rattle.flow_model.specs.Place.{StandsAt, WouldStandAt};
+ghost use Rattle.flow_model.specs.Meeting.{on_path};
+ghost use Rattle.flow_model.specs.Place.{with_facts, StandsAt, WouldStandAt};
+ghost use Rattle.flow_model.specs.declared.locals.Facts.{Facts};
 
-use crate::join::join_locals;
+use crate::join::{Path, join_locals};
 use crate::local::Local;
 use crate::locals::{Facts, LocalDecl, LocalId};
 use crate::pages::Locals;
@@ -398,8 +400,63 @@ impl Flow {
         Ok(())
     }
 
-    // What is known of a local.
-    fn facts(&self, var: LocalId) -> Option<&Facts>
+    /// The model with other facts of the local at a place. It costs a page and the list of pages.
+    pub(crate) fn with(&self, alloc: Global, place: usize, facts: Facts) -> Result<Flow, AllocError>
+        requires in_range { place < length self.now.locals }
+        requires same_local { (d : Facts) → facts.var.0 ≡ (slice_index_or self.now.locals place d).var.0 }
+        ensures { IfOk result (λ flow. flow ≡ with_facts self.now place facts) }
+    {
+        let local = Local::new(alloc, facts)?;
+        let mut locals = self.locals.share()?;
+        locals.write(alloc, place, local)?;
+        Ok(Flow {
+            reachable: self.reachable,
+            locals,
+        })
+    }
+
+    /// Whether it is seen without a join that where this path meets another is known what is known
+    /// on one of them. It takes no memory.
+    pub(crate) fn joins_to(&self, path: Path, other: &Flow) -> bool
+        ensures { IsTrue result → join_of self.now other.now ≡ on_path path self.now other.now }
+    {
+        if !other.reachable {
+            return matches!(path, Path::First);
+        }
+        if !self.reachable {
+            return matches!(path, Path::Second);
+        }
+        self.locals.join_to(path, &other.locals)
+    }
+
+    /// Whether it is seen that code that writes these locals changes nothing that is known: those in
+    /// scope are promoted to nothing and may have a value.
+    pub(crate) fn is_kept_by_writes(&self, written: &[LocalId]) -> bool
+        ensures { IsTrue result → conservative_of self.now written.now [] ≡ self.now }
+    {
+        for var in written {
+            if !self.is_kept_by_write(*var) {
+                return false;
+            }
+        }
+        true
+    }
+
+    // Whether it is seen that code that writes the local changes nothing that is known.
+    fn is_kept_by_write(&self, var: LocalId) -> bool
+        ensures { IsTrue result → conservative_of self.now (var ∷ []) [] ≡ self.now }
+    {
+        match self.search(var) {
+            Ok(place) => {
+                let facts = self.locals.at(place).facts();
+                facts.chain.as_slice().is_empty() && !facts.unassigned
+            }
+            Err(_) => true,
+        }
+    }
+
+    /// What is known of a local: None exactly where it isn't in scope.
+    pub fn facts(&self, var: LocalId) -> Option<&Facts>
         ensures { option_copied result ≡ facts_of self.now var }
     {
         match self.search(var) {
@@ -408,8 +465,8 @@ impl Flow {
         }
     }
 
-    // Where the local stands, or else where it would.
-    fn search(&self, var: LocalId) -> Result<usize, usize>
+    /// Where the local stands, or else where it would.
+    pub(crate) fn search(&self, var: LocalId) -> Result<usize, usize>
         ensures found { IfOk result (StandsAt self.now.locals var) }
         ensures absent { IfErr result (WouldStandAt self.now.locals var) }
     {

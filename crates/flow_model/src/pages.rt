@@ -1,12 +1,14 @@
 //! The locals in scope, in pages that models share.
 
 ghost use Rattle.std.specs.Prelude.{◌≡◌, ◌<◌, ◌≤◌, ◌-◌, ◌++◌, ◌∷◌, [], IfOk, IfErr, OnOk, OnErr, IsTrue, ◌↔◌, length, set, take, drop, slice_index_or};
-ghost use Rattle.std.specs.List.{insert, remove};
+ghost use Rattle.std.specs.List.{flat_map, insert, remove};
 ghost use Rattle.flow_model.specs.Flow.{IsInOrder};
+ghost use Rattle.flow_model.specs.Meeting.{JoinTo};
 ghost use Rattle.flow_model.specs.Place.{StandsAt, WouldStandAt};
 
+use crate::join::{Path, all_join_to};
 use crate::local::Local;
-use crate::locals::LocalId;
+use crate::locals::{Facts, LocalId};
 use crate::page::Page;
 use std::alloc::{AllocError, Global};
 use std::marker::Model;
@@ -104,26 +106,32 @@ impl Locals {
         Err(low)
     }
 
-    /// Writes a local over another. Where the same is known of both, nothing is written, and the
-    /// pages stay shared. After an `Err` they are as before.
+    /// Writes what is known of the local at a place. Where that is known already, nothing is written,
+    /// and the pages stay shared. After an `Err` they are as before.
     pub(crate) fn put(
+        &mut self,
+        alloc: Global,
+        place: usize,
+        facts: Facts,
+    ) -> Result<(), AllocError>
+        requires { place < length self.old }
+        ensures ok { OnOk result (self.new ≡ set self.old place facts) }
+        ensures err { OnErr result (self.new ≡ self.old) }
+    {
+        if facts.is_same(self.at(place).facts()) {
+            return Ok(());
+        }
+        let local = Local::new(alloc, facts)?;
+        self.write(alloc, place, local)
+    }
+
+    /// Writes a local over another. After an `Err` they are as before.
+    pub(crate) fn write(
         &mut self,
         alloc: Global,
         place: usize,
         local: Local,
     ) -> Result<(), AllocError>
-        requires { place < length self.old }
-        ensures ok { OnOk result (self.new ≡ set self.old place local) }
-        ensures err { OnErr result (self.new ≡ self.old) }
-    {
-        if local.is_same(self.at(place)) {
-            return Ok(());
-        }
-        self.write(alloc, place, local)
-    }
-
-    // Writes a local over another.
-    fn write(&mut self, alloc: Global, place: usize, local: Local) -> Result<(), AllocError>
         requires { place < length self.old }
         ensures ok { OnOk result (self.new ≡ set self.old place local) }
         ensures err { OnErr result (self.new ≡ self.old) }
@@ -229,6 +237,15 @@ impl Locals {
         true
     }
 
+    /// Whether it is seen without a join that where two paths meet is known of the locals what is
+    /// known of them on one of the paths. It goes page by page, and takes no memory.
+    pub(crate) fn join_to(&self, path: Path, other: &Locals) -> bool
+        ensures { IsTrue result → JoinTo path self.now other.now }
+    {
+        pages_join_to(path, &self.pages, &other.pages)
+            && all_join_to(path, self.last.locals(), other.last.locals())
+    }
+
     // Puts others, from a place on, at the end.
     fn push_from(&mut self, alloc: Global, others: &Locals, from: usize) -> Result<(), AllocError>
         ensures { OnOk result (self.new ≡ self.old ++ drop from others.now) }
@@ -253,6 +270,22 @@ impl Locals {
         }
         Ok(())
     }
+}
+
+// Whether it is seen without a join that the locals in pages meet in what is known of them on one of
+// the paths.
+fn pages_join_to(path: Path, pages: &[Page], others: &[Page]) -> bool
+    ensures { IsTrue result → JoinTo path (flat_map (λ page. page) pages.now) (flat_map (λ page. page) others.now) }
+{
+    if pages.len() != others.len() {
+        return false;
+    }
+    for i in 0..pages.len() {
+        if !all_join_to(path, pages[i].locals(), others[i].locals()) {
+            return false;
+        }
+    }
+    true
 }
 
 // Writes a local over another of a page. After an `Err` the pages are as before.

@@ -1,16 +1,17 @@
 //! What writes of a local do to what is known of it.
 
-ghost use Rattle.std.specs.Prelude.{◌≡◌, ◌++◌, ◌∷◌, [], ◌&&◌, IfOk, OnOk, MatchOption, filter};
+ghost use Rattle.std.specs.Prelude.{◌≡◌, ◌++◌, ◌∷◌, [], ◌&&◌, IfOk, IsTrue, OnOk, MatchOption, filter};
 ghost use Rattle.std.specs.List.{list_all};
 ghost use Rattle.dart_types.specs.SubTest.{sub};
+ghost use Rattle.dart_types.specs.Tables.{Table};
 ghost use Rattle.type_bounds.specs.NonNull.{non_null_of};
 ghost use Rattle.flow_model.specs.TypeTests.{is_formed, is_in, proper_sub};
 ghost use Rattle.flow_model.specs.Flow.{last_or};
-ghost use Rattle.flow_model.specs.Assign.{appended_of, assign_facts, between_of, interest_of, least_of};
+ghost use Rattle.flow_model.specs.Assign.{appended_of, assign_facts, between_of, chain_after, interest_of, least_of};
 
 use crate::locals::Facts;
 use crate::types::{formed_non_null, is_in, is_proper_subtype, last_or};
-use dart_types::{DartType, Rows, TypeList, is_subtype};
+use dart_types::{DartType, Rows, TypeList, TypeNode, is_subtype};
 use std::alloc::{AllocError, Global};
 
 impl Facts {
@@ -23,20 +24,49 @@ impl Facts {
     ) -> Result<Facts, AllocError>
         ensures { IfOk result (λ facts. facts ≡ assign_facts rows.now.table written.now self.now) }
     {
-        let mut chain = supertypes(alloc, rows, written, self.chain.as_slice())?;
-        if !self.captured {
-            let interest = self.interest(alloc, rows)?;
-            append(alloc, rows, written, &self.ty, &interest, &mut chain)?;
-        }
         Ok(Facts {
             var: self.var,
             ty: self.ty.copy(alloc)?,
-            chain,
+            chain: self.chain_after(alloc, rows, written)?,
             tested: self.tested.copy(alloc)?,
             assigned: true,
             unassigned: false,
             captured: self.captured,
         })
+    }
+
+    // The types that the local is promoted to after the write.
+    fn chain_after(
+        &self,
+        alloc: Global,
+        rows: &Rows,
+        written: &DartType,
+    ) -> Result<TypeList, AllocError>
+        ensures { IfOk result (λ chain. chain ≡ chain_after rows.now.table written.now self.now) }
+    {
+        if self.stays_unpromoted(written) {
+            return Ok(TypeList::new(alloc));
+        }
+        let mut chain = supertypes(alloc, rows, written, self.chain.as_slice())?;
+        if !self.captured {
+            let interest = self.interest(alloc, rows)?;
+            append(alloc, rows, written, &self.ty, &interest, &mut chain)?;
+        }
+        Ok(chain)
+    }
+
+    // Whether it is seen without the rows that the write promotes the local to nothing: it isn't
+    // promoted, and is captured, or has a value of its declared type, beside which no type is of
+    // interest.
+    #[tactic(auto, using(crate::proofs::Unpromoted::unpromoted, crate::proofs::Unpromoted::unpromoted_captured))]
+    fn stays_unpromoted(&self, written: &DartType) -> bool
+        ensures { (table : Table) → IsTrue result → chain_after table written.now self.now ≡ [] }
+    {
+        self.chain.as_slice().is_empty()
+            && (self.captured
+                || self.tested.as_slice().is_empty()
+                    && is_interface(&self.ty)
+                    && written.is_same(&self.ty))
     }
 
     // The types of interest: the declared one, the tested ones, and these without null.
@@ -54,6 +84,14 @@ impl Facts {
         }
         Ok(types)
     }
+}
+
+// Whether a type is an interface, which is its own type without null.
+#[tactic(auto, using(crate::proofs::Unpromoted::non_null_of_interface))]
+fn is_interface(t: &DartType) -> bool
+    ensures { (table : Table) → IsTrue result → non_null_of table t.now ≡ t.now }
+{
+    matches!(&t.node, TypeNode::Interface { .. })
 }
 
 // Puts the type without null at the end, where it is formed.

@@ -17,7 +17,6 @@ ghost use Rattle.resolve.specs.Judged.{Adds, IfEvaluates, IfHas, IfJudges, IfRow
 ghost use Rattle.resolve.specs.Points.{assigned, by_form, evaluated, known, named, printed_at, surroundings, tested};
 ghost use Rattle.resolve.specs.Rows.{said_of};
 
-use super::models::behind_exit;
 use super::operators::{check_fit, differ, operate, parameter_of};
 use super::types::{invalid_type, is_never, operation_of};
 use super::writes::{assign, wanted_by};
@@ -243,9 +242,9 @@ fn exit_if_never(context: Context, typed: Typed) -> Result<Typed, AllocError>
     if !is_never(&typed.ty) {
         return Ok(typed);
     }
-    let after = behind_exit(context.alloc, &typed.after)?;
-    let when_true = behind_exit(context.alloc, &typed.when_true)?;
-    let when_false = behind_exit(context.alloc, &typed.when_false)?;
+    let after = Flow::behind_exit(context.alloc, &typed.after)?;
+    let when_true = Flow::behind_exit(context.alloc, &typed.when_true)?;
+    let when_false = Flow::behind_exit(context.alloc, &typed.when_false)?;
     Ok(Typed {
         after,
         when_true,
@@ -413,7 +412,7 @@ fn judge_boolean(point: Point, at: Place, value: bool) -> Result<Typed, AllocErr
     let before = point.before;
     let ty = point.context.core.bool().copy(point.context.alloc)?;
     let after = before.clone()?;
-    let unreached = behind_exit(point.context.alloc, before)?;
+    let unreached = Flow::behind_exit(point.context.alloc, before)?;
     if value {
         return Ok(Typed {
             at,
@@ -469,10 +468,10 @@ fn read_local(
 ) -> Result<Typed, AllocError>
     ensures { IfRowEvaluates faults.old faults.new result at (row.read_row at (facts_of before.now.value var) before.now.value) }
 {
-    match before.current(var) {
-        Some(ty) => {
-            if before.is_assigned(var) {
-                let ty = ty.copy(context.alloc)?;
+    match before.facts(var) {
+        Some(facts) => {
+            if facts.assigned {
+                let ty = facts.current().copy(context.alloc)?;
                 return of_type(at, ty, before.clone()?);
             }
             faulty(at, DiagnosticCode::UnassignedRead, before, faults)

@@ -2,7 +2,6 @@
 
 ghost use Rattle.std.specs.Prelude.{◌≡◌, [], IfOk, OnOk};
 ghost use Rattle.flow_model.specs.Flow.{end_of};
-ghost use Rattle.flow_model.specs.Steps.{exit_of};
 ghost use Rattle.judgement.specs.DeclaredNames.{locals_of};
 ghost use Rattle.judgement.specs.ExpressionRows.{where_not_null};
 ghost use Rattle.judgement.specs.StatementRows.{loop_head};
@@ -14,25 +13,6 @@ use flow_model::{Flow, LocalId};
 use std::alloc::{AllocError, Global};
 use std::rc::Rc;
 
-// The model after, which is the one before where both are the same.
-pub(super) fn shared(alloc: Global, before: &Rc<Flow>, after: Flow) -> Result<Rc<Flow>, AllocError>
-    ensures { IfOk result (λ model. model.value ≡ after) }
-{
-    if after.is_same(before) {
-        return before.clone();
-    }
-    Ok(Rc::new(alloc, after)?)
-}
-
-// The model behind an exit, from the one before it.
-pub(super) fn behind_exit(alloc: Global, before: &Rc<Flow>) -> Result<Rc<Flow>, AllocError>
-    ensures { IfOk result (λ model. model.value ≡ exit_of before.now.value) }
-{
-    let mut unreached = before.copy(alloc)?;
-    unreached.exit();
-    shared(alloc, before, unreached)
-}
-
 // The model where a local isn't null, if there is one.
 pub(super) fn where_not_null(
     context: Context,
@@ -43,11 +23,7 @@ pub(super) fn where_not_null(
 {
     match compared {
         None => before.clone(),
-        Some(var) => {
-            let mut narrowed = before.copy(context.alloc)?;
-            narrowed.non_null(context.alloc, context.rows, var)?;
-            shared(context.alloc, before, narrowed)
-        }
+        Some(var) => Flow::where_not_null(context.alloc, context.rows, before, var),
     }
 }
 
@@ -59,13 +35,12 @@ pub(super) fn head_of_loop(
 ) -> Result<Rc<Flow>, AllocError>
     ensures { IfOk result (λ model. model.value ≡ loop_head before.now.value written.now []) }
 {
-    let mut head = before.copy(alloc)?;
-    head.conservative_join(alloc, written, &[])?;
-    shared(alloc, before, head)
+    Flow::around_writes(alloc, before, written)
 }
 
 // The model behind a scope that declares these names, from the one at its end: their locals end with
-// it. Where it declares none it is the same model.
+// it. Where it declares none it is the same model, and where nothing else changed in it the one before
+// it.
 pub(super) fn behind_scope(
     alloc: Global,
     declared: &[Name],
@@ -81,4 +56,14 @@ pub(super) fn behind_scope(
     let mut behind = inside.copy(alloc)?;
     behind.end(alloc, &locals)?;
     shared(alloc, before, behind)
+}
+
+// The model after, which is the one before where both are the same.
+fn shared(alloc: Global, before: &Rc<Flow>, after: Flow) -> Result<Rc<Flow>, AllocError>
+    ensures { IfOk result (λ model. model.value ≡ after) }
+{
+    if after.is_same(before) {
+        return before.clone();
+    }
+    Ok(Rc::new(alloc, after)?)
 }

@@ -11,7 +11,7 @@ ghost use Rattle.resolve.specs.Points.{branching, known, run_scope, surroundings
 ghost use Rattle.resolve.specs.WrittenIn.{known_at_head};
 
 use super::expressions::{judge_condition, judge_expression, meaning_of};
-use super::models::{behind_scope, head_of_loop, shared};
+use super::models::{behind_scope, head_of_loop};
 use super::types::invalid_type;
 use super::writes::{declare, initialize};
 use super::written::written_in_loop;
@@ -172,8 +172,7 @@ fn judge_if(
         &tested.when_false,
         found,
     )?;
-    let joined = Flow::join(context.alloc, &one, &other)?;
-    let after = shared(context.alloc, before, joined)?;
+    let after = Flow::meeting(context.alloc, &one, &other)?;
     say(at, None, before, &after, found)?;
     Ok(after)
 }

@@ -14,7 +14,6 @@ ghost use Rattle.resolve.specs.Judged.{IfHas, IfRowEvaluates, IfRowGives};
 ghost use Rattle.resolve.specs.Points.{known, surroundings};
 ghost use Rattle.resolve.specs.Rows.{declared_with, initialized, put, written};
 
-use super::models::shared;
 use super::operators::check_fit;
 use super::types::invalid_type;
 use super::{Context, Point, Typed, of_type, report};
@@ -90,9 +89,13 @@ fn write(
                 faults,
             )?;
             let ty = assigned_type(context, &value.ty, declared)?;
-            let mut written = value.after.copy(context.alloc)?;
-            written.assign(context.alloc, context.rows, var, &value.ty)?;
-            let after = shared(context.alloc, &value.after, written)?;
+            let after = Flow::after_write(
+                context.alloc,
+                context.rows,
+                &value.after,
+                var,
+                &value.ty,
+            )?;
             of_type(at, ty, after)
         }
         None => {
