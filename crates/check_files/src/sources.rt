@@ -2,13 +2,13 @@
 
 ghost use Rattle.std.specs.Prelude.{◌≡◌, ◌++◌, ◌∷◌, [], nat_eq, IfOk, OnOk, map};
 ghost use Rattle.std.specs.List.{filter, list_any};
-ghost use Rattle.check_library.specs.Checked.{IsCheckOf};
+ghost use Rattle.check_library.specs.Diagnostics.{diagnostics};
 ghost use Rattle.check_files.specs.Contents.{bare_faults_of, faults_of, no_text, read_as};
 ghost use Rattle.check_files.specs.Lent.{contents_view, file_view, table_view};
 ghost use Rattle.check_files.specs.Sources.{AreRead, but_directives, but_those, core_source, is_not_built, is_of_directive, outline_of_text, own_faults, source_of, starts_of, with_start};
 
 use crate::lent::{LentContents, LentFile, empty_text, read_as};
-use check_library::{Checked, check, text_diagnostics};
+use check_library::{diagnose, text_diagnostics};
 use dart_text::Text;
 use dart_tree::Span;
 use directives::{DeclaredNames, Directive, Directives, Outline, Spans, outline_of};
@@ -163,23 +163,21 @@ fn no_text(code: DiagnosticCode) -> Fault
     Fault { span, code }
 }
 
-/// What is wrong with what a file contains, its directives aside, where this is the check of the text
-/// as which it is read.
+/// What is wrong with what a file contains, its directives aside, where these are the diagnostics of the
+/// text as which it is read.
 fn own_faults(
     alloc: Global,
     contents: LentContents<'_>,
-    checked: &Checked,
+    faults: &[Fault],
     outline: &Outline,
 ) -> Result<OwnFaults, AllocError>
-    requires check { IsCheckOf (read_as (contents_view contents)) checked.now }
+    requires faults { faults.now ≡ diagnostics (read_as (contents_view contents)) }
     requires outline { outline.now ≡ outline_of_text (read_as (contents_view contents)) }
     ensures { IfOk result (λ own. own ≡ own_faults (contents_view contents.entry)) }
 {
     let directives = outline.directives.as_slice();
     match contents {
-        LentContents::Text(_) => {
-            but_directives(alloc, directives, checked.diagnostics.as_slice())
-        }
+        LentContents::Text(_) => but_directives(alloc, directives, faults),
         LentContents::NotUtf8(_) => {
             but_directives(alloc, directives, &[no_text(DiagnosticCode::FileNotUtf8)])
         }
@@ -217,9 +215,10 @@ pub fn add_source(
 {
     let LentFile { path, contents } = file;
     let text = read_as(contents, empty);
-    let checked = check(alloc, path, text)?;
-    let outline = outline_of(alloc, checked.unit.words.as_slice(), &checked.unit.tree)?;
-    let own = own_faults(alloc, contents, &checked, &outline)?;
+    let diagnosed = diagnose(alloc, text)?;
+    let unit = &diagnosed.unit;
+    let outline = outline_of(alloc, unit.words.as_slice(), &unit.tree)?;
+    let own = own_faults(alloc, contents, diagnosed.diagnostics.as_slice(), &outline)?;
     let path = PlainText::new(alloc, path)?;
     read.faults.push(own)?;
     read.sources.push(SourceFile { path, outline })?;

@@ -11,9 +11,11 @@ ghost use Rattle.grammar.specs.Whole.{unit_of};
 ghost use Rattle.dart_tree.specs.Numbers.{nodes_in};
 ghost use Rattle.built_forms.specs.Laws.{IsBuiltBlock};
 ghost use Rattle.built_forms.specs.Units.{built_main, has_main, has_other_names, meanings_in, unbuilt};
-ghost use Rattle.check_library.specs.Checked.{IsCheckOf, main_of_checked};
+ghost use Rattle.core_rows.specs.CoreTable.{core_table};
+ghost use Rattle.resolve.specs.Said.{kept};
+ghost use Rattle.check_library.specs.Checked.{IsCheckOf, main_of_checked, typed_tree};
 ghost use Rattle.check_library.specs.Diagnostics.{lexical_faults, segment_faults, is_undefined_code, settled, diagnostics, text_diagnostics};
-ghost use Rattle.check_library.specs.Units.{unit_of_text, judged_by};
+ghost use Rattle.check_library.specs.Units.{unit_of_text, outside_of, judged_by};
 
 use crate::faults::{add_groups_of, add_lexical, add_not_built, add_segments};
 use crate::order::sorted;
@@ -27,7 +29,7 @@ use dart_types::Rows;
 use judgement::{DiagnosticCode, Fault, Meaning, TypedNode};
 use node_counts::nodes_of_texts_are_bounded;
 use plain_text::PlainText;
-use resolve::{Found, judge_body};
+use resolve::{Found, Keep, Said, judge_body};
 use std::alloc::{AllocError, Global};
 use std::marker::Model;
 use tree_numbers::numbering_laws;
@@ -85,6 +87,25 @@ impl Checked {
         let (_, body) = built_main(outside, words, one, &self.unit.tree)?;
         Some(body)
     }
+}
+
+/// A text whose diagnostics were asked for, and no more.
+#[derive(Drop)]
+pub struct Diagnosed {
+    /// Its unit: its tree, whose nodes are numbered in reading order, and its words.
+    pub unit: Unit,
+    /// What is wrong with it.
+    pub diagnostics: Diagnostics,
+}
+
+/// A text whose function `main` was judged.
+#[derive(Drop)]
+struct JudgedText {
+    unit: Unit,
+    forms: Forms,
+    rows: Rows,
+    nodes: Said,
+    diagnostics: Diagnostics,
 }
 
 /// A text has no more tokens than bytes.
@@ -165,41 +186,43 @@ fn judged_body(
     words: &[PlainText],
     outside: &[Meaning],
     body: &Body,
+    keep: Keep,
 ) -> Result<Found, AllocError>
     requires { IsBuiltBlock outside.now body.now }
     ensures faults { IfOk result (λ found. found.faults.items ≡ (judged_by rows.now.table words.now outside.now body.now).faults) }
-    ensures nodes { IfOk result (λ found. found.nodes.items ≡ (judged_by rows.now.table words.now outside.now body.now).nodes) }
+    ensures nodes { IfOk result (λ found. found.nodes ≡ kept keep (judged_by rows.now.table words.now outside.now body.now).nodes) }
 {
     let BodyNode::Block { at, statements } = &body.node else {
         unreachable!()
     };
-    judge_body(alloc, rows, words, outside, *at, statements)
+    judge_body(alloc, rows, words, outside, *at, statements, keep)
 }
 
 /// Judges the function `main` of a unit, if that is built: adds what is wrong with it, and answers what
-/// is said of the nodes of its body.
+/// is said of the nodes of its body, if that is kept.
 fn judged(
     alloc: Global,
     rows: &Rows,
     unit: &Unit,
     forms: &Forms,
+    keep: Keep,
     faults: &mut Vec<Fault>,
-) -> Result<Vec<TypedNode>, AllocError>
+) -> Result<Said, AllocError>
     requires outside { forms.now.outside.items ≡ meanings_in unit.now.words unit.now.tree }
     requires one { forms.now.has_main ≡ has_main unit.now.words unit.now.tree }
     ensures faults { OnOk result (faults.new.items ≡ faults.old.items ++ option_map_or (λ main. settled forms.now.has_other_names main.0 (judged_by rows.now.table unit.now.words forms.now.outside.items main.1).faults) (built_main unit.now.words unit.now.tree) []) }
-    ensures nodes { IfOk result (λ nodes. nodes.items ≡ option_map_or (λ main. (judged_by rows.now.table unit.now.words forms.now.outside.items main.1).nodes) (built_main unit.now.words unit.now.tree) []) }
+    ensures nodes { IfOk result (λ nodes. nodes ≡ kept keep (option_map_or (λ main. (judged_by rows.now.table unit.now.words forms.now.outside.items main.1).nodes) (built_main unit.now.words unit.now.tree) [])) }
 {
     built_bodies_are_blocks();
     let words = unit.words.as_slice();
     let outside = forms.outside.as_slice();
     match built_main(outside, words, forms.has_main, &unit.tree) {
         Some((span, body)) => {
-            let found = judged_body(alloc, rows, words, outside, body)?;
+            let found = judged_body(alloc, rows, words, outside, body, keep)?;
             add_settled(forms.has_other_names, span, found.faults.as_slice(), faults)?;
             Ok(found.nodes)
         }
-        None => Ok(Vec::new(alloc)),
+        None => Ok(Said::new(alloc, keep)),
     }
 }
 
@@ -221,6 +244,33 @@ fn tree_diagnostics(alloc: Global, text: &Text, unit: &Unit) -> Result<Vec<Fault
     Ok(faults)
 }
 
+/// Reads a text and judges its function `main`: its unit, what that means, and what is wrong with it.
+fn judge_text(alloc: Global, text: &Text, keep: Keep) -> Result<JudgedText, AllocError>
+    ensures tree { IfOk result (λ judged. judged.unit.tree ≡ unit_of_text text.now) }
+    ensures words { IfOk result (λ judged. judged.unit.words ≡ words_of text.now) }
+    ensures outside { IfOk result (λ judged. judged.forms.outside.items ≡ outside_of text.now) }
+    ensures one { IfOk result (λ judged. judged.forms.has_main ≡ has_main (words_of text.now) (unit_of_text text.now)) }
+    ensures rows { IfOk result (λ judged. judged.rows.table ≡ core_table) }
+    ensures nodes { IfOk result (λ judged. judged.nodes ≡ kept keep (typed_tree text.now)) }
+    ensures diagnostics { IfOk result (λ judged. judged.diagnostics ≡ diagnostics text.now) }
+{
+    few_tokens(text);
+    let unit = parsed(alloc, text)?;
+    let forms = forms_of(alloc, unit.words.as_slice(), &unit.tree)?;
+    let mut faults = tree_diagnostics(alloc, text, &unit)?;
+    add_not_built(forms.unbuilt.as_slice(), &mut faults)?;
+    let rows = core_rows(alloc)?;
+    let nodes = judged(alloc, &rows, &unit, &forms, keep, &mut faults)?;
+    let faults = sorted(alloc, faults)?;
+    Ok(JudgedText {
+        unit,
+        forms,
+        rows,
+        nodes,
+        diagnostics: Diagnostics { faults },
+    })
+}
+
 /// Checks the library that the text of a file is.
 pub fn check(alloc: Global, path: &str, text: &Text) -> Result<Checked, AllocError>
     ensures path { IfOk result (λ checked. checked.path ≡ path.now) }
@@ -229,21 +279,31 @@ pub fn check(alloc: Global, path: &str, text: &Text) -> Result<Checked, AllocErr
 {
     few_tokens(text);
     few_numbers(text);
-    let unit = parsed(alloc, text)?;
-    let forms = forms_of(alloc, unit.words.as_slice(), &unit.tree)?;
-    let mut faults = tree_diagnostics(alloc, text, &unit)?;
-    add_not_built(forms.unbuilt.as_slice(), &mut faults)?;
-    let rows = core_rows(alloc)?;
-    let typed = judged(alloc, &rows, &unit, &forms, &mut faults)?;
-    let faults = sorted(alloc, faults)?;
+    let judged = judge_text(alloc, text, Keep::NodesToo)?;
+    let Some(typed) = judged.nodes.into_nodes() else {
+        unreachable!()
+    };
     let path = PlainText::new(alloc, path)?;
     Ok(Checked {
         path,
-        unit,
-        forms,
-        rows,
+        unit: judged.unit,
+        forms: judged.forms,
+        rows: judged.rows,
         typed,
-        diagnostics: Diagnostics { faults },
+        diagnostics: judged.diagnostics,
+    })
+}
+
+/// Checks a text for its diagnostics alone: what is said of the nodes of its function `main` isn't kept.
+pub fn diagnose(alloc: Global, text: &Text) -> Result<Diagnosed, AllocError>
+    ensures tree { IfOk result (λ diagnosed. diagnosed.unit.tree ≡ unit_of_text text.now) }
+    ensures words { IfOk result (λ diagnosed. diagnosed.unit.words ≡ words_of text.now) }
+    ensures diagnostics { IfOk result (λ diagnosed. diagnosed.diagnostics ≡ diagnostics text.now) }
+{
+    let judged = judge_text(alloc, text, Keep::FaultsAlone)?;
+    Ok(Diagnosed {
+        unit: judged.unit,
+        diagnostics: judged.diagnostics,
     })
 }
 

@@ -1,5 +1,5 @@
 -- What the node of an expression gives, from what its form gives.
-use Rattle.std.proofs.Common.{◌≡◌, Bool, true, false, [], ◌∷◌, ◌++◌, Option, if◌then◌else◌, refl, sym, ap, ◌∙◌, append_assoc}
+use Rattle.std.proofs.Common.{◌≡◌, Bool, true, false, [], ◌∷◌, ◌++◌, Option, if◌then◌else◌, refl, sym, ap, ◌∙◌}
 use Rattle.dart_tree.specs.declared.places.Place.{Place}
 use Rattle.dart_types.specs.Ty.{never}
 use Rattle.dart_types.specs.Same.{same_type}
@@ -8,8 +8,10 @@ use Rattle.flow_model.specs.Steps.{exit_of}
 use Rattle.judgement.specs.declared.meaning.Meaning.{Meaning}
 use Rattle.judgement.specs.Given.{Evaluation, exits_if_never, expression_row, said_of_expression}
 use Rattle.resolve.specs.Judged.{Evaluates, typed_of}
+use Rattle.resolve.specs.Said.{said_more}
 use Rattle.resolve.specs.declared.judge.Found.{Found}
 use Rattle.resolve.specs.declared.judge.Typed.{Typed}
+use Rattle.resolve.proofs.Saying.{said_twice}
 
 -- an evaluation without diagnostics and nodes
 abbrev bare : Evaluation → Evaluation
@@ -45,7 +47,7 @@ is_bare judged i = record {
 -- what is said of a node doesn't depend on diagnostics
 pub exited_evaluates : {found mid now : Found} {typed exited : Typed} {at : Place} {row : Evaluation} (element : Option Meaning) (m : FlowModel)
     → Evaluates found mid typed at row → exited.at ≡ typed.at → typed_of exited ≡ exits_if_never (typed_of typed)
-    → now.faults.items ≡ mid.faults.items → now.nodes.items ≡ mid.nodes.items ++ said_of_expression exited.at.node element m (typed_of exited) ∷ []
+    → now.faults.items ≡ mid.faults.items → now.nodes ≡ said_more mid.nodes (said_of_expression exited.at.node element m (typed_of exited) ∷ [])
     → Evaluates found now exited at (expression_row at element m row)
 exited_evaluates {found} {mid} {now} {typed} {exited} {at} {row} element m judged place value faults nodes =
     let whole : typed_of exited ≡ bare (exits_if_never row) = value ∙ ap exits_if_never (is_bare judged) ∙ exits_bare (same_type row.ty never) row in
@@ -59,9 +61,9 @@ exited_evaluates {found} {mid} {now} {typed} {exited} {at} {row} element m judge
       faults_are = faults ∙ judged.faults_are ∙ ap (λ fs. found.faults.items ++ fs) (sym (same_faults (same_type row.ty never) row));
       nodes_are =
           nodes
-          ∙ ap (λ (e : Evaluation). mid.nodes.items ++ said_of_expression exited.at.node element m e ∷ []) whole
-          ∙ ap (λ (p : Place). mid.nodes.items ++ said_of_expression p.node element m (exits_if_never row) ∷ []) stands
-          ∙ ap (λ ns. ns ++ said_of_expression at.node element m (exits_if_never row) ∷ []) judged.nodes_are
-          ∙ append_assoc found.nodes.items row.nodes (said_of_expression at.node element m (exits_if_never row) ∷ [])
-          ∙ ap (λ ns. found.nodes.items ++ (ns ++ said_of_expression at.node element m (exits_if_never row) ∷ [])) (sym (same_nodes (same_type row.ty never) row));
+          ∙ ap (λ (e : Evaluation). said_more mid.nodes (said_of_expression exited.at.node element m e ∷ [])) whole
+          ∙ ap (λ (p : Place). said_more mid.nodes (said_of_expression p.node element m (exits_if_never row) ∷ [])) stands
+          ∙ ap (λ ns. said_more ns (said_of_expression at.node element m (exits_if_never row) ∷ [])) judged.nodes_are
+          ∙ said_twice found.nodes row.nodes (said_of_expression at.node element m (exits_if_never row) ∷ [])
+          ∙ ap (λ ns. said_more found.nodes (ns ++ said_of_expression at.node element m (exits_if_never row) ∷ [])) (sym (same_nodes (same_type row.ty never) row));
     }

@@ -14,8 +14,10 @@ use Rattle.judgement.specs.Given.{Evaluation, faulty, of_type}
 use Rattle.judgement.specs.ExpressionRows.{int, integer_row}
 use Rattle.judgement.specs.Judgement.{evaluate, form_row, printed}
 use Rattle.resolve.specs.Judged.{Evaluates, RowEvaluates, typed_of}
+use Rattle.resolve.specs.Said.{said_more}
 use Rattle.resolve.specs.declared.judge.Found.{Found}
 use Rattle.resolve.specs.declared.judge.Typed.{Typed}
+use Rattle.resolve.proofs.Saying.{said_no_more}
 
 -- what holds of a value, if there is one, follows from two facts of it
 ok_both : {X E : Type 0} (r : Result X E) (P Q R : X → Type 0) → ((x : X) → P x → Q x → R x) → IfOk r P → IfOk r Q → IfOk r R
@@ -49,7 +51,7 @@ module _ {E : Type 0} (r : Result Typed E) where
       row place
 
   -- a row that says nothing of nodes is an evaluation, where what was said of nodes stays
-  pub row_only : (found now : Found) (at : Place) (e : Evaluation) → [] ≡ e.nodes → now.nodes.items ≡ found.nodes.items
+  pub row_only : (found now : Found) (at : Place) (e : Evaluation) → [] ≡ e.nodes → now.nodes ≡ found.nodes
       → IfOk r (λ typed. RowEvaluates found.faults.items now.faults.items typed at e) → IfOk r (λ typed. Evaluates found now typed at e)
   row_only found now at e none same given =
       IfOk-weaker r (λ typed. RowEvaluates found.faults.items now.faults.items typed at e) (λ typed. Evaluates found now typed at e)
@@ -60,7 +62,7 @@ module _ {E : Type 0} (r : Result Typed E) where
         when_true_is = row.when_true_is;
         when_false_is = row.when_false_is;
         faults_are = row.faults_are;
-        nodes_are = same ∙ sym (append-nil found.nodes.items) ∙ ap (λ ns. found.nodes.items ++ ns) none;
+        nodes_are = same ∙ sym (said_no_more found.nodes) ∙ ap (λ ns. said_more found.nodes ns) none;
       })
       given
 
@@ -94,7 +96,7 @@ module _ {E : Type 0} (r : Result Typed E) where
 
   -- an integer literal
   pub of_integer : (found now : Found) (s : Surroundings) (tree : Tree) (at : Place) (word : ℕ) (wanted : Option Ty) (m : FlowModel) → integer_literal at word ≡ tree
-      → now.nodes.items ≡ found.nodes.items → IfOk r (λ typed. RowEvaluates found.faults.items now.faults.items typed at (integer_row s at word m))
+      → now.nodes ≡ found.nodes → IfOk r (λ typed. RowEvaluates found.faults.items now.faults.items typed at (integer_row s at word m))
       → IfOk r (λ typed. Evaluates found now typed (place_of tree) (form_row s tree wanted m))
   of_integer found now s tree at word wanted m is same given =
       of_form found now s (integer_literal at word) tree wanted m is

@@ -9,5 +9,6 @@ pub mod Loops
 pub mod Meanings
 pub mod Operators
 pub mod Parts
+pub mod Saying
 pub mod Shadowing
 pub mod Sizes

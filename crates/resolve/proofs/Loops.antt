@@ -11,17 +11,19 @@ use Rattle.judgement.specs.StatementRows.{loop_head, scope_row, while_row}
 use Rattle.judgement.specs.Written.{written_in}
 use Rattle.judgement.specs.Judgement.{condition_of, run}
 use Rattle.resolve.specs.Judged.{Evaluates, Gives}
+use Rattle.resolve.specs.Said.{said_more}
 use Rattle.resolve.specs.declared.judge.Found.{Found}
 use Rattle.resolve.specs.declared.judge.Typed.{Typed}
 use Rattle.resolve.proofs.Declarations.{of_statement_row}
 use Rattle.resolve.proofs.Jumps.{of_scope, of_statement}
+use Rattle.resolve.proofs.Saying.{said_twice}
 
 pub of_loop : (found mid now last : Found) (s : Surroundings) (at : Place) (condition body : Tree) (m head inside after : FlowModel) (tested : Typed)
     → head ≡ loop_head m (written_in s (while_statement at condition body)) []
     → Evaluates found mid tested (place_of condition) (condition_of s condition head)
     → Gives mid now inside (scope_row s (names_declared body) (λ inner. run inner body) tested.when_true.value)
     → after ≡ tested.when_false.value
-    → last.faults.items ≡ now.faults.items → last.nodes.items ≡ now.nodes.items ++ said_of_statement at.node None m after ∷ []
+    → last.faults.items ≡ now.faults.items → last.nodes ≡ said_more now.nodes (said_of_statement at.node None m after ∷ [])
     → Gives found last after (run s (while_statement at condition body) m)
 of_loop found mid now last s at condition body m head inside after tested at_head judged_there turned ends faults nodes =
     let value = condition_of s condition (loop_head m (written_in s (while_statement at condition body)) []) in
@@ -36,6 +38,6 @@ of_loop found mid now last s at condition body m head inside after tested at_hea
     (record {
       after_is = ends ∙ judged.when_false_is ∙ sym (ap (λ (jumps : List Jump). joined_with at.node false jumps value.when_false) none);
       faults_are = given.faults_are ∙ ap (λ fs. fs ++ turn.faults) judged.faults_are ∙ append_assoc found.faults.items value.faults turn.faults;
-      nodes_are = given.nodes_are ∙ ap (λ ns. ns ++ turn.nodes) judged.nodes_are ∙ append_assoc found.nodes.items value.nodes turn.nodes;
+      nodes_are = given.nodes_are ∙ ap (λ ns. said_more ns turn.nodes) judged.nodes_are ∙ said_twice found.nodes value.nodes turn.nodes;
     })
     faults nodes

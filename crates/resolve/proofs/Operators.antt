@@ -12,8 +12,10 @@ use Rattle.flow_model.specs.declared.locals.LocalId.{LocalId}
 use Rattle.judgement.specs.Given.{Evaluation}
 use Rattle.judgement.specs.ExpressionRows.{Judged, argument_faults, kind_row, member_operator_row, not_equal_row, operated_row, operation_of, operator_row, parameter_of, receiver_faults, result_type, where_not_null}
 use Rattle.resolve.specs.Judged.{Evaluates, Has, RowEvaluates, typed_of}
+use Rattle.resolve.specs.Said.{said_more}
 use Rattle.resolve.specs.declared.judge.Found.{Found}
 use Rattle.resolve.specs.declared.judge.Typed.{Typed}
+use Rattle.resolve.proofs.Saying.{said_twice}
 
 -- each operator but `!=` is one of a class
 member_kind : (table : Table) (operator : BinaryOperator) (kind : BinaryOperatorKind) (at : Place) (compared : Option LocalId) (left : Evaluation) (right : Judged)
@@ -39,7 +41,7 @@ module _ {E : Type 0} (r : Result Typed E) (table : Table) (operator : BinaryOpe
         when_true_is = has.when_true_is ∙ ap (λ (l : Option LocalId). where_not_null table l second.after.value) same ∙ ap (where_not_null table compared) other.after_is;
         when_false_is = has.when_false_is ∙ other.after_is;
         faults_are = other.faults_are ∙ ap (λ fs. fs ++ value.faults) one.faults_are ∙ append_assoc found.faults.items left.faults value.faults;
-        nodes_are = other.nodes_are ∙ ap (λ ns. ns ++ value.nodes) one.nodes_are ∙ append_assoc found.nodes.items left.nodes value.nodes;
+        nodes_are = other.nodes_are ∙ ap (λ ns. said_more ns value.nodes) one.nodes_are ∙ said_twice found.nodes left.nodes value.nodes;
       })
       given)
 
@@ -47,7 +49,7 @@ module _ {E : Type 0} (r : Result Typed E) (table : Table) (operator : BinaryOpe
   pub of_operation : (found mid behind now : Found) (first second : Typed) (wanted : Option Ty) → (operator.kind ≡ NotEqual → ⊥)
       → wanted ≡ parameter_of (operation_of first.ty operator.kind)
       → Evaluates found mid first left_at left → Evaluates mid behind second right_at (right wanted first.after.value)
-      → now.nodes.items ≡ behind.nodes.items
+      → now.nodes ≡ behind.nodes
       → IfOk r (λ typed. RowEvaluates behind.faults.items now.faults.items typed at (operated_row table operator second.at (typed_of first) (typed_of second)))
       → IfOk r (λ typed. Evaluates found now typed at (operator_row table operator right_at compared left right))
   of_operation found mid behind now first second wanted is wants one then_other same given =
@@ -79,6 +81,6 @@ module _ {E : Type 0} (r : Result Typed E) (table : Table) (operator : BinaryOpe
             ∙ ap (λ fs. fs ++ own right_at left.ty value.ty) (other.faults_are ∙ ap (λ fs. fs ++ value.faults) one.faults_are)
             ∙ append_assoc (found.faults.items ++ left.faults) value.faults (own right_at left.ty value.ty)
             ∙ append_assoc found.faults.items left.faults (value.faults ++ own right_at left.ty value.ty);
-        nodes_are = same ∙ other.nodes_are ∙ ap (λ ns. ns ++ value.nodes) one.nodes_are ∙ append_assoc found.nodes.items left.nodes value.nodes;
+        nodes_are = same ∙ other.nodes_are ∙ ap (λ ns. said_more ns value.nodes) one.nodes_are ∙ said_twice found.nodes left.nodes value.nodes;
       })
       given)

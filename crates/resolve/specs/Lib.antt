@@ -4,5 +4,6 @@ pub mod CoreTypes
 pub mod Judged
 pub mod Points
 pub mod Rows
+pub mod Said
 pub mod Shadows
 pub mod WrittenIn

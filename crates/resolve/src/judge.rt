@@ -13,13 +13,15 @@ ghost use Rattle.std.specs.Prelude.{◌≡◌, IfOk};
 ghost use Rattle.judgement.specs.Given.{fault_over, of_type};
 ghost use Rattle.resolve.specs.Bodies.{run_body};
 ghost use Rattle.resolve.specs.Judged.{Adds, typed_of};
+ghost use Rattle.resolve.specs.Said.{kept};
 
 use crate::names::NamesInScope;
+use crate::said::{Keep, Said};
 use core_types::CoreTypes;
 use dart_tree::{Place, Span, Stmt};
 use dart_types::{DartType, Rows};
 use flow_model::Flow;
-use judgement::{DiagnosticCode, Fault, Meaning, TypedNode};
+use judgement::{DiagnosticCode, Fault, Meaning};
 use plain_text::PlainText;
 use statements::judge_block;
 use std::alloc::{AllocError, Global};
@@ -30,8 +32,8 @@ use std::rc::Rc;
 pub struct Found {
     /// Its diagnostics, in the order in which its statements are judged.
     pub faults: Vec<Fault>,
-    /// Its typed tree: what is said of its nodes, those in a node before it.
-    pub nodes: Vec<TypedNode>,
+    /// Its typed tree, if that is kept: what is said of its nodes, those in a node before it.
+    pub nodes: Said,
 }
 
 /// What the rules say of the block that is the body of a function without parameters, in a library
@@ -39,6 +41,7 @@ pub struct Found {
 /// the names and of the locals in scope. What changes what is known of the locals copies it, once;
 /// what leaves it as it was shares it. A loop goes through its body once before it is judged, and each
 /// write there costs these logarithms too. The error is want of memory.
+#[tactic(auto, using(crate::proofs::Saying::said_first))]
 pub fn judge_body(
     alloc: Global,
     rows: &Rows,
@@ -46,9 +49,10 @@ pub fn judge_body(
     outside: &[Meaning],
     at: Place,
     statements: &[Stmt],
+    keep: Keep,
 ) -> Result<Found, AllocError>
     ensures faults { IfOk result (λ found. found.faults.items ≡ (run_body rows.now.table words.now outside.now at statements.now).faults) }
-    ensures nodes { IfOk result (λ found. found.nodes.items ≡ (run_body rows.now.table words.now outside.now at statements.now).nodes) }
+    ensures nodes { IfOk result (λ found. found.nodes ≡ kept keep (run_body rows.now.table words.now outside.now at statements.now).nodes) }
 {
     let core = CoreTypes::new(alloc)?;
     let context = Context {
@@ -62,7 +66,7 @@ pub fn judge_body(
     let flow = Flow::start(alloc, &[])?;
     let start = Rc::new(alloc, flow)?;
     let faults = Vec::new(alloc);
-    let nodes = Vec::new(alloc);
+    let nodes = Said::new(alloc, keep);
     let mut found = Found { faults, nodes };
     judge_block(context, &mut names, at, statements, &start, &mut found)?;
     Ok(found)

@@ -9,6 +9,8 @@
 
 mod judge;
 mod names;
+mod said;
 
 pub use judge::{Found, judge_body};
 pub use names::{NamesInScope, Shadowed};
+pub use said::{Keep, Said};

@@ -1,5 +1,7 @@
 //! What expressions give.
 
+#![tactic(auto, using(std::proofs::lemmas::Grind::common_steps, crate::proofs::Saying::said_no_more, crate::proofs::Saying::said_twice))]
+
 ghost use Rattle.std.specs.Prelude.{◌≡◌, ◌∷◌, [], is_some, None, IfOk, OnOk};
 ghost use Rattle.std.specs.Option.{option_copied};
 ghost use Rattle.dart_tree.specs.Tree.{Part, binary_expression, call, trees_of};
@@ -13,7 +15,7 @@ ghost use Rattle.judgement.specs.Literals.{integer_of};
 ghost use Rattle.judgement.specs.Surroundings.{Names, lexeme_of, meaning_of};
 ghost use Rattle.judgement.specs.Written.{named_by};
 ghost use Rattle.resolve.specs.Around.{around};
-ghost use Rattle.resolve.specs.Judged.{Adds, IfEvaluates, IfHas, IfJudges, IfRowEvaluates, typed_of};
+ghost use Rattle.resolve.specs.Judged.{IfEvaluates, IfHas, IfJudges, IfRowEvaluates, Says, typed_of};
 ghost use Rattle.resolve.specs.Points.{assigned, by_form, evaluated, known, named, printed_at, surroundings, tested};
 ghost use Rattle.resolve.specs.Rows.{said_of};
 
@@ -43,8 +45,7 @@ pub(super) fn judge_expression(
 {
     let row = judge_form(point, expression, wanted, found)?;
     let typed = exit_if_never(point.context, row)?;
-    let element = element_of(point.context, point.names, expression);
-    say(point.context, element, point.before, &typed, found)?;
+    say(point, expression, &typed, found)?;
     Ok(typed)
 }
 
@@ -253,22 +254,20 @@ fn exit_if_never(context: Context, typed: Typed) -> Result<Typed, AllocError>
     })
 }
 
-// Adds what is said of an expression that was judged from the model before it.
-fn say(
-    context: Context,
-    element: Option<Meaning>,
-    before: &Rc<Flow>,
-    typed: &Typed,
-    found: &mut Found,
-) -> Result<(), AllocError>
+// Adds what is said of an expression that was judged there, if that is kept.
+#[tactic(auto, using(crate::proofs::Saying::said_unkept))]
+fn say(point: Point, expression: &Expr, typed: &Typed, found: &mut Found) -> Result<(), AllocError>
     ensures faults { OnOk result (found.new.faults.items ≡ found.old.faults.items) }
-    ensures nodes { Adds found.old.nodes found.new.nodes result (said_of typed.now element before.now.value ∷ []) }
+    ensures nodes { Says found.old.nodes found.new.nodes result (said_of typed.now (judgement.element_of (surroundings point.entry) expression.now) (known point.entry) ∷ []) }
 {
-    found.nodes.push(TypedNode {
+    if !found.nodes.is_kept() {
+        return Ok(());
+    }
+    found.nodes.add(TypedNode {
         node: typed.at.node,
-        ty: Some(typed.ty.copy(context.alloc)?),
-        element,
-        before: before.clone()?,
+        ty: Some(typed.ty.copy(point.context.alloc)?),
+        element: element_of(point.context, point.names, expression),
+        before: point.before.clone()?,
         after: typed.after.clone()?,
         when_true: typed.when_true.clone()?,
         when_false: typed.when_false.clone()?,

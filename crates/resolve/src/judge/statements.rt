@@ -1,12 +1,14 @@
 //! What statements give.
 
+#![tactic(auto, using(std::proofs::lemmas::Grind::common_steps, crate::proofs::Saying::said_no_more, crate::proofs::Saying::said_twice))]
+
 ghost use Rattle.std.specs.Prelude.{◌≡◌, ◌∷◌, [], IfOk, OnOk};
 ghost use Rattle.dart_tree.specs.Tree.{block, expression_statement, part_of, trees_of, variable_statement, while_statement};
 ghost use Rattle.judgement.specs.Given.{said_of_statement};
 ghost use Rattle.judgement.specs.Judgement.{declare, declare_all, declare_list, evaluate_part};
 ghost use Rattle.judgement.specs.Judgement.{run_all, run_branch, type_of, type_row, written_type};
 ghost use Rattle.resolve.specs.Around.{around};
-ghost use Rattle.resolve.specs.Judged.{Adds, IfGives, IfRuns};
+ghost use Rattle.resolve.specs.Judged.{IfGives, IfRuns, Says};
 ghost use Rattle.resolve.specs.Points.{branching, known, run_scope, surroundings};
 ghost use Rattle.resolve.specs.WrittenIn.{known_at_head};
 
@@ -356,7 +358,8 @@ fn judge_value(
     }
 }
 
-// Adds what is said of a statement, or of a variable that is declared.
+// Adds what is said of a statement, or of a variable that is declared, if that is kept.
+#[tactic(auto, using(crate::proofs::Saying::said_unkept))]
 fn say(
     at: Place,
     element: Option<Meaning>,
@@ -365,9 +368,12 @@ fn say(
     found: &mut Found,
 ) -> Result<(), AllocError>
     ensures faults { OnOk result (found.new.faults.items ≡ found.old.faults.items) }
-    ensures nodes { Adds found.old.nodes found.new.nodes result (said_of_statement at.node element before.now.value after.now.value ∷ []) }
+    ensures nodes { Says found.old.nodes found.new.nodes result (said_of_statement at.node element before.now.value after.now.value ∷ []) }
 {
-    found.nodes.push(TypedNode {
+    if !found.nodes.is_kept() {
+        return Ok(());
+    }
+    found.nodes.add(TypedNode {
         node: at.node,
         ty: None,
         element,

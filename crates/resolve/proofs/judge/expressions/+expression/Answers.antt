@@ -1,4 +1,4 @@
-use Rattle.std.proofs.Common.{◌≡◌, [], ◌∷◌, length, None, refl, sym, ap, ◌∙◌, option_copied, arith}
+use Rattle.std.proofs.Common.{◌≡◌, [], ◌∷◌, length, None, refl, sym, ap, ◌∙◌, option_copied, arith, rules}
 use denote.Enum.Bare.{same_true, same_false}
 use Rattle.dart_tree.specs.Tree.{assignment, binary_expression, call, part_of}
 use Rattle.dart_tree.specs.Places.{place_of}
@@ -12,6 +12,7 @@ use Rattle.resolve.specs.Points.{known, surroundings}
 use Rattle.resolve.proofs.Forms.{of_arguments, of_form, of_integer, of_other_arguments, of_parenthesis}
 use Rattle.resolve.proofs.Operators.{of_difference, of_operation}
 use Rattle.resolve.proofs.Parts.{only_part}
+use Rattle.resolve.proofs.Saying.{said_nothing}
 use Rattle.resolve.proofs.judge.expressions.+expression.Goals as goal
 
 pub judge_form-returns-in-Integer : goal.judge_form-returns-in-Integer
@@ -97,3 +98,15 @@ judge_printed-returns t c =
     refl
     c.unjudged.ensures.row
     c.unjudged.ensures.place
+
+pub judge_call-returns-in_ok-clone-in-Class : goal.judge_call-returns-in_ok-clone-in-Class
+judge_call-returns-in_ok-clone-in-Class t c = search (rules, said_nothing)
+
+pub judge_call-returns-in_ok-clone-in-Other : goal.judge_call-returns-in_ok-clone-in-Other
+judge_call-returns-in_ok-clone-in-Other t c = search (rules, said_nothing)
+
+pub judge_form-returns-in-Null : goal.judge_form-returns-in-Null
+judge_form-returns-in-Null t c = search (rules, said_nothing)
+
+pub judge_form-returns-in_ok-clone-in_default : goal.judge_form-returns-in_ok-clone-in_default
+judge_form-returns-in_ok-clone-in_default t c = search (rules, said_nothing)

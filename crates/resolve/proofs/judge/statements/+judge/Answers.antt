@@ -1,4 +1,4 @@
-use Rattle.std.proofs.Common.{sym, ap, subst, ◌∙◌, arith}
+use Rattle.std.proofs.Common.{sym, ap, subst, ◌∙◌, arith, rules}
 use Rattle.dart_tree.specs.Tree.{block, expression_statement, if_statement, part_of, trees_of, variable_statement, while_statement}
 use Rattle.dart_tree.specs.Places.{place_of}
 use Rattle.dart_tree.specs.View.{stmt_of}
@@ -10,6 +10,7 @@ use Rattle.resolve.specs.Around.{around}
 use Rattle.resolve.specs.Judged.{Evaluates, Gives}
 use Rattle.resolve.proofs.Declarations.{next_run, of_statement_form}
 use Rattle.resolve.proofs.Loops.{of_loop}
+use Rattle.resolve.proofs.Saying.{said_nothing}
 use Rattle.resolve.proofs.Sizes.{nodes_in-item}
 use Rattle.resolve.proofs.judge.statements.+judge.Goals as goal
 
@@ -86,3 +87,6 @@ judge_while-returns-clause-gives t c =
     c.in_ok-after.ensures.cases
     c.in_ok-say.ensures.faults
     c.in_ok-say.ensures.nodes
+
+pub judge_statement-returns-in_default : goal.judge_statement-returns-in_default
+judge_statement-returns-in_default t c = search (rules, said_nothing)
