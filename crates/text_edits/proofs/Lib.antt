@@ -1,0 +1,11 @@
+mod Windows
+mod Read
+mod Levels
+mod Braces
+mod Tokens
+mod Examples
+mod Words
+mod Shifts
+mod Whole
+mod Pieces
+mod TextExamples
