@@ -87,15 +87,32 @@ fn models_meet_as_the_rules_say(rt: HostRuntime) -> Result<(), Fail> {
     let alloc = rt.alloc();
     let rows = rows(alloc)?;
     let one = tested(alloc, &rows, b'n')?;
-    let mut other = tested(alloc, &rows, b's')?;
+    let other = tested(alloc, &rows, b's')?;
     let joined = Flow::join(alloc, &one, &other)?;
     assert!(rt; has(alloc, &joined, X, b'i', false)?);
     assert!(rt; has(alloc, &joined, Y, b'o', true)?);
     assert!(rt; joined.is_assigned(X) && !joined.is_unassigned(X) && joined.reachable());
+    Ok(())
+}
+
+#[test]
+fn a_path_that_is_not_reached_adds_nothing(rt: HostRuntime) -> Result<(), Fail> {
+    let alloc = rt.alloc();
+    let rows = rows(alloc)?;
+    let one = tested(alloc, &rows, b'n')?;
+    let mut other = tested(alloc, &rows, b's')?;
     other.exit();
     assert!(rt; !other.reachable());
     assert!(rt; Flow::join(alloc, &other, &one)?.is_same(&one));
     assert!(rt; Flow::join(alloc, &one, &other)?.is_same(&one));
+    Ok(())
+}
+
+#[test]
+fn a_path_meets_itself_and_the_one_before_it(rt: HostRuntime) -> Result<(), Fail> {
+    let alloc = rt.alloc();
+    let rows = rows(alloc)?;
+    let one = tested(alloc, &rows, b'n')?;
     assert!(rt; Flow::join(alloc, &one, &one)?.is_same(&one.copy(alloc)?));
     let before = both(alloc)?;
     let met = Flow::join(alloc, &before, &one)?;
@@ -103,26 +120,57 @@ fn models_meet_as_the_rules_say(rt: HostRuntime) -> Result<(), Fail> {
     Ok(())
 }
 
-// A local that has no value yet, beside another that has one.
+// The model of X alone, of the type `int?`, which has no value yet.
+fn unwritten(alloc: Global) -> Result<Flow, Fail> {
+    let int = type_of(alloc, b'i')?;
+    let mut empty = local(1, or_null(alloc, int)?);
+    empty.assigned = false;
+    empty.unassigned = true;
+    let flow = Flow::start(alloc, &[empty])?;
+    Ok(flow)
+}
+
+// The model where an int was written to X, and Y has come into scope with a value, a String.
+fn written(alloc: Global, rows: &Rows) -> Result<Flow, Fail> {
+    let mut flow = unwritten(alloc)?;
+    flow.assign(alloc, rows, X, &type_of(alloc, b'i')?)?;
+    declare(alloc, &mut flow, &local(2, type_of(alloc, b's')?))?;
+    Ok(flow)
+}
+
+// A local that has no value yet.
 #[test]
 fn a_local_has_a_value_where_it_is_written(rt: HostRuntime) -> Result<(), Fail> {
     let alloc = rt.alloc();
     let rows = rows(alloc)?;
-    let int = type_of(alloc, b'i')?;
-    let mut empty = local(1, or_null(alloc, int.copy(alloc)?)?);
-    empty.assigned = false;
-    empty.unassigned = true;
-    let mut flow = Flow::start(alloc, &[empty])?;
+    let mut flow = unwritten(alloc)?;
     assert!(rt; flow.reachable() && flow.is_in_scope(X) && !flow.is_in_scope(Y));
     assert!(rt; flow.is_unassigned(X) && !flow.is_assigned(X));
-    flow.assign(alloc, &rows, X, &int)?;
+    flow.assign(alloc, &rows, X, &type_of(alloc, b'i')?)?;
     assert!(rt; flow.is_assigned(X) && !flow.is_unassigned(X));
-    declare(alloc, &mut flow, &local(2, type_of(alloc, b's')?))?;
+    Ok(())
+}
+
+// Beside another that has one.
+#[test]
+fn a_copy_is_written_by_itself(rt: HostRuntime) -> Result<(), Fail> {
+    let alloc = rt.alloc();
+    let rows = rows(alloc)?;
+    let flow = written(alloc, &rows)?;
     let mut after = flow.copy(alloc)?;
     assert!(rt; after.is_same(&flow) && after.is_in_scope(X));
     after.assign(alloc, &rows, X, &type_of(alloc, b'N')?)?;
     assert!(rt; !after.is_same(&flow));
     assert!(rt; has(alloc, &after, X, b'i', true)? && has(alloc, &flow, X, b'i', false)?);
+    Ok(())
+}
+
+#[test]
+fn locals_leave_their_scope(rt: HostRuntime) -> Result<(), Fail> {
+    let alloc = rt.alloc();
+    let rows = rows(alloc)?;
+    let mut after = written(alloc, &rows)?;
+    after.assign(alloc, &rows, X, &type_of(alloc, b'N')?)?;
     after.end(alloc, &[Y, LocalId(9), X])?;
     assert!(rt; !after.is_in_scope(X) && !after.is_in_scope(Y));
     Ok(())
@@ -141,18 +189,39 @@ fn code_that_may_run_forgets_what_it_changes(rt: HostRuntime) -> Result<(), Fail
     Ok(())
 }
 
+// The model behind a `finally` block in which Y was tested for int.
+fn block_with_test(alloc: Global, rows: &Rows) -> Result<Flow, Fail> {
+    let mut block = both(alloc)?;
+    block.promote(alloc, rows, Y, &type_of(alloc, b'i')?)?;
+    Ok(block)
+}
+
+// The model behind a `try` whose `finally` block writes X and captures Y.
+fn behind_capture(alloc: Global, rows: &Rows) -> Result<Flow, Fail> {
+    let body = tested(alloc, rows, b'n')?;
+    let mut block = block_with_test(alloc, rows)?;
+    block.capture(alloc, &[Y])?;
+    let captured = Flow::restrict(alloc, rows, &body, &block, &[X], &[Y])?;
+    Ok(captured)
+}
+
 #[test]
 fn a_finally_block_is_met(rt: HostRuntime) -> Result<(), Fail> {
     let alloc = rt.alloc();
     let rows = rows(alloc)?;
     let body = tested(alloc, &rows, b'n')?;
-    let mut block = both(alloc)?;
-    block.promote(alloc, &rows, Y, &type_of(alloc, b'i')?)?;
+    let block = block_with_test(alloc, &rows)?;
     let behind = Flow::restrict(alloc, &rows, &body, &block, &[X], &[])?;
     assert!(rt; has(alloc, &behind, X, b'i', true)?);
     assert!(rt; has(alloc, &behind, Y, b'i', false)?);
-    block.capture(alloc, &[Y])?;
-    let mut captured = Flow::restrict(alloc, &rows, &body, &block, &[X], &[Y])?;
+    Ok(())
+}
+
+#[test]
+fn a_finally_block_captures(rt: HostRuntime) -> Result<(), Fail> {
+    let alloc = rt.alloc();
+    let rows = rows(alloc)?;
+    let mut captured = behind_capture(alloc, &rows)?;
     assert!(rt; captured.is_captured(Y) && !captured.is_captured(X));
     assert!(rt; has(alloc, &captured, Y, b'o', true)?);
     captured.end(alloc, &[Y])?;
