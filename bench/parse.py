@@ -59,6 +59,29 @@ def rows_of_closures(count: int) -> Tuple[str, str]:
     return "{a" + "-(){b;}" * count + "@;}", "(block {" + " ".join(["(error)"] * (count + 1)) + "})"
 
 
+def levels_of_closures(count: int) -> Tuple[str, str]:
+    """The same, with operators of four levels, so that no level stands so often in a row as a tree may be deep."""
+    text = "(){b;}"
+    for place in range(1, count):
+        text += "||" if place % 2744 == 0 else "&&" if place % 196 == 0 else "|" if place % 14 == 0 else "-"
+        text += "(){b;}"
+    return "{" + text + "@;}", "(block {" + " ".join(["(error)"] * (count + 1)) + "})"
+
+
+def choices_of_closures(count: int) -> Tuple[str, str]:
+    """The same, with conditionals between the closures, each in the last branch of the one before as far as a tree may be deep."""
+    text = "(){b;}" + "".join("?a:(){b;}" if place % 14 == 0 else "-(){b;}" for place in range(1, count))
+    return "{" + text + "@;}", "(block {" + " ".join(["(error)"] * (count + 1)) + "})"
+
+
+def sections_of_closures(count: int) -> Tuple[str, str]:
+    """The same, in sections of cascades."""
+    text = "(){b;}"
+    for place in range(1, count):
+        text += "..c=-(){b;}" if place % 196 == 0 else "|(){b;}" if place % 14 == 0 else "-(){b;}"
+    return "{" + text + "@;}", "(block {" + " ".join(["(error)"] * (count + 1)) + "})"
+
+
 def blocks(depth: int) -> Tuple[str, str]:
     """So many blocks in one another, each of which ends in what derives nothing."""
     inner = "(block {(error)})"
@@ -144,6 +167,9 @@ FAMILIES = (
     Family("nested", "closures in what derives nothing, in one another", "levels", (10, 20, 40), nested_closures),
     Family("lists", "functions in one another, behind closures in what derives nothing", "levels", (10, 20, 40), nested_functions),
     Family("closures", "closures in a row that derive nothing", "closures", MANY, rows_of_closures),
+    Family("levels", "closures in a row that derive nothing, with operators of four levels", "closures", (9_604, 19_208, 38_416), levels_of_closures),
+    Family("branched", "closures in a row that derive nothing, in branches of conditionals", "closures", (9_604, 19_208, 38_416), choices_of_closures),
+    Family("cascades", "closures in a row that derive nothing, in sections of cascades", "closures", (9_604, 19_208, 38_416), sections_of_closures),
     Family("blocks", "blocks in one another, each ending in what derives nothing", "blocks", (48, 96, 192), blocks),
     Family("items", "items that derive nothing", "items", MANY, failing_items),
     Family("less", "a line of `<`", "lexemes", MANY, lexemes("<")),

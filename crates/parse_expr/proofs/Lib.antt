@@ -1,3 +1,5 @@
+pub mod Attempts
+pub mod Begun
 pub mod Found
 pub mod Levels
 pub mod Places

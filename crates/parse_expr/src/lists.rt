@@ -3,7 +3,6 @@
 ghost use Rattle.std.specs.Prelude.{◌≡◌, ◌<◌, ◌≤◌, ℕ, true, false, nat_lt, suc, length, map, drop, IfOk, OnOk};
 ghost use Rattle.std.specs.List.{AllWithin};
 ghost use Rattle.std.specs.List.Sorted.{IsNonDecreasingBy};
-ghost use Rattle.readings.specs.Readings.{tokens_read};
 ghost use Rattle.readings.specs.Descent.{all_items};
 ghost use Rattle.dart_tree.specs.Tree.{trees_of};
 ghost use Rattle.dart_tokens.specs.declared.grouped_token.GroupedToken.{GroupedToken as Token};
@@ -12,14 +11,14 @@ ghost use Rattle.grammar.specs.Descents.{lower};
 ghost use Rattle.parse_leaves.specs.Answers.{Gives};
 ghost use Rattle.grammar.specs.Whole.{tokens_over as tokens_at, statements_at, most_nodes};
 ghost use Rattle.unread_lists.specs.WithLists.{with_lists, all_with_lists};
-ghost use Rattle.parse_expr.specs.Items.{item_of};
 
+use crate::items::next_item;
 use crate::node::part_at;
 use crate::part::{Node, Part};
 use dart_tokens::Kind;
-use dart_tree::{Place, Stmt, StmtNode};
+use dart_tree::{Place, Stmt};
 use grammar::{Token, list_laws};
-use parse_leaves::{Miss, first_tokens, place_over, tokens_behind};
+use parse_leaves::{Miss, first_tokens, tokens_behind};
 use read_lists::{ReadsLists, read_stmts};
 use std::alloc::{AllocError, Global};
 
@@ -48,19 +47,6 @@ pub fn behind_segment(tokens: &[Token]) -> &[Token]
     rest
 }
 
-/// An error over the tokens before others.
-fn error(alloc: Global, tokens: &[Token], after: &[Token]) -> Result<Stmt, AllocError>
-    ensures { IfOk result (λ x. x ≡ error_of (tokens_read tokens.now after.now)) }
-{
-    let node = Box::new(
-        alloc,
-        StmtNode::Error {
-            at: place_over(tokens, after),
-        },
-    )?;
-    Ok(Stmt { node })
-}
-
 /// A statement, whose lists aren't read yet, and the tokens that are left.
 pub(crate) fn statement_at<'k>(
     alloc: Global,
@@ -77,27 +63,6 @@ pub(crate) fn statement_at<'k>(
     }
 }
 
-/// The statement that comes next, or an error over the segment that does, and the tokens that are left.
-#[tactic(auto, using(crate::specs::ItemLaws::item_missing))]
-fn item<'k>(
-    alloc: Global,
-    room: u32,
-    tokens: &'k [Token],
-) -> Result<(Stmt, &'k [Token]), AllocError>
-    requires limit { room ≤ 201 }
-    ensures { IfOk result (λ x. item_of ((lower room).statement) tokens.now ≡ (x.0, x.1.now)) }
-{
-    match statement_at(alloc, room, tokens) {
-        Ok((found, rest)) => Ok((found, rest)),
-        Err(Miss::NoReading) => {
-            let after = behind_segment(tokens);
-            let error = error(alloc, tokens, after)?;
-            Ok((error, after))
-        }
-        Err(Miss::Memory) => Err(AllocError),
-    }
-}
-
 /// The statements of these tokens, where `room` nodes may lie on a way down from each, with an error
 /// wherever none can be read. Lists in them aren't read yet.
 #[tactic(auto, using(crate::specs::ItemLaws::list_out, crate::specs::ItemLaws::list_end, crate::specs::ItemLaws::list_goes))]
@@ -106,13 +71,14 @@ fn statements(alloc: Global, room: u32, tokens: &[Token]) -> Result<Vec<Stmt>, A
     ensures { IfOk result (λ list. list.items ≡ all_items ((lower room).statement) segment error_of tokens.now) }
 {
     let mut list = Vec::new(alloc);
+    let mut known = None;
     let mut rest = tokens;
     let mut more = tokens.len();
     while more > 0 {
         let Some((_first, _behind)) = rest.split_first() else {
             return Ok(list);
         };
-        let (next, after) = item(alloc, room, rest)?;
+        let (next, after) = next_item(&mut known, alloc, room, rest)?;
         list.push(next)?;
         rest = after;
         more -= 1;

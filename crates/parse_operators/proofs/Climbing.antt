@@ -21,7 +21,7 @@ none_behind : {A : Type 0} (n : ℕ) (xs : List A) → n ≡ length xs → drop 
 none_behind n [] e = rw e refl
 none_behind n (x ∷ xs) e = rw e (none_behind (length xs) xs refl)
 
-level_at : (levels : List Level) (less more : ℕ) (which other : Level) → 0 < more → more ≤ length levels → less ≡ more - 1 → which ≡ get_or levels less other → drop less levels ≡ which ∷ drop more levels
+pub level_at : (levels : List Level) (less more : ℕ) (which other : Level) → 0 < more → more ≤ length levels → less ≡ more - 1 → which ≡ get_or levels less other → drop less levels ≡ which ∷ drop more levels
 level_at levels less more which other some few last at =
     let within : less < length levels = omega (arith, some, few, last) in
     let behind : suc less ≡ more = omega (arith, some, last) in

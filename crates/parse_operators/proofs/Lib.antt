@@ -1,3 +1,7 @@
 pub mod Behind
 pub mod Climbing
+pub mod Kept
 pub mod Next
+pub mod Shown
+pub mod Sides
+pub mod Steps

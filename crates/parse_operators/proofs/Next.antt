@@ -45,11 +45,11 @@ no_heads l (t ∷ ts) e = other_heads l (sign_at (t ∷ ts)) (level_of_word t) e
 
 -- Words.
 
-is_kind : (k : Kind) (t : Token) → is k t ≡ true → t.kind ≡ k
+pub is_kind : (k : Kind) (t : Token) → is k t ≡ true → t.kind ≡ k
 is_kind k t e = same_true kinds.the_type tt t.kind k e
 
 -- the level that comes next, as the kind of the first token tells it
-abbrev told : Token → List Token → Kind → Option Level
+abbrev pub told : Token → List Token → Kind → Option Level
 told t ts k =
     option_map_or (λ s. level_of_sign s.0) (if sameb kinds.the_type k kind.Greater then Some (greater_at t ts) else option_map (λ s. (s, 0)) (sign_in signs k))
     (if sameb kinds.the_type k kind.Question then Some level.Conditional else if sameb kinds.the_type k kind.Is || sameb kinds.the_type k kind.As then Some level.Relation else None)

@@ -158,7 +158,7 @@ fn relation<'k, B: Below<'k>>(
 
 /// What an operator of a level adds.
 #[tactic(auto, unfolding(grammar::specs::Descents::take_right))]
-fn right_side<'k, B: Below<'k>>(
+pub(crate) fn right_side<'k, B: Below<'k>>(
     below: &B,
     alloc: Global,
     setting: Setting,
@@ -235,7 +235,7 @@ fn operated_node(
 }
 
 /// How often an operator of a level may stand before these tokens.
-fn times(level: Level, tokens: &[Token]) -> usize
+pub(crate) fn times(level: Level, tokens: &[Token]) -> usize
     ensures { result ≡ times level tokens.now }
 {
     match level {
@@ -291,7 +291,7 @@ fn repeat<'k, B: Below<'k>>(
 }
 
 /// The levels behind so many of them.
-fn levels_behind(levels: &[Level], count: usize) -> &[Level]
+pub(crate) fn levels_behind(levels: &[Level], count: usize) -> &[Level]
     requires few { count ≤ length levels.now }
     ensures { result.now ≡ drop count levels.now }
 {
@@ -365,7 +365,7 @@ pub fn operand_within<'k, B: Below<'k>>(
 }
 
 /// An assignment operator and the value behind it.
-fn assigned<'k, B: Below<'k>>(
+pub(crate) fn assigned<'k, B: Below<'k>>(
     below: &B,
     alloc: Global,
     setting: Setting,
@@ -438,7 +438,7 @@ fn throw<'k, B: Below<'k>>(
 
 /// `..` or `?..`, and a section.
 #[tactic(auto, unfolding(grammar::specs::Descents::take_cascade_section))]
-fn cascade_section<'k, B: Below<'k>>(
+pub(crate) fn cascade_section<'k, B: Below<'k>>(
     below: &B,
     alloc: Global,
     setting: Setting,

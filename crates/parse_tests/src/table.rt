@@ -268,6 +268,12 @@ const ERRORS: &str = "\
 {'${a b}';c;} :: (block {(error) c;})
 {a-(){b;}-(){else;}c;} :: (block {(error) (error) c;})
 {a-(){b;}-(){c;}@;d;} :: (block {(error) (error) (error) d;})
+{a-(){b;}-(){c;}@;-(){d;}&&e;} :: (block {(error) (error) (error) (&& (- (closure {d;})) e);})
+{(){a;}-(){b;}||(){c;}(){d;};} :: (block {(error) (error) (error) (closure {d;});})
+{(){a;}(b){c;}-d;} :: (block {(error) (- (closure (b) {c;}) d);})
+{(){a;}-(){b;}?c:d@;-(){e;}?f:g;} :: (block {(error) (error) (error) (? (- (closure {e;})) f g);})
+{a..b=(){c;}-(){d;}..e@;-(){f;}..g;} :: (block {(error) (error) (error) (.. (- (closure {f;})) .g);})
+{(){a;}[b]-(){c;}@;[d];} :: (block {(error) (error) (error) (list d);})
 {{@;}a;} :: (block {(block {(error)}) a;})
 {(){else;};} :: (block {(closure {(error)});})
 (){@;}+a; :: (+ (closure {(error)}) a);

@@ -12,5 +12,6 @@ loop-more-preserved c =
     record {
       reading =
           list_goes (all_items ((lower c.args.room).statement) segment error_of c.args.tokens.now) c.loop-more.more (c.loop-more.more - 1) ((lower c.args.room).statement) c.loop-more.list.items c.push.new.self.items
-          c.loop-more.rest.now c.in_ok-next.after.now c.in-Some._behind.now c.in-Some._first.now c.in_ok-next.next c.loop-more.invariant.reading c.loop-more-test.true there c.in_ok-next.ensures c.in_ok-push.ensures.items refl;
+          c.loop-more.rest.now c.in_ok-next.after.now c.in-Some._behind.now c.in-Some._first.now c.in_ok-next.next c.loop-more.invariant.reading c.loop-more-test.true there c.in_ok-next.ensures.reading c.in_ok-push.ensures.items refl;
+      served = c.in_ok-next.ensures.served;
     }

@@ -1,0 +1,2 @@
+pub mod LastParts
+pub mod Expressions
