@@ -1,10 +1,10 @@
 -- Groups around tokens, and groups that end with them.
-use Rattle.std.proofs.Common.{◌≡◌, ◌≢◌, inl, inr, ◌⊎◌, ℕ, zero, suc, ◌+◌, ◌-◌, ◌<◌, ◌≤◌, ◌==◌, nat_lt, Bool, true, false, List, [], ◌∷◌, ◌++◌, take, drop, set, get_or, length, if◌then◌else◌, refl, sym, ap, ◌∙◌, arith, ltb-true, ltb-false, eqb-true, eq-eqb, lt-ltb, eqb, true≢false, append-nil, drop_of_length-le}
+use Rattle.std.proofs.Common.{◌≡◌, ◌≢◌, inl, inr, ℕ, zero, suc, ◌+◌, ◌-◌, ◌<◌, ◌≤◌, ◌==◌, nat_lt, Bool, true, false, List, [], ◌∷◌, ◌++◌, take, drop, set, get_or, length, if◌then◌else◌, refl, sym, ap, ◌∙◌, arith, eqb-true, eq-eqb, eqb, true≢false, append-nil, drop_of_length-le}
 use Rattle.std.proofs.lemmas.Bool.{cases_lt}
-use Rattle.std.proofs.lemmas.List.{get_or-set_same, get_or-set_other, length-set, get_or_append_left, get_or_push, length-append, length-drop, drop_more, take_all}
+use Rattle.std.proofs.lemmas.List.{get_or-set_same, get_or-set_other, get_or-take, length-set, length-drop, drop_more, take_all}
 use Rattle.std.proofs.lemmas.Grind.{get_or_default_zero}
 use Rattle.dart_tokens.specs.declared.grouped_token.GroupedToken.{GroupedToken as Token}
-use Rattle.segment_faults.specs.Nesting.{AreDepths, groups_around}
+use Rattle.segment_faults.specs.Nesting.{groups_around}
 use Rattle.segment_faults.specs.Ends.{AreEnds, ending}
 
 -- a group that holds more tokens than stand between, or as many
@@ -90,67 +90,76 @@ ends-more text ends place d l w short before = record { size = length-set ends e
     end : ℕ
     end = place + (get_or text place d).width
 
-    by : (last : ℕ) → last < length text → place + 1 ≡ suc place → end < length ends → (b : Bool) → eqb last end ≡ b → get_or (set ends end (get_or ends end 0 + 1)) last 0 ≡ ending last (take (place + 1) text)
-    by last m k long true u =
+    by : (last : ℕ) → place ≤ last → last < length text → place + 1 ≡ suc place → end < length ends → (b : Bool) → eqb last end ≡ b → get_or (set ends end (get_or ends end 0 + 1)) last 0 ≡ ending last (take (place + 1) text)
+    by last h m k long true u =
         let is : last ≡ end = eqb-true last end u in
         let there : ending end (take (suc place) text) ≡ suc (ending end (take place text)) = ending-here place end text d l w refl in
-        let was : get_or ends end 0 ≡ ending end (take place text) = before.each end short in
+        let was : get_or ends end 0 ≡ ending end (take place text) = before.each end (omega arith) short in
         rw (k, is, get_or-set_same ends end (get_or ends end 0 + 1) 0 long, there, was) (omega arith)
-    by last m k long false u =
+    by last h m k long false u =
         let is_not : last ≢ end = λ e. true≢false (sym (eq-eqb last end e) ∙ u) in
         let there : ending last (take (suc place) text) ≡ ending last (take place text) = ending-elsewhere place last text d l (λ a e. is_not (sym e)) in
-        rw (k, get_or-set_other ends end last (get_or ends end 0 + 1) 0 is_not, there) (before.each last m)
+        rw (k, get_or-set_other ends end last (get_or ends end 0 + 1) 0 is_not, there) (before.each last h m)
 
-    each_of : (last : ℕ) → last < length text → get_or (set ends end (get_or ends end 0 + 1)) last 0 ≡ ending last (take (place + 1) text)
-    each_of last m =
+    each_of : (last : ℕ) → place + 1 ≤ last → last < length text → get_or (set ends end (get_or ends end 0 + 1)) last 0 ≡ ending last (take (place + 1) text)
+    each_of last h m =
         let k : place + 1 ≡ suc place = omega arith in
         let long : end < length ends = let size : length ends ≡ length text = before.size in omega (arith, size, short) in
-        by last m k long (eqb last end) refl
+        by last (omega (arith, h)) m k long (eqb last end) refl
 
 pub ends-same : (text : List Token) (ends : List ℕ) (place : ℕ) (d : Token) → place < length text →
     (0 < (get_or text place d).width → place + (get_or text place d).width < length text → ⊥) → AreEnds text place ends → AreEnds text (place + 1) ends
 ends-same text ends place d l apart before = record {
   size = before.size;
-  each = λ last m.
+  each = λ last h m.
       let k : place + 1 ≡ suc place = omega arith in
       let rest : ending last (take (suc place) text) ≡ ending last (take place text) = ending-elsewhere place last text d l (λ w e. apart w (omega (arith, e, m))) in
-      rw (k, rest) (before.each last m);
+      rw (k, rest) (before.each last (omega (arith, h)) m);
 }
 
--- The depths of the tokens before a place, and that of the token there.
-pub record AreWalked (text : List Token) (place : ℕ) (ends depths : List ℕ) (depth : ℕ) : Type 0 where
-  pub ends_are : AreEnds text place ends
+-- The entries before a place are the depths of their tokens, those from it on count the groups that end there, and the depth is that of the token at the place.
+pub record AreWalked (text : List Token) (place : ℕ) (entries : List ℕ) (depth : ℕ) : Type 0 where
+  pub ends_are : AreEnds text place entries
   pub depth_is : depth ≡ groups_around place text
-  pub size : length depths ≡ place
-  pub each : (i : ℕ) → i < place → get_or depths i 0 ≡ groups_around i text
+  pub each : (i : ℕ) → i < place → get_or entries i 0 ≡ groups_around i text
 
-pub walked-none : (text : List Token) (ends : List ℕ) → length ends ≡ length text → ((i : ℕ) → i < length text → get_or ends i 0 ≡ 0) → AreWalked text 0 ends [] 0
-walked-none text ends size zeros = record {
-  ends_are = record { size = size; each = λ last m. let none : ending last [] ≡ 0 = ending-none last in zeros last m ∙ sym none };
+pub walked-none : (text : List Token) (entries : List ℕ) → length entries ≡ length text → ((i : ℕ) → i < length text → get_or entries i 0 ≡ 0) → AreWalked text 0 entries 0
+walked-none text entries size zeros = record {
+  ends_are = record { size = size; each = λ last h m. let none : ending last [] ≡ 0 = ending-none last in zeros last m ∙ sym none };
   depth_is = refl;
-  size = refl;
   each = λ i m. absurd (omega (arith, m));
 }
 
-pub walked-more : (text : List Token) (place : ℕ) (d : Token) (ends next depths : List ℕ) (depth new : ℕ) → place < length text →
-    AreWalked text place ends depths depth → AreEnds text (place + 1) next →
-    new ≡ depth + (if nat_lt 0 (get_or text place d).width then 1 else 0) - get_or next place 0 → AreWalked text (place + 1) next (depths ++ depth ∷ []) new
-walked-more text place d ends next depths depth new l before after is = record {
-  ends_are = after;
+-- lists that begin alike
+pub same_front : (xs ys : List ℕ) (n i : ℕ) → i < n → take n xs ≡ take n ys → get_or xs i 0 ≡ get_or ys i 0
+same_front xs ys n i l e = sym (get_or-take n xs i 0 l) ∙ ap (λ (zs : List ℕ). get_or zs i 0) e ∙ get_or-take n ys i 0 l
+
+pub walked-more : (text : List Token) (place : ℕ) (d : Token) (entries next : List ℕ) (depth new : ℕ) → place < length text →
+    AreWalked text place entries depth → AreEnds text (place + 1) next → take (place + 1) next ≡ take (place + 1) entries →
+    new ≡ depth + (if nat_lt 0 (get_or text place d).width then 1 else 0) - get_or next place 0 → AreWalked text (place + 1) (set next place depth) new
+walked-more text place d entries next depth new l before after front is = record {
+  ends_are = record { size = length-set next place depth ∙ after.size; each = ends_of };
   depth_is =
-      let ended : get_or next place 0 ≡ ending place text = after.each place l ∙ ending-take place (place + 1) text (omega arith) in
+      let ended : get_or next place 0 ≡ ending place text = same_front next entries (place + 1) place (omega arith) front ∙ before.ends_are.each place (omega arith) l ∙ ending-take place place text (omega arith) in
       let here : depth ≡ groups_around place text = before.depth_is in
       let step : groups_around (suc place) text + ending place text ≡ groups_around place text + (if nat_lt 0 (get_or text place d).width then 1 else 0) = goes_on place text d l in
       let k : place + 1 ≡ suc place = omega arith in
       rw k (omega (arith, ended, here, step, is));
-  size = let size : length depths ≡ place = before.size in simp length-append (omega (arith, size));
   each = each_of;
 }
   where
-    each_of : (i : ℕ) → i < place + 1 → get_or (depths ++ depth ∷ []) i 0 ≡ groups_around i text
-    each_of i m = let size : length depths ≡ place = before.size in elim (cases_lt i place) [
-      | inl low ↦ get_or_append_left depths (depth ∷ []) 0 i (omega (arith, size, low)) ∙ before.each i low
-      | inr high ↦ (let at : i ≡ place = omega (arith, high, m) in get_or_push depths depth 0 i (size ∙ sym at) ∙ before.depth_is ∙ ap (λ (n : ℕ). groups_around n text) (sym at))
+    ends_of : (last : ℕ) → place + 1 ≤ last → last < length text → get_or (set next place depth) last 0 ≡ ending last (take (place + 1) text)
+    ends_of last h m =
+        let is_not : last ≢ place = λ e. omega (arith, h, e) in
+        get_or-set_other next place last depth 0 is_not ∙ after.each last h m
+
+    here : place < length next → get_or (set next place depth) place 0 ≡ groups_around place text
+    here long = get_or-set_same next place depth 0 long ∙ before.depth_is
+
+    each_of : (i : ℕ) → i < place + 1 → get_or (set next place depth) i 0 ≡ groups_around i text
+    each_of i m = let size : length next ≡ length text = after.size in elim (cases_lt i place) [
+      | inl low ↦ (let is_not : i ≢ place = λ e. omega (arith, low, e) in get_or-set_other next place i depth 0 is_not ∙ same_front next entries (place + 1) i m front ∙ before.each i low)
+      | inr high ↦ (let at : i ≡ place = omega (arith, high, m) in rw at (here (omega (arith, size, l))))
     ]
 
 -- at the first of the tokens from a place on
@@ -171,13 +180,13 @@ given_back new old n a b =
     let all : length new ≤ n = omega (arith, a) in rw (none, append-nil, take_all n new all) refl
 
 -- so where each is known by an equation
-pub walked-next : (text : List Token) (place : ℕ) (d : Token) (ends next shown depths longer : List ℕ) (depth ended new : ℕ) → place < length text →
-    AreWalked text place ends depths depth → AreEnds text (place + 1) next → shown ≡ next → longer ≡ depths ++ depth ∷ [] → ended ≡ get_or shown place ended →
-    new ≡ depth + (if nat_lt 0 (get_or text place d).width then 1 else 0) - ended → AreWalked text (place + 1) shown longer new
-walked-next text place d ends next shown depths longer depth ended new l before after e a m is =
+pub walked-next : (text : List Token) (place : ℕ) (d : Token) (entries next shown stored : List ℕ) (depth ended new : ℕ) → place < length text →
+    AreWalked text place entries depth → AreEnds text (place + 1) next → take (place + 1) next ≡ take (place + 1) entries → shown ≡ next → stored ≡ set shown place depth → ended ≡ get_or shown place ended →
+    new ≡ depth + (if nat_lt 0 (get_or text place d).width then 1 else 0) - ended → AreWalked text (place + 1) stored new
+walked-next text place d entries next shown stored depth ended new l before after front e s m is =
     let size : length next ≡ length text = after.size in
     let long : place < length next = omega (arith, size, l) in
     let there : ended ≡ get_or next place 0 = m ∙ ap (λ (xs : List ℕ). get_or xs place ended) e ∙ get_or_default_zero next place ended long in
     let step : new ≡ depth + (if nat_lt 0 (get_or text place d).width then 1 else 0) - get_or next place 0
     = is ∙ ap (λ (n : ℕ). depth + (if nat_lt 0 (get_or text place d).width then 1 else 0) - n) there in
-    rw (e, a) (walked-more text place d ends next depths depth new l before after step)
+    rw (s, e) (walked-more text place d entries next depth new l before after front step)
