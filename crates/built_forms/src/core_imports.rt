@@ -5,7 +5,9 @@ ghost use Rattle.dart_tree.specs.Tree.{absent, part_of, trees_of};
 ghost use Rattle.built_forms.specs.CoreImports.{says_core, brings_all, narrows, narrows_core};
 
 use dart_scan::string_value;
-use dart_tree::{Combinator, Item, ItemNode, ListedName, StringLiteral, StringLiteralNode};
+use dart_tree::{
+    Combinator, Item, ItemNode, ListedName, ReadItem, StringLiteral, StringLiteralNode,
+};
 use plain_text::PlainText;
 use std::alloc::{AllocError, Global};
 
@@ -70,8 +72,11 @@ fn brings_all(prefix: &Option<ListedName>, combinators: &[Combinator]) -> bool
 fn narrows(alloc: Global, words: &[PlainText], item: &Item) -> Result<bool, AllocError>
     ensures { IfOk result (λ narrow. narrow ≡ narrows words.now item.now) }
 {
-    match &*item.node {
-        ItemNode::Import {
+    let ItemNode::Read(node) = &item.node else {
+        return Ok(false);
+    };
+    match &**node {
+        ReadItem::Import {
             uri,
             prefix,
             combinators,

@@ -4,7 +4,7 @@ ghost use Rattle.std.specs.Prelude.{◌≡◌, [], ◌∷◌, ◌++◌, IfOk, On
 ghost use Rattle.dart_tree.specs.Tree.{trees_of, part_of};
 ghost use Rattle.built_forms.specs.DeclaredNames.{declared_by_function, declared_by_all, declared_by_prefix, declared_by, declared_in, brings, brings_names};
 
-use dart_tree::{Function, FunctionNode, Item, ItemNode, ListedName, Variable};
+use dart_tree::{Function, FunctionNode, Item, ItemNode, ListedName, ReadItem, Variable};
 use std::alloc::{AllocError, Global};
 
 /// The word of a function's name.
@@ -42,19 +42,21 @@ fn add_prefix(prefix: &Option<ListedName>, words: &mut Vec<u32>) -> Result<(), A
 fn add_item(item: &Item, words: &mut Vec<u32>) -> Result<(), AllocError>
     ensures { OnOk result (words.new.items ≡ words.old.items ++ declared_by item.now) }
 {
-    match &*item.node {
-        ItemNode::Class { name, .. } => words.push(name.word)?,
-        ItemNode::Mixin { name, .. } => words.push(name.word)?,
-        ItemNode::TypeAlias { name, .. } => words.push(name.word)?,
-        ItemNode::Function { function, .. } => words.push(function_word(function))?,
-        ItemNode::Variables { variables, .. } => return add_variables(&variables.variables, words),
-        ItemNode::Import { prefix, .. } => return add_prefix(prefix, words),
-        ItemNode::Library { .. } => {}
-        ItemNode::Export { .. } => {}
-        ItemNode::Part { .. } => {}
-        ItemNode::PartOf { .. } => {}
-        ItemNode::PartOfLibrary { .. } => {}
-        ItemNode::Error { .. } => {}
+    let ItemNode::Read(node) = &item.node else {
+        return Ok(());
+    };
+    match &**node {
+        ReadItem::Class { name, .. } => words.push(name.word)?,
+        ReadItem::Mixin { name, .. } => words.push(name.word)?,
+        ReadItem::TypeAlias { name, .. } => words.push(name.word)?,
+        ReadItem::Function { function, .. } => words.push(function_word(function))?,
+        ReadItem::Variables { variables, .. } => return add_variables(&variables.variables, words),
+        ReadItem::Import { prefix, .. } => return add_prefix(prefix, words),
+        ReadItem::Library { .. } => {}
+        ReadItem::Export { .. } => {}
+        ReadItem::Part { .. } => {}
+        ReadItem::PartOf { .. } => {}
+        ReadItem::PartOfLibrary { .. } => {}
     }
     Ok(())
 }
@@ -74,19 +76,21 @@ pub(crate) fn declared_in(alloc: Global, items: &[Item]) -> Result<Vec<u32>, All
 fn brings(item: &Item) -> bool
     ensures { result ≡ brings item.now }
 {
-    match &*item.node {
-        ItemNode::Import { .. } => true,
-        ItemNode::Part { .. } => true,
-        ItemNode::PartOf { .. } => true,
-        ItemNode::PartOfLibrary { .. } => true,
-        ItemNode::Class { .. } => false,
-        ItemNode::Mixin { .. } => false,
-        ItemNode::TypeAlias { .. } => false,
-        ItemNode::Function { .. } => false,
-        ItemNode::Variables { .. } => false,
-        ItemNode::Library { .. } => false,
-        ItemNode::Export { .. } => false,
-        ItemNode::Error { .. } => false,
+    let ItemNode::Read(node) = &item.node else {
+        return false;
+    };
+    match &**node {
+        ReadItem::Import { .. } => true,
+        ReadItem::Part { .. } => true,
+        ReadItem::PartOf { .. } => true,
+        ReadItem::PartOfLibrary { .. } => true,
+        ReadItem::Class { .. } => false,
+        ReadItem::Mixin { .. } => false,
+        ReadItem::TypeAlias { .. } => false,
+        ReadItem::Function { .. } => false,
+        ReadItem::Variables { .. } => false,
+        ReadItem::Library { .. } => false,
+        ReadItem::Export { .. } => false,
     }
 }
 

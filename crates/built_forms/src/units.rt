@@ -12,7 +12,7 @@ use crate::meaning::meanings_of;
 use crate::statements::are_statements;
 use dart_tree::{
     Annotation, Body, BodyNode, Function, FunctionNode, Item, ItemNode, Parameter, ParameterList,
-    Span, TypeParameter, UnitTree, WrittenType, WrittenTypeNode,
+    ReadItem, Span, TypeParameter, UnitTree, WrittenType, WrittenTypeNode,
 };
 use judgement::Meaning;
 use plain_text::PlainText;
@@ -148,8 +148,11 @@ fn function_of<'a>(
 ) -> Option<(Span, &'a Body)>
     ensures { option_map (λ found. (found.0, found.1.now)) result ≡ function_of outside.now words.now one item.now }
 {
-    match &*item.node {
-        ItemNode::Function {
+    let ItemNode::Read(node) = &item.node else {
+        return None;
+    };
+    match &**node {
+        ReadItem::Function {
             at,
             metadata,
             function,
@@ -168,9 +171,9 @@ fn function_of<'a>(
 fn is_error(item: &Item) -> bool
     ensures { result ≡ is_error item.now }
 {
-    match &*item.node {
+    match &item.node {
+        ItemNode::Read(_) => false,
         ItemNode::Error { .. } => true,
-        _ => false,
     }
 }
 

@@ -15,12 +15,16 @@ use Rattle.dart_tree.specs.declared.functions.FunctionNode.{FunctionNode}
 use Rattle.dart_tree.specs.declared.functions.FunctionNode.TheVariants as function
 use Rattle.dart_tree.specs.declared.statements.StmtNode.{StmtNode}
 use Rattle.dart_tree.specs.declared.statements.StmtNode.TheVariants as stmt
+use Rattle.dart_tree.specs.declared.members.ReadMember.{ReadMember}
+use Rattle.dart_tree.specs.declared.members.ReadMember.TheVariants as member
 use Rattle.dart_tree.specs.declared.members.MemberNode.{MemberNode}
-use Rattle.dart_tree.specs.declared.members.MemberNode.TheVariants as member
+use Rattle.dart_tree.specs.declared.members.MemberNode.TheVariants as member_node
 use Rattle.dart_tree.specs.declared.members.InitializerNode.{InitializerNode}
 use Rattle.dart_tree.specs.declared.members.InitializerNode.TheVariants as initializer
+use Rattle.dart_tree.specs.declared.unit.ReadItem.{ReadItem}
+use Rattle.dart_tree.specs.declared.unit.ReadItem.TheVariants as item
 use Rattle.dart_tree.specs.declared.unit.ItemNode.{ItemNode}
-use Rattle.dart_tree.specs.declared.unit.ItemNode.TheVariants as item
+use Rattle.dart_tree.specs.declared.unit.ItemNode.TheVariants as item_node
 use Rattle.dart_tree.specs.declared.unit.CombinatorNode.{CombinatorNode}
 use Rattle.dart_tree.specs.declared.unit.CombinatorNode.TheVariants as combinator
 use Rattle.dart_tree.specs.declared.statements.ForInitializer.{ForInitializer}
@@ -114,13 +118,17 @@ stmt_of (stmt.Labeled at label body) = labeled_statement at label body
 stmt_of (stmt.Error at) = error_node at
 
 -- a member of a class or a mixin
+abbrev pub read_member_of : ReadMember → Tree
+read_member_of (member.Constructor at metadata name parameters initializers body) = constructor_declaration at (trees_of metadata.items) name parameters (trees_of initializers.items) body
+read_member_of (member.Factory at metadata name parameters body) = factory_declaration at (trees_of metadata.items) name parameters body
+read_member_of (member.Method at metadata is_static function) = method_declaration at (trees_of metadata.items) is_static function
+read_member_of (member.Fields at metadata is_static variables) = field_declaration at (trees_of metadata.items) is_static variables
+read_member_of (member.Operator at metadata result name parameters body) = operator_declaration at (trees_of metadata.items) (part_of result) name parameters body
+
+-- a member, or what derives none
 abbrev pub member_of : MemberNode → Tree
-member_of (member.Constructor at metadata name parameters initializers body) = constructor_declaration at (trees_of metadata.items) name parameters (trees_of initializers.items) body
-member_of (member.Factory at metadata name parameters body) = factory_declaration at (trees_of metadata.items) name parameters body
-member_of (member.Method at metadata is_static function) = method_declaration at (trees_of metadata.items) is_static function
-member_of (member.Fields at metadata is_static variables) = field_declaration at (trees_of metadata.items) is_static variables
-member_of (member.Operator at metadata result name parameters body) = operator_declaration at (trees_of metadata.items) (part_of result) name parameters body
-member_of (member.Error at) = error_node at
+member_of (member_node.Read form) = read_member_of form.value
+member_of (member_node.Error at) = error_node at
 
 -- an entry of a constructor's initializer list
 abbrev pub initializer_of : InitializerNode → Tree
@@ -129,19 +137,23 @@ initializer_of (initializer.Super at name arguments) = super_initializer at name
 initializer_of (initializer.Redirection at name arguments) = redirection at name arguments
 
 -- a directive or a declaration of a unit
+abbrev pub read_item_of : ReadItem → Tree
+read_item_of (item.Class at metadata is_abstract name type_parameters superclass mixins interfaces members) = class_declaration at (trees_of metadata.items) is_abstract name (trees_of type_parameters.items) (part_of superclass) (trees_of mixins.items) (trees_of interfaces.items) (trees_of members.items)
+read_item_of (item.Mixin at metadata name type_parameters constraints interfaces members) = mixin_declaration at (trees_of metadata.items) name (trees_of type_parameters.items) (trees_of constraints.items) (trees_of interfaces.items) (trees_of members.items)
+read_item_of (item.TypeAlias at metadata name written) = type_alias at (trees_of metadata.items) name written
+read_item_of (item.Function at metadata function) = function_declaration at (trees_of metadata.items) function
+read_item_of (item.Variables at metadata variables) = variable_declaration at (trees_of metadata.items) variables
+read_item_of (item.Library at names) = library_directive at (trees_of names.items)
+read_item_of (item.Import at uri prefix combinators) = import_directive at uri (part_of prefix) (trees_of combinators.items)
+read_item_of (item.Export at uri combinators) = export_directive at uri (trees_of combinators.items)
+read_item_of (item.Part at uri) = part_directive at uri
+read_item_of (item.PartOf at uri) = part_of_directive at uri
+read_item_of (item.PartOfLibrary at names) = part_of_library_directive at (trees_of names.items)
+
+-- an item, or what derives none
 abbrev pub item_of : ItemNode → Tree
-item_of (item.Class at metadata is_abstract name type_parameters superclass mixins interfaces members) = class_declaration at (trees_of metadata.items) is_abstract name (trees_of type_parameters.items) (part_of superclass) (trees_of mixins.items) (trees_of interfaces.items) (trees_of members.items)
-item_of (item.Mixin at metadata name type_parameters constraints interfaces members) = mixin_declaration at (trees_of metadata.items) name (trees_of type_parameters.items) (trees_of constraints.items) (trees_of interfaces.items) (trees_of members.items)
-item_of (item.TypeAlias at metadata name written) = type_alias at (trees_of metadata.items) name written
-item_of (item.Function at metadata function) = function_declaration at (trees_of metadata.items) function
-item_of (item.Variables at metadata variables) = variable_declaration at (trees_of metadata.items) variables
-item_of (item.Library at names) = library_directive at (trees_of names.items)
-item_of (item.Import at uri prefix combinators) = import_directive at uri (part_of prefix) (trees_of combinators.items)
-item_of (item.Export at uri combinators) = export_directive at uri (trees_of combinators.items)
-item_of (item.Part at uri) = part_directive at uri
-item_of (item.PartOf at uri) = part_of_directive at uri
-item_of (item.PartOfLibrary at names) = part_of_library_directive at (trees_of names.items)
-item_of (item.Error at) = error_node at
+item_of (item_node.Read form) = read_item_of form.value
+item_of (item_node.Error at) = error_node at
 
 -- which names an import or an export brings
 abbrev pub combinator_of : CombinatorNode → Tree

@@ -27,7 +27,7 @@ pub use expressions::{
 pub use functions::{
     Body, BodyNode, Function, FunctionNode, Parameter, ParameterList, Variable, VariableList,
 };
-pub use members::{Initializer, InitializerNode, Member, MemberNode};
+pub use members::{Initializer, InitializerNode, Member, MemberNode, ReadMember};
 pub use names::{Annotation, ConstructorName, Identifier, ListedName, Name, ParameterKind};
 pub use operators::{
     AssignmentOperator, BinaryOperator, BinaryOperatorKind, DeclaredOperator, OperatorName,
@@ -40,4 +40,4 @@ pub use types::{
     FunctionTypeParts, ParameterType, TypeArguments, TypeArgumentsNode, TypeParameter, WrittenType,
     WrittenTypeNode,
 };
-pub use unit::{Combinator, CombinatorNode, Item, ItemNode, Unit, UnitTree};
+pub use unit::{Combinator, CombinatorNode, Item, ItemNode, ReadItem, Unit, UnitTree};

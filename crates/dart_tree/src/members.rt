@@ -12,12 +12,21 @@ use std::marker::Model;
 #[derive(Drop)]
 pub struct Member {
     /// Its form, with its parts.
-    pub node: Box<MemberNode>,
+    pub node: MemberNode,
+}
+
+/// What is read where a member may stand: what derives nothing takes no box.
+#[derive(Drop)]
+pub enum MemberNode {
+    /// A member.
+    Read(Box<ReadMember>),
+    /// What derives nothing.
+    Error { at: Place },
 }
 
 /// The forms of a member.
 #[derive(Drop)]
-pub enum MemberNode {
+pub enum ReadMember {
     /// `C.n(a) : x = e, super(b) { .. }`.
     Constructor {
         at: Place,
@@ -57,10 +66,6 @@ pub enum MemberNode {
         name: OperatorName,
         parameters: ParameterList,
         body: Body,
-    },
-    /// What derives nothing.
-    Error {
-        at: Place,
     },
 }
 
@@ -104,7 +109,7 @@ impl Model for Member {
 
     ghost use Rattle.dart_tree.specs.View.{member_of};
 
-    ghost view = { λ a. member_of a.node.value };
+    ghost view = { λ a. member_of a.node };
 }
 
 impl Model for Initializer {

@@ -5,11 +5,11 @@ ghost use Rattle.dart_tree.specs.Places.{place_of};
 
 use crate::expressions::{Expr, ExprNode, StringLiteral, StringLiteralNode};
 use crate::functions::{Body, BodyNode, Function, FunctionNode};
-use crate::members::{Member, MemberNode};
+use crate::members::{Member, MemberNode, ReadMember};
 use crate::places::Place;
 use crate::statements::{Stmt, StmtNode};
 use crate::types::{WrittenType, WrittenTypeNode};
-use crate::unit::{Item, ItemNode};
+use crate::unit::{Item, ItemNode, ReadItem};
 
 impl WrittenType {
     /// The written type's number and range of text, from its first to its last token.
@@ -134,13 +134,16 @@ impl Member {
     pub fn place(&self) -> Place
         ensures { result ≡ place_of self.now }
     {
-        match &*self.node {
-            MemberNode::Constructor { at, .. } => *at,
-            MemberNode::Factory { at, .. } => *at,
-            MemberNode::Method { at, .. } => *at,
-            MemberNode::Fields { at, .. } => *at,
-            MemberNode::Operator { at, .. } => *at,
-            MemberNode::Error { at } => *at,
+        let form = match &self.node {
+            MemberNode::Read(form) => form,
+            MemberNode::Error { at } => return *at,
+        };
+        match &**form {
+            ReadMember::Constructor { at, .. } => *at,
+            ReadMember::Factory { at, .. } => *at,
+            ReadMember::Method { at, .. } => *at,
+            ReadMember::Fields { at, .. } => *at,
+            ReadMember::Operator { at, .. } => *at,
         }
     }
 }
@@ -150,19 +153,22 @@ impl Item {
     pub fn place(&self) -> Place
         ensures { result ≡ place_of self.now }
     {
-        match &*self.node {
-            ItemNode::Class { at, .. } => *at,
-            ItemNode::Mixin { at, .. } => *at,
-            ItemNode::TypeAlias { at, .. } => *at,
-            ItemNode::Function { at, .. } => *at,
-            ItemNode::Variables { at, .. } => *at,
-            ItemNode::Library { at, .. } => *at,
-            ItemNode::Import { at, .. } => *at,
-            ItemNode::Export { at, .. } => *at,
-            ItemNode::Part { at, .. } => *at,
-            ItemNode::PartOf { at, .. } => *at,
-            ItemNode::PartOfLibrary { at, .. } => *at,
-            ItemNode::Error { at } => *at,
+        let form = match &self.node {
+            ItemNode::Read(form) => form,
+            ItemNode::Error { at } => return *at,
+        };
+        match &**form {
+            ReadItem::Class { at, .. } => *at,
+            ReadItem::Mixin { at, .. } => *at,
+            ReadItem::TypeAlias { at, .. } => *at,
+            ReadItem::Function { at, .. } => *at,
+            ReadItem::Variables { at, .. } => *at,
+            ReadItem::Library { at, .. } => *at,
+            ReadItem::Import { at, .. } => *at,
+            ReadItem::Export { at, .. } => *at,
+            ReadItem::Part { at, .. } => *at,
+            ReadItem::PartOf { at, .. } => *at,
+            ReadItem::PartOfLibrary { at, .. } => *at,
         }
     }
 }

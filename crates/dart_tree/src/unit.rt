@@ -13,12 +13,21 @@ use std::marker::Model;
 #[derive(Drop)]
 pub struct Item {
     /// Its form, with its parts.
-    pub node: Box<ItemNode>,
+    pub node: ItemNode,
 }
 
-/// The forms of an item.
+/// What is read where an item may stand: what derives nothing takes no box.
 #[derive(Drop)]
 pub enum ItemNode {
+    /// A directive or a declaration.
+    Read(Box<ReadItem>),
+    /// What derives nothing.
+    Error { at: Place },
+}
+
+/// The forms of a directive or a declaration.
+#[derive(Drop)]
+pub enum ReadItem {
     /// `abstract class C<X> extends S with M implements I { .. }`.
     Class {
         at: Place,
@@ -93,10 +102,6 @@ pub enum ItemNode {
         at: Place,
         names: Vec<ListedName>,
     },
-    /// What derives nothing.
-    Error {
-        at: Place,
-    },
 }
 
 /// Which names an import or an export brings.
@@ -134,7 +139,7 @@ impl Model for Item {
 
     ghost use Rattle.dart_tree.specs.View.{item_of};
 
-    ghost view = { λ a. item_of a.node.value };
+    ghost view = { λ a. item_of a.node };
 }
 
 impl Model for Combinator {

@@ -5,7 +5,7 @@ ghost use Rattle.dart_tree.specs.Tree.{trees_of};
 ghost use Rattle.directives.specs.DeclaredNames.{declared_by, declared_by_all, declared_by_function, declared_in, named, variable_kind};
 
 use crate::uri::word_at;
-use dart_tree::{Function, FunctionNode, Item, ItemNode, Name, Span, Variable};
+use dart_tree::{Function, FunctionNode, Item, ItemNode, Name, ReadItem, Span, Variable};
 use element_terms::DeclaredKind;
 use plain_text::PlainText;
 use std::alloc::{AllocError, Global};
@@ -120,26 +120,28 @@ fn add_item(
 ) -> Result<(), AllocError>
     ensures { OnOk result (all.new.items ≡ all.old.items ++ declared_by words.now item.now) }
 {
-    match &*item.node {
-        ItemNode::Class { name, .. } => all.push(named(alloc, words, *name, DeclaredKind::Class)?)?,
-        ItemNode::Mixin { name, .. } => all.push(named(alloc, words, *name, DeclaredKind::Mixin)?)?,
-        ItemNode::TypeAlias { name, .. } => {
+    let ItemNode::Read(node) = &item.node else {
+        return Ok(());
+    };
+    match &**node {
+        ReadItem::Class { name, .. } => all.push(named(alloc, words, *name, DeclaredKind::Class)?)?,
+        ReadItem::Mixin { name, .. } => all.push(named(alloc, words, *name, DeclaredKind::Mixin)?)?,
+        ReadItem::TypeAlias { name, .. } => {
             all.push(named(alloc, words, *name, DeclaredKind::Typedef)?)?
         }
-        ItemNode::Function { function, .. } => {
+        ReadItem::Function { function, .. } => {
             all.push(declared_by_function(alloc, words, function)?)?
         }
-        ItemNode::Variables { variables, .. } => {
+        ReadItem::Variables { variables, .. } => {
             let kind = variable_kind(variables.is_final);
             return add_variables(alloc, words, kind, &variables.variables, all);
         }
-        ItemNode::Library { .. } => {}
-        ItemNode::Import { .. } => {}
-        ItemNode::Export { .. } => {}
-        ItemNode::Part { .. } => {}
-        ItemNode::PartOf { .. } => {}
-        ItemNode::PartOfLibrary { .. } => {}
-        ItemNode::Error { .. } => {}
+        ReadItem::Library { .. } => {}
+        ReadItem::Import { .. } => {}
+        ReadItem::Export { .. } => {}
+        ReadItem::Part { .. } => {}
+        ReadItem::PartOf { .. } => {}
+        ReadItem::PartOfLibrary { .. } => {}
     }
     Ok(())
 }

@@ -7,7 +7,7 @@ ghost use Rattle.directives.specs.Directives.{combinator_of, combinators_of, dir
 
 use crate::uri::{Uri, uri_of, word_at};
 use dart_tree::{
-    Combinator as WrittenCombinator, CombinatorNode, Item, ItemNode, ListedName, Span,
+    Combinator as WrittenCombinator, CombinatorNode, Item, ItemNode, ListedName, ReadItem, Span,
 };
 use element_terms::{Combinator, Combinators, NameList};
 use plain_text::PlainText;
@@ -191,9 +191,12 @@ fn form_of(
 ) -> Result<Option<DirectiveForm>, AllocError>
     ensures { IfOk result (λ form. form ≡ form_of words.now item.now) }
 {
-    match &*item.node {
-        ItemNode::Library { .. } => Ok(Some(DirectiveForm::Library)),
-        ItemNode::Import {
+    let ItemNode::Read(node) = &item.node else {
+        return Ok(None);
+    };
+    match &**node {
+        ReadItem::Library { .. } => Ok(Some(DirectiveForm::Library)),
+        ReadItem::Import {
             uri,
             prefix,
             combinators,
@@ -208,7 +211,7 @@ fn form_of(
                 combinators,
             }))
         }
-        ItemNode::Export {
+        ReadItem::Export {
             uri,
             combinators,
             ..
@@ -217,23 +220,22 @@ fn form_of(
             let combinators = combinators_of(alloc, words, combinators)?;
             Ok(Some(DirectiveForm::Export { uri, combinators }))
         }
-        ItemNode::Part { uri, .. } => {
+        ReadItem::Part { uri, .. } => {
             let uri = uri_of(alloc, words, uri)?;
             Ok(Some(DirectiveForm::Part { uri }))
         }
-        ItemNode::PartOf { uri, .. } => {
+        ReadItem::PartOf { uri, .. } => {
             let uri = uri_of(alloc, words, uri)?;
             Ok(Some(DirectiveForm::PartOf { uri }))
         }
-        ItemNode::PartOfLibrary { at, names } => Ok(Some(DirectiveForm::PartOfName {
+        ReadItem::PartOfLibrary { at, names } => Ok(Some(DirectiveForm::PartOfName {
             name: name_span(at.span, names),
         })),
-        ItemNode::Class { .. } => Ok(None),
-        ItemNode::Mixin { .. } => Ok(None),
-        ItemNode::TypeAlias { .. } => Ok(None),
-        ItemNode::Function { .. } => Ok(None),
-        ItemNode::Variables { .. } => Ok(None),
-        ItemNode::Error { .. } => Ok(None),
+        ReadItem::Class { .. } => Ok(None),
+        ReadItem::Mixin { .. } => Ok(None),
+        ReadItem::TypeAlias { .. } => Ok(None),
+        ReadItem::Function { .. } => Ok(None),
+        ReadItem::Variables { .. } => Ok(None),
     }
 }
 

@@ -4,7 +4,7 @@ ghost use Rattle.std.specs.Prelude.{◌≡◌, ◌++◌, IfOk, OnOk};
 ghost use Rattle.dart_tree.specs.Tree.{trees_of};
 ghost use Rattle.directives.specs.Order.{has_part_of, is_directive, is_misplaced, misplaced_from, misplaced_in, misplaced_item, role_of, seen_after};
 
-use dart_tree::{Item, ItemNode, Span};
+use dart_tree::{Item, ItemNode, ReadItem, Span};
 use std::alloc::{AllocError, Global};
 use std::marker::Model;
 
@@ -73,19 +73,21 @@ pub(crate) struct Seen {
 fn role_of(item: &Item) -> Role
     ensures { result ≡ role_of item.now }
 {
-    match &*item.node {
-        ItemNode::Class { .. } => Role::Declaration,
-        ItemNode::Mixin { .. } => Role::Declaration,
-        ItemNode::TypeAlias { .. } => Role::Declaration,
-        ItemNode::Function { .. } => Role::Declaration,
-        ItemNode::Variables { .. } => Role::Declaration,
-        ItemNode::Library { .. } => Role::Library,
-        ItemNode::Import { .. } => Role::Import,
-        ItemNode::Export { .. } => Role::Import,
-        ItemNode::Part { .. } => Role::Part,
-        ItemNode::PartOf { .. } => Role::PartOf,
-        ItemNode::PartOfLibrary { .. } => Role::PartOf,
-        ItemNode::Error { .. } => Role::Error,
+    let ItemNode::Read(node) = &item.node else {
+        return Role::Error;
+    };
+    match &**node {
+        ReadItem::Class { .. } => Role::Declaration,
+        ReadItem::Mixin { .. } => Role::Declaration,
+        ReadItem::TypeAlias { .. } => Role::Declaration,
+        ReadItem::Function { .. } => Role::Declaration,
+        ReadItem::Variables { .. } => Role::Declaration,
+        ReadItem::Library { .. } => Role::Library,
+        ReadItem::Import { .. } => Role::Import,
+        ReadItem::Export { .. } => Role::Import,
+        ReadItem::Part { .. } => Role::Part,
+        ReadItem::PartOf { .. } => Role::PartOf,
+        ReadItem::PartOfLibrary { .. } => Role::PartOf,
     }
 }
 

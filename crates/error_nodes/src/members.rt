@@ -9,7 +9,7 @@ use crate::functions::{
     add_from_body, add_from_function, add_from_parameter_list, add_from_variable_list,
 };
 use crate::types::add_from_optional_written_type;
-use dart_tree::{Initializer, InitializerNode, Member, MemberNode, Place};
+use dart_tree::{Initializer, InitializerNode, Member, MemberNode, Place, ReadMember};
 use std::alloc::AllocError;
 
 /// Adds the errors in an initializer.
@@ -43,8 +43,15 @@ pub(crate) fn add_from_initializers(
 pub(crate) fn add_from_member(member: &Member, errors: &mut Vec<Place>) -> Result<(), AllocError>
     ensures { OnOk result (errors.new.items ≡ errors.old.items ++ errors_of member.now) }
 {
-    match &*member.node {
-        MemberNode::Constructor {
+    let node = match &member.node {
+        MemberNode::Read(node) => node,
+        MemberNode::Error { at } => {
+            errors.push(*at)?;
+            return Ok(());
+        }
+    };
+    match &**node {
+        ReadMember::Constructor {
             parameters,
             initializers,
             body,
@@ -54,7 +61,7 @@ pub(crate) fn add_from_member(member: &Member, errors: &mut Vec<Place>) -> Resul
             add_from_initializers(initializers.as_slice(), errors)?;
             add_from_body(body, errors)
         }
-        MemberNode::Factory {
+        ReadMember::Factory {
             parameters,
             body,
             ..
@@ -62,9 +69,9 @@ pub(crate) fn add_from_member(member: &Member, errors: &mut Vec<Place>) -> Resul
             add_from_parameter_list(parameters, errors)?;
             add_from_body(body, errors)
         }
-        MemberNode::Method { function, .. } => add_from_function(function, errors),
-        MemberNode::Fields { variables, .. } => add_from_variable_list(variables, errors),
-        MemberNode::Operator {
+        ReadMember::Method { function, .. } => add_from_function(function, errors),
+        ReadMember::Fields { variables, .. } => add_from_variable_list(variables, errors),
+        ReadMember::Operator {
             result,
             parameters,
             body,
@@ -73,10 +80,6 @@ pub(crate) fn add_from_member(member: &Member, errors: &mut Vec<Place>) -> Resul
             add_from_optional_written_type(result, errors)?;
             add_from_parameter_list(parameters, errors)?;
             add_from_body(body, errors)
-        }
-        MemberNode::Error { at } => {
-            errors.push(*at)?;
-            Ok(())
         }
     }
 }

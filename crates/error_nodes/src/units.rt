@@ -11,15 +11,22 @@ use crate::types::{
     add_from_optional_written_type, add_from_type_parameters, add_from_written_type,
     add_from_written_types,
 };
-use dart_tree::{Item, ItemNode, Place, UnitTree};
+use dart_tree::{Item, ItemNode, Place, ReadItem, UnitTree};
 use std::alloc::{AllocError, Global};
 
 /// Adds the errors in an item.
 pub(crate) fn add_from_item(item: &Item, errors: &mut Vec<Place>) -> Result<(), AllocError>
     ensures { OnOk result (errors.new.items ≡ errors.old.items ++ errors_of item.now) }
 {
-    match &*item.node {
-        ItemNode::Class {
+    let node = match &item.node {
+        ItemNode::Read(node) => node,
+        ItemNode::Error { at } => {
+            errors.push(*at)?;
+            return Ok(());
+        }
+    };
+    match &**node {
+        ReadItem::Class {
             type_parameters,
             superclass,
             mixins,
@@ -33,7 +40,7 @@ pub(crate) fn add_from_item(item: &Item, errors: &mut Vec<Place>) -> Result<(), 
             add_from_written_types(interfaces.as_slice(), errors)?;
             add_from_members(members.as_slice(), errors)
         }
-        ItemNode::Mixin {
+        ReadItem::Mixin {
             type_parameters,
             constraints,
             interfaces,
@@ -45,19 +52,15 @@ pub(crate) fn add_from_item(item: &Item, errors: &mut Vec<Place>) -> Result<(), 
             add_from_written_types(interfaces.as_slice(), errors)?;
             add_from_members(members.as_slice(), errors)
         }
-        ItemNode::TypeAlias { written, .. } => add_from_written_type(written, errors),
-        ItemNode::Function { function, .. } => add_from_function(function, errors),
-        ItemNode::Variables { variables, .. } => add_from_variable_list(variables, errors),
-        ItemNode::Library { .. } => Ok(()),
-        ItemNode::Import { uri, .. } => add_from_string(uri, errors),
-        ItemNode::Export { uri, .. } => add_from_string(uri, errors),
-        ItemNode::Part { uri, .. } => add_from_string(uri, errors),
-        ItemNode::PartOf { uri, .. } => add_from_string(uri, errors),
-        ItemNode::PartOfLibrary { .. } => Ok(()),
-        ItemNode::Error { at } => {
-            errors.push(*at)?;
-            Ok(())
-        }
+        ReadItem::TypeAlias { written, .. } => add_from_written_type(written, errors),
+        ReadItem::Function { function, .. } => add_from_function(function, errors),
+        ReadItem::Variables { variables, .. } => add_from_variable_list(variables, errors),
+        ReadItem::Library { .. } => Ok(()),
+        ReadItem::Import { uri, .. } => add_from_string(uri, errors),
+        ReadItem::Export { uri, .. } => add_from_string(uri, errors),
+        ReadItem::Part { uri, .. } => add_from_string(uri, errors),
+        ReadItem::PartOf { uri, .. } => add_from_string(uri, errors),
+        ReadItem::PartOfLibrary { .. } => Ok(()),
     }
 }
 

@@ -5,8 +5,8 @@ ghost use Rattle.std.specs.List.{flat_map};
 ghost use Rattle.interface_part.specs.Hidden.{hidden_body, hidden_in_function, hidden_in_variable, hidden_in_variables, hidden_in_member, hidden_in_item, hidden_in};
 
 use dart_tree::{
-    Body, BodyNode, Function, FunctionNode, Item, ItemNode, Member, MemberNode, Span, UnitTree,
-    Variable, VariableList,
+    Body, BodyNode, Function, FunctionNode, Item, ItemNode, Member, MemberNode, ReadItem,
+    ReadMember, Span, UnitTree, Variable, VariableList,
 };
 use std::alloc::{AllocError, Global};
 
@@ -105,13 +105,15 @@ fn hide_in_member(
 ) -> Result<(), AllocError>
     ensures { OnOk result (parts.new.items ≡ parts.old.items ++ hidden_in_member in_mixin member.now) }
 {
-    match &*member.node {
-        MemberNode::Constructor { body, .. } => hide_body(parts, in_mixin, body),
-        MemberNode::Factory { body, .. } => hide_body(parts, in_mixin, body),
-        MemberNode::Method { function, .. } => hide_in_function(parts, in_mixin, function),
-        MemberNode::Fields { variables, .. } => hide_in_variables(parts, in_mixin, variables),
-        MemberNode::Operator { body, .. } => hide_body(parts, in_mixin, body),
-        MemberNode::Error { .. } => Ok(()),
+    let MemberNode::Read(node) = &member.node else {
+        return Ok(());
+    };
+    match &**node {
+        ReadMember::Constructor { body, .. } => hide_body(parts, in_mixin, body),
+        ReadMember::Factory { body, .. } => hide_body(parts, in_mixin, body),
+        ReadMember::Method { function, .. } => hide_in_function(parts, in_mixin, function),
+        ReadMember::Fields { variables, .. } => hide_in_variables(parts, in_mixin, variables),
+        ReadMember::Operator { body, .. } => hide_body(parts, in_mixin, body),
     }
 }
 
@@ -134,19 +136,21 @@ fn hide_in_members(
 fn hide_in_item(parts: &mut Vec<Hidden>, item: &Item) -> Result<(), AllocError>
     ensures { OnOk result (parts.new.items ≡ parts.old.items ++ hidden_in_item item.now) }
 {
-    match &*item.node {
-        ItemNode::Class { members, .. } => hide_in_members(parts, false, members.as_slice()),
-        ItemNode::Mixin { members, .. } => hide_in_members(parts, true, members.as_slice()),
-        ItemNode::Function { function, .. } => hide_in_function(parts, false, function),
-        ItemNode::Variables { variables, .. } => hide_in_variables(parts, false, variables),
-        ItemNode::TypeAlias { .. }
-        | ItemNode::Library { .. }
-        | ItemNode::Import { .. }
-        | ItemNode::Export { .. }
-        | ItemNode::Part { .. }
-        | ItemNode::PartOf { .. }
-        | ItemNode::PartOfLibrary { .. }
-        | ItemNode::Error { .. } => Ok(()),
+    let ItemNode::Read(node) = &item.node else {
+        return Ok(());
+    };
+    match &**node {
+        ReadItem::Class { members, .. } => hide_in_members(parts, false, members.as_slice()),
+        ReadItem::Mixin { members, .. } => hide_in_members(parts, true, members.as_slice()),
+        ReadItem::Function { function, .. } => hide_in_function(parts, false, function),
+        ReadItem::Variables { variables, .. } => hide_in_variables(parts, false, variables),
+        ReadItem::TypeAlias { .. }
+        | ReadItem::Library { .. }
+        | ReadItem::Import { .. }
+        | ReadItem::Export { .. }
+        | ReadItem::Part { .. }
+        | ReadItem::PartOf { .. }
+        | ReadItem::PartOfLibrary { .. } => Ok(()),
     }
 }
 

@@ -14,7 +14,7 @@ ghost use Rattle.parse_decl.specs.Parts.{declaration_form_of};
 use crate::leaves::{class_word, heads_class};
 use crate::parts::DeclarationForm;
 use dart_tokens::Kind;
-use dart_tree::{Annotation, Item, ItemNode, WrittenType};
+use dart_tree::{Annotation, Item, ItemNode, ReadItem, WrittenType};
 use grammar::Token;
 use parse_leaves::{Below, Miss, name_at, place_over, token, type_word};
 use parse_members::{Bodies, function, heads_word, member_list, some_token};
@@ -307,7 +307,7 @@ fn declaration_with(
             mixins,
             interfaces,
             members,
-        } => ItemNode::Class {
+        } => ReadItem::Class {
             at,
             metadata,
             is_abstract,
@@ -324,7 +324,7 @@ fn declaration_with(
             constraints,
             interfaces,
             members,
-        } => ItemNode::Mixin {
+        } => ReadItem::Mixin {
             at,
             metadata,
             name: name_at(name),
@@ -333,24 +333,24 @@ fn declaration_with(
             interfaces,
             members,
         },
-        DeclarationForm::TypeAlias { name, written } => ItemNode::TypeAlias {
+        DeclarationForm::TypeAlias { name, written } => ReadItem::TypeAlias {
             at,
             metadata,
             name: name_at(name),
             written,
         },
-        DeclarationForm::Function { function } => ItemNode::Function {
+        DeclarationForm::Function { function } => ReadItem::Function {
             at,
             metadata,
             function,
         },
-        DeclarationForm::Variables { variables } => ItemNode::Variables {
+        DeclarationForm::Variables { variables } => ReadItem::Variables {
             at,
             metadata,
             variables,
         },
     };
-    let node = Box::new(alloc, node)?;
+    let node = ItemNode::Read(Box::new(alloc, node)?);
     Ok(Item { node })
 }
 

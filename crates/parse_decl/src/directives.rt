@@ -10,7 +10,7 @@ ghost use Rattle.grammar.specs.DeclarationDescents.{take_library_names, take_lib
 ghost use Rattle.parse_leaves.specs.Answers.{Finds, Gives};
 
 use dart_tokens::Kind;
-use dart_tree::{Combinator, CombinatorNode, Item, ItemNode, ListedName, StringLiteral};
+use dart_tree::{Combinator, CombinatorNode, Item, ItemNode, ListedName, ReadItem, StringLiteral};
 use grammar::Token;
 use parse_leaves::{Below, Miss, heads, name, place_of, place_over, token};
 use parse_operands::string;
@@ -101,7 +101,7 @@ fn library(alloc: Global, tokens: &[Token]) -> Result<(Item, &[Token]), Miss>
     let (names, rest) = library_names(alloc, rest)?;
     let (_, rest) = token(rest, Kind::Semicolon).ok_or(Miss::NoReading)?;
     let at = place_over(tokens, rest);
-    let node = Box::new(alloc, ItemNode::Library { at, names })?;
+    let node = ItemNode::Read(Box::new(alloc, ReadItem::Library { at, names })?);
     Ok((Item { node }, rest))
 }
 
@@ -228,15 +228,15 @@ fn import<'k, B: Below<'k>>(
     let (found, rest) = some_prefix(rest);
     let (combinators, rest) = combinators(alloc, rest)?;
     let (_, rest) = token(rest, Kind::Semicolon).ok_or(Miss::NoReading)?;
-    let node = Box::new(
+    let node = ItemNode::Read(Box::new(
         alloc,
-        ItemNode::Import {
+        ReadItem::Import {
             at: place_over(tokens, rest),
             uri,
             prefix: listed_prefix(found),
             combinators,
         },
-    )?;
+    )?);
     Ok((Item { node }, rest))
 }
 
@@ -255,14 +255,14 @@ fn export<'k, B: Below<'k>>(
     let (uri, _, rest) = string(below, alloc, rest)?;
     let (combinators, rest) = combinators(alloc, rest)?;
     let (_, rest) = token(rest, Kind::Semicolon).ok_or(Miss::NoReading)?;
-    let node = Box::new(
+    let node = ItemNode::Read(Box::new(
         alloc,
-        ItemNode::Export {
+        ReadItem::Export {
             at: place_over(tokens, rest),
             uri,
             combinators,
         },
-    )?;
+    )?);
     Ok((Item { node }, rest))
 }
 
@@ -295,7 +295,7 @@ fn part<'k, B: Below<'k>>(
     let (_, rest) = token(tokens, Kind::Part).ok_or(Miss::NoReading)?;
     let (uri, _, rest) = ended_uri(below, alloc, rest)?;
     let at = place_over(tokens, rest);
-    let node = Box::new(alloc, ItemNode::Part { at, uri })?;
+    let node = ItemNode::Read(Box::new(alloc, ReadItem::Part { at, uri })?);
     Ok((Item { node }, rest))
 }
 
@@ -314,7 +314,7 @@ fn part_of_uri<'k, B: Below<'k>>(
     let (_, rest) = token(rest, Kind::Of).ok_or(Miss::NoReading)?;
     let (uri, _, rest) = ended_uri(below, alloc, rest)?;
     let at = place_over(tokens, rest);
-    let node = Box::new(alloc, ItemNode::PartOf { at, uri })?;
+    let node = ItemNode::Read(Box::new(alloc, ReadItem::PartOf { at, uri })?);
     Ok((Item { node }, rest))
 }
 
@@ -328,7 +328,7 @@ fn part_of_library(alloc: Global, tokens: &[Token]) -> Result<(Item, &[Token]), 
     let (names, rest) = library_names(alloc, rest)?;
     let (_, rest) = token(rest, Kind::Semicolon).ok_or(Miss::NoReading)?;
     let at = place_over(tokens, rest);
-    let node = Box::new(alloc, ItemNode::PartOfLibrary { at, names })?;
+    let node = ItemNode::Read(Box::new(alloc, ReadItem::PartOfLibrary { at, names })?);
     Ok((Item { node }, rest))
 }
 

@@ -40,16 +40,12 @@ fn some_item<'k, B: Below<'k>, C: Below<'k>>(
 }
 
 /// An error over the tokens before others.
-fn error(alloc: Global, tokens: &[Token], after: &[Token]) -> Result<Item, AllocError>
-    ensures { IfOk result (λ x. x ≡ error_of (tokens_read tokens.now after.now)) }
+fn error(tokens: &[Token], after: &[Token]) -> Item
+    ensures { result ≡ error_of (tokens_read tokens.now after.now) }
 {
-    let node = Box::new(
-        alloc,
-        ItemNode::Error {
-            at: place_over(tokens, after),
-        },
-    )?;
-    Ok(Item { node })
+    let at = place_over(tokens, after);
+    let node = ItemNode::Error { at };
+    Item { node }
 }
 
 /// The item that comes next, or an error over the segment that does, and the tokens that are left.
@@ -71,8 +67,7 @@ fn item<'k, B: Below<'k>, C: Below<'k>>(
         Ok((found, rest)) => Ok((found, rest)),
         Err(Miss::NoReading) => {
             let after = behind_segment(tokens);
-            let error = error(alloc, tokens, after)?;
-            Ok((error, after))
+            Ok((error(tokens, after), after))
         }
         Err(Miss::Memory) => Err(AllocError),
     }

@@ -17,7 +17,7 @@ use crate::functions::function;
 use crate::operators::operator_member;
 use crate::parts::{Bodies, MemberForm};
 use dart_tokens::Kind;
-use dart_tree::{Annotation, Member, MemberNode};
+use dart_tree::{Annotation, Member, MemberNode, ReadMember};
 use grammar::Token;
 use parse_expr::behind_segment;
 use parse_leaves::{Below, Miss, group, place_over, token};
@@ -223,7 +223,7 @@ fn member_with(
             parameters,
             initializers,
             body,
-        } => MemberNode::Constructor {
+        } => ReadMember::Constructor {
             at,
             metadata,
             name,
@@ -235,7 +235,7 @@ fn member_with(
             name,
             parameters,
             body,
-        } => MemberNode::Factory {
+        } => ReadMember::Factory {
             at,
             metadata,
             name,
@@ -245,7 +245,7 @@ fn member_with(
         MemberForm::Method {
             is_static,
             function,
-        } => MemberNode::Method {
+        } => ReadMember::Method {
             at,
             metadata,
             is_static,
@@ -254,7 +254,7 @@ fn member_with(
         MemberForm::Fields {
             is_static,
             variables,
-        } => MemberNode::Fields {
+        } => ReadMember::Fields {
             at,
             metadata,
             is_static,
@@ -265,7 +265,7 @@ fn member_with(
             name,
             parameters,
             body,
-        } => MemberNode::Operator {
+        } => ReadMember::Operator {
             at,
             metadata,
             result,
@@ -274,7 +274,7 @@ fn member_with(
             body,
         },
     };
-    let node = Box::new(alloc, node)?;
+    let node = MemberNode::Read(Box::new(alloc, node)?);
     Ok(Member { node })
 }
 
@@ -298,16 +298,12 @@ fn member<'k, B: Below<'k>>(
 }
 
 /// An error over the tokens before others.
-fn error(alloc: Global, tokens: &[Token], after: &[Token]) -> Result<Member, AllocError>
-    ensures { IfOk result (λ x. x ≡ error_of (tokens_read tokens.now after.now)) }
+fn error(tokens: &[Token], after: &[Token]) -> Member
+    ensures { result ≡ error_of (tokens_read tokens.now after.now) }
 {
-    let node = Box::new(
-        alloc,
-        MemberNode::Error {
-            at: place_over(tokens, after),
-        },
-    )?;
-    Ok(Member { node })
+    let at = place_over(tokens, after);
+    let node = MemberNode::Error { at };
+    Member { node }
 }
 
 /// The member that comes next, or an error over the segment that does, and the tokens that are left.
@@ -327,8 +323,7 @@ fn member_item<'k, B: Below<'k>>(
         Ok((found, rest)) => Ok((found, rest)),
         Err(Miss::NoReading) => {
             let after = behind_segment(tokens);
-            let error = error(alloc, tokens, after)?;
-            Ok((error, after))
+            Ok((error(tokens, after), after))
         }
         Err(Miss::Memory) => Err(AllocError),
     }

@@ -8,7 +8,7 @@ use crate::expressions::{read_argument_list, read_expr};
 use crate::functions::{read_body, read_function, read_parameter_list, read_variable_list};
 use crate::lists::ReadsLists;
 use crate::types::read_optional_written_type;
-use dart_tree::{Initializer, InitializerNode, Member, MemberNode};
+use dart_tree::{Initializer, InitializerNode, Member, MemberNode, ReadMember};
 use std::alloc::{AllocError, Global};
 
 /// Reads the lists of statements in an initializer, where `room` nodes may lie on a way down from it.
@@ -61,9 +61,12 @@ pub fn read_member<R: ReadsLists>(
     requires sound { R.sound reader.now }
     ensures { OnOk result (member.new ≡ with_lists (R.lists reader.now) room member.old) }
 {
+    let MemberNode::Read(node) = &mut member.node else {
+        return Ok(());
+    };
     let inside = room.saturating_sub(1);
-    match &mut *member.node {
-        MemberNode::Constructor {
+    match &mut **node {
+        ReadMember::Constructor {
             parameters,
             initializers,
             body,
@@ -73,7 +76,7 @@ pub fn read_member<R: ReadsLists>(
             read_initializers(reader, alloc, inside, initializers.as_mut_slice())?;
             read_body(reader, alloc, inside, body)
         }
-        MemberNode::Factory {
+        ReadMember::Factory {
             parameters,
             body,
             ..
@@ -81,11 +84,11 @@ pub fn read_member<R: ReadsLists>(
             read_parameter_list(reader, alloc, inside, parameters)?;
             read_body(reader, alloc, inside, body)
         }
-        MemberNode::Method { function, .. } => read_function(reader, alloc, inside, function),
-        MemberNode::Fields { variables, .. } => read_variable_list(
+        ReadMember::Method { function, .. } => read_function(reader, alloc, inside, function),
+        ReadMember::Fields { variables, .. } => read_variable_list(
             reader, alloc, inside, variables,
         ),
-        MemberNode::Operator {
+        ReadMember::Operator {
             result,
             parameters,
             body,
@@ -95,7 +98,6 @@ pub fn read_member<R: ReadsLists>(
             read_parameter_list(reader, alloc, inside, parameters)?;
             read_body(reader, alloc, inside, body)
         }
-        MemberNode::Error { .. } => Ok(()),
     }
 }
 

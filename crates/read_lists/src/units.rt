@@ -11,7 +11,7 @@ use crate::members::read_members;
 use crate::types::{
     read_optional_written_type, read_type_parameters, read_written_type, read_written_types,
 };
-use dart_tree::{Item, ItemNode, UnitTree};
+use dart_tree::{Item, ItemNode, ReadItem, UnitTree};
 use std::alloc::{AllocError, Global};
 
 /// Reads the lists of statements in an item, where `room` nodes may lie on a way down from it.
@@ -25,9 +25,12 @@ pub fn read_item<R: ReadsLists>(
     requires sound { R.sound reader.now }
     ensures { OnOk result (item.new ≡ with_lists (R.lists reader.now) room item.old) }
 {
+    let ItemNode::Read(node) = &mut item.node else {
+        return Ok(());
+    };
     let inside = room.saturating_sub(1);
-    match &mut *item.node {
-        ItemNode::Class {
+    match &mut **node {
+        ReadItem::Class {
             type_parameters,
             superclass,
             mixins,
@@ -41,7 +44,7 @@ pub fn read_item<R: ReadsLists>(
             read_written_types(reader, alloc, inside, interfaces.as_mut_slice())?;
             read_members(reader, alloc, inside, members.as_mut_slice())
         }
-        ItemNode::Mixin {
+        ReadItem::Mixin {
             type_parameters,
             constraints,
             interfaces,
@@ -53,18 +56,17 @@ pub fn read_item<R: ReadsLists>(
             read_written_types(reader, alloc, inside, interfaces.as_mut_slice())?;
             read_members(reader, alloc, inside, members.as_mut_slice())
         }
-        ItemNode::TypeAlias { written, .. } => read_written_type(reader, alloc, inside, written),
-        ItemNode::Function { function, .. } => read_function(reader, alloc, inside, function),
-        ItemNode::Variables { variables, .. } => read_variable_list(
+        ReadItem::TypeAlias { written, .. } => read_written_type(reader, alloc, inside, written),
+        ReadItem::Function { function, .. } => read_function(reader, alloc, inside, function),
+        ReadItem::Variables { variables, .. } => read_variable_list(
             reader, alloc, inside, variables,
         ),
-        ItemNode::Library { .. } => Ok(()),
-        ItemNode::Import { uri, .. } => read_string(reader, alloc, inside, uri),
-        ItemNode::Export { uri, .. } => read_string(reader, alloc, inside, uri),
-        ItemNode::Part { uri, .. } => read_string(reader, alloc, inside, uri),
-        ItemNode::PartOf { uri, .. } => read_string(reader, alloc, inside, uri),
-        ItemNode::PartOfLibrary { .. } => Ok(()),
-        ItemNode::Error { .. } => Ok(()),
+        ReadItem::Library { .. } => Ok(()),
+        ReadItem::Import { uri, .. } => read_string(reader, alloc, inside, uri),
+        ReadItem::Export { uri, .. } => read_string(reader, alloc, inside, uri),
+        ReadItem::Part { uri, .. } => read_string(reader, alloc, inside, uri),
+        ReadItem::PartOf { uri, .. } => read_string(reader, alloc, inside, uri),
+        ReadItem::PartOfLibrary { .. } => Ok(()),
     }
 }
 

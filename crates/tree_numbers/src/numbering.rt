@@ -18,7 +18,7 @@ use crate::numbering_parts::{
 };
 use dart_tree::{
     Combinator, CombinatorNode, Initializer, InitializerNode, Item, ItemNode, Member, MemberNode,
-    UnitTree,
+    ReadItem, ReadMember, UnitTree,
 };
 
 /// Numbers the nodes of a unit in reading order, from 0 on, in one pass over it.
@@ -49,8 +49,12 @@ fn number_member(member: &mut Member, first: u32) -> u32
     ensures tree { member.new ≡ numbered first member.old }
     ensures next { result ≡ first + nodes_in member.old }
 {
-    match &mut *member.node {
-        MemberNode::Constructor {
+    let node = match &mut member.node {
+        MemberNode::Read(node) => node,
+        MemberNode::Error { at } => return number_place(at, first),
+    };
+    match &mut **node {
+        ReadMember::Constructor {
             at,
             metadata,
             name,
@@ -65,7 +69,7 @@ fn number_member(member: &mut Member, first: u32) -> u32
             let next = number_initializers(initializers.as_mut_slice(), next);
             number_body(body, next)
         }
-        MemberNode::Factory {
+        ReadMember::Factory {
             at,
             metadata,
             name,
@@ -78,7 +82,7 @@ fn number_member(member: &mut Member, first: u32) -> u32
             let next = number_parameter_list(parameters, next);
             number_body(body, next)
         }
-        MemberNode::Method {
+        ReadMember::Method {
             at,
             metadata,
             function,
@@ -88,7 +92,7 @@ fn number_member(member: &mut Member, first: u32) -> u32
             let next = number_annotations(metadata.as_mut_slice(), next);
             number_function(function, next)
         }
-        MemberNode::Fields {
+        ReadMember::Fields {
             at,
             metadata,
             variables,
@@ -98,7 +102,7 @@ fn number_member(member: &mut Member, first: u32) -> u32
             let next = number_annotations(metadata.as_mut_slice(), next);
             number_variable_list(variables, next)
         }
-        MemberNode::Operator {
+        ReadMember::Operator {
             at,
             metadata,
             result,
@@ -113,7 +117,6 @@ fn number_member(member: &mut Member, first: u32) -> u32
             let next = number_parameter_list(parameters, next);
             number_body(body, next)
         }
-        MemberNode::Error { at } => number_place(at, first),
     }
 }
 
@@ -171,8 +174,12 @@ fn number_item(item: &mut Item, first: u32) -> u32
     ensures tree { item.new ≡ numbered first item.old }
     ensures next { result ≡ first + nodes_in item.old }
 {
-    match &mut *item.node {
-        ItemNode::Class {
+    let node = match &mut item.node {
+        ItemNode::Read(node) => node,
+        ItemNode::Error { at } => return number_place(at, first),
+    };
+    match &mut **node {
+        ReadItem::Class {
             at,
             metadata,
             name,
@@ -192,7 +199,7 @@ fn number_item(item: &mut Item, first: u32) -> u32
             let next = number_written_types(interfaces.as_mut_slice(), next);
             number_members(members.as_mut_slice(), next)
         }
-        ItemNode::Mixin {
+        ReadItem::Mixin {
             at,
             metadata,
             name,
@@ -209,7 +216,7 @@ fn number_item(item: &mut Item, first: u32) -> u32
             let next = number_written_types(interfaces.as_mut_slice(), next);
             number_members(members.as_mut_slice(), next)
         }
-        ItemNode::TypeAlias {
+        ReadItem::TypeAlias {
             at,
             metadata,
             name,
@@ -220,7 +227,7 @@ fn number_item(item: &mut Item, first: u32) -> u32
             let next = number_name(name, next);
             number_written_type(written, next)
         }
-        ItemNode::Function {
+        ReadItem::Function {
             at,
             metadata,
             function,
@@ -229,7 +236,7 @@ fn number_item(item: &mut Item, first: u32) -> u32
             let next = number_annotations(metadata.as_mut_slice(), next);
             number_function(function, next)
         }
-        ItemNode::Variables {
+        ReadItem::Variables {
             at,
             metadata,
             variables,
@@ -238,11 +245,11 @@ fn number_item(item: &mut Item, first: u32) -> u32
             let next = number_annotations(metadata.as_mut_slice(), next);
             number_variable_list(variables, next)
         }
-        ItemNode::Library { at, names } => {
+        ReadItem::Library { at, names } => {
             let next = number_place(at, first);
             number_listed_names(names.as_mut_slice(), next)
         }
-        ItemNode::Import {
+        ReadItem::Import {
             at,
             uri,
             prefix,
@@ -253,7 +260,7 @@ fn number_item(item: &mut Item, first: u32) -> u32
             let next = number_optional_listed_name(prefix, next);
             number_combinators(combinators.as_mut_slice(), next)
         }
-        ItemNode::Export {
+        ReadItem::Export {
             at,
             uri,
             combinators,
@@ -262,19 +269,18 @@ fn number_item(item: &mut Item, first: u32) -> u32
             let next = number_string(uri, next);
             number_combinators(combinators.as_mut_slice(), next)
         }
-        ItemNode::Part { at, uri } => {
+        ReadItem::Part { at, uri } => {
             let next = number_place(at, first);
             number_string(uri, next)
         }
-        ItemNode::PartOf { at, uri } => {
+        ReadItem::PartOf { at, uri } => {
             let next = number_place(at, first);
             number_string(uri, next)
         }
-        ItemNode::PartOfLibrary { at, names } => {
+        ReadItem::PartOfLibrary { at, names } => {
             let next = number_place(at, first);
             number_listed_names(names.as_mut_slice(), next)
         }
-        ItemNode::Error { at } => number_place(at, first),
     }
 }
 

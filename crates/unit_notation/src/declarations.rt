@@ -2,16 +2,16 @@
 //! names of types: `(typedef T A)`.
 
 use crate::members::member;
-use dart_tree::{Annotation, ItemNode, Member, WrittenType};
+use dart_tree::{Annotation, Member, ReadItem, WrittenType};
 use std::alloc::AllocError;
 use tree_notation::{Pieces, type_parameters};
 
 /// Writes a class, a mixin or a name of a type.
-pub fn declaration<'t>(out: &mut Pieces<'t>, node: &'t ItemNode) -> Result<(), AllocError> {
+pub fn declaration<'t>(out: &mut Pieces<'t>, node: &'t ReadItem) -> Result<(), AllocError> {
     match node {
-        ItemNode::Class { .. } => class(out, node),
-        ItemNode::Mixin { .. } => mixin(out, node),
-        ItemNode::TypeAlias { .. } => type_alias(out, node),
+        ReadItem::Class { .. } => class(out, node),
+        ReadItem::Mixin { .. } => mixin(out, node),
+        ReadItem::TypeAlias { .. } => type_alias(out, node),
         _ => out.text("<unknown>"),
     }
 }
@@ -28,8 +28,8 @@ pub fn marked<'t>(out: &mut Pieces<'t>, metadata: &'t [Annotation]) -> Result<()
 }
 
 /// Writes a class.
-fn class<'t>(out: &mut Pieces<'t>, node: &'t ItemNode) -> Result<(), AllocError> {
-    let ItemNode::Class {
+fn class<'t>(out: &mut Pieces<'t>, node: &'t ReadItem) -> Result<(), AllocError> {
+    let ReadItem::Class {
         metadata,
         is_abstract,
         name,
@@ -60,8 +60,8 @@ fn class<'t>(out: &mut Pieces<'t>, node: &'t ItemNode) -> Result<(), AllocError>
 }
 
 /// Writes a mixin.
-fn mixin<'t>(out: &mut Pieces<'t>, node: &'t ItemNode) -> Result<(), AllocError> {
-    let ItemNode::Mixin {
+fn mixin<'t>(out: &mut Pieces<'t>, node: &'t ReadItem) -> Result<(), AllocError> {
+    let ReadItem::Mixin {
         metadata,
         name,
         type_parameters: variables,
@@ -84,8 +84,8 @@ fn mixin<'t>(out: &mut Pieces<'t>, node: &'t ItemNode) -> Result<(), AllocError>
 }
 
 /// Writes the name of a type.
-fn type_alias<'t>(out: &mut Pieces<'t>, node: &'t ItemNode) -> Result<(), AllocError> {
-    let ItemNode::TypeAlias {
+fn type_alias<'t>(out: &mut Pieces<'t>, node: &'t ReadItem) -> Result<(), AllocError> {
+    let ReadItem::TypeAlias {
         metadata,
         name,
         written,

@@ -1,15 +1,15 @@
 //! Directives: `(library a.b)`, `(import 'u' as p (show a b) (hide c))`, `(part of a.b)`.
 
-use dart_tree::{Combinator, CombinatorNode, ItemNode, ListedName, StringLiteral};
+use dart_tree::{Combinator, CombinatorNode, ListedName, ReadItem, StringLiteral};
 use std::alloc::AllocError;
 use tree_notation::{Pieces, string};
 
 /// Writes a directive: the last forms that an item may have.
-pub fn directive<'t>(out: &mut Pieces<'t>, node: &'t ItemNode) -> Result<(), AllocError> {
+pub fn directive<'t>(out: &mut Pieces<'t>, node: &'t ReadItem) -> Result<(), AllocError> {
     match node {
-        ItemNode::Library { names, .. } => of_library(out, "(library ", names.as_slice()),
-        ItemNode::Import { .. } => import(out, node),
-        ItemNode::Export {
+        ReadItem::Library { names, .. } => of_library(out, "(library ", names.as_slice()),
+        ReadItem::Import { .. } => import(out, node),
+        ReadItem::Export {
             uri,
             combinators,
             ..
@@ -19,9 +19,9 @@ pub fn directive<'t>(out: &mut Pieces<'t>, node: &'t ItemNode) -> Result<(), All
             combinators_of(out, combinators.as_slice())?;
             out.text(")")
         }
-        ItemNode::Part { uri, .. } => of_text(out, "(part ", uri),
-        ItemNode::PartOf { uri, .. } => of_text(out, "(part of ", uri),
-        ItemNode::PartOfLibrary { names, .. } => of_library(out, "(part of ", names.as_slice()),
+        ReadItem::Part { uri, .. } => of_text(out, "(part ", uri),
+        ReadItem::PartOf { uri, .. } => of_text(out, "(part of ", uri),
+        ReadItem::PartOfLibrary { names, .. } => of_library(out, "(part of ", names.as_slice()),
         _ => out.text("<unknown>"),
     }
 }
@@ -55,8 +55,8 @@ fn of_library<'t>(
 }
 
 /// Writes an import.
-fn import<'t>(out: &mut Pieces<'t>, node: &'t ItemNode) -> Result<(), AllocError> {
-    let ItemNode::Import {
+fn import<'t>(out: &mut Pieces<'t>, node: &'t ReadItem) -> Result<(), AllocError> {
+    let ReadItem::Import {
         uri,
         prefix,
         combinators,

@@ -4,7 +4,7 @@
 use crate::declarations::marked;
 use dart_tree::{
     ArgumentList, ConstructorName, DeclaredOperator, Identifier, Initializer, InitializerNode,
-    Member, MemberNode,
+    Member, MemberNode, ReadMember,
 };
 use std::alloc::AllocError;
 use tree_notation::{Pieces, arguments_of, body_of, function, parameters_of, variables};
@@ -12,13 +12,15 @@ use tree_notation::{Pieces, arguments_of, body_of, function, parameters_of, vari
 /// Writes a member.
 pub fn member<'t>(out: &mut Pieces<'t>, member: &'t Member) -> Result<(), AllocError> {
     out.range(member.place())?;
-    match &*member.node {
-        MemberNode::Constructor { .. } => constructor(out, &*member.node),
-        MemberNode::Factory { .. } => factory(out, &*member.node),
-        MemberNode::Method { .. } => method(out, &*member.node),
-        MemberNode::Fields { .. } => fields(out, &*member.node),
-        MemberNode::Operator { .. } => operator_member(out, &*member.node),
-        MemberNode::Error { .. } => out.text("(error)"),
+    let MemberNode::Read(node) = &member.node else {
+        return out.text("(error)");
+    };
+    match &**node {
+        ReadMember::Constructor { .. } => constructor(out, node),
+        ReadMember::Factory { .. } => factory(out, node),
+        ReadMember::Method { .. } => method(out, node),
+        ReadMember::Fields { .. } => fields(out, node),
+        ReadMember::Operator { .. } => operator_member(out, node),
     }
 }
 
@@ -35,8 +37,8 @@ fn constructor_name(out: &mut Pieces<'_>, name: &ConstructorName) -> Result<(), 
 }
 
 /// Writes a constructor.
-fn constructor<'t>(out: &mut Pieces<'t>, node: &'t MemberNode) -> Result<(), AllocError> {
-    let MemberNode::Constructor {
+fn constructor<'t>(out: &mut Pieces<'t>, node: &'t ReadMember) -> Result<(), AllocError> {
+    let ReadMember::Constructor {
         metadata,
         name,
         parameters,
@@ -106,8 +108,8 @@ fn constructed<'t>(
 }
 
 /// Writes a factory.
-fn factory<'t>(out: &mut Pieces<'t>, node: &'t MemberNode) -> Result<(), AllocError> {
-    let MemberNode::Factory {
+fn factory<'t>(out: &mut Pieces<'t>, node: &'t ReadMember) -> Result<(), AllocError> {
+    let ReadMember::Factory {
         metadata,
         name,
         parameters,
@@ -126,8 +128,8 @@ fn factory<'t>(out: &mut Pieces<'t>, node: &'t MemberNode) -> Result<(), AllocEr
 }
 
 /// Writes a function of a class.
-fn method<'t>(out: &mut Pieces<'t>, node: &'t MemberNode) -> Result<(), AllocError> {
-    let MemberNode::Method {
+fn method<'t>(out: &mut Pieces<'t>, node: &'t ReadMember) -> Result<(), AllocError> {
+    let ReadMember::Method {
         metadata,
         is_static,
         function: declared,
@@ -142,8 +144,8 @@ fn method<'t>(out: &mut Pieces<'t>, node: &'t MemberNode) -> Result<(), AllocErr
 }
 
 /// Writes fields that are declared together.
-fn fields<'t>(out: &mut Pieces<'t>, node: &'t MemberNode) -> Result<(), AllocError> {
-    let MemberNode::Fields {
+fn fields<'t>(out: &mut Pieces<'t>, node: &'t ReadMember) -> Result<(), AllocError> {
+    let ReadMember::Fields {
         metadata,
         is_static,
         variables: declared,
@@ -158,8 +160,8 @@ fn fields<'t>(out: &mut Pieces<'t>, node: &'t MemberNode) -> Result<(), AllocErr
 }
 
 /// Writes an operator.
-fn operator_member<'t>(out: &mut Pieces<'t>, node: &'t MemberNode) -> Result<(), AllocError> {
-    let MemberNode::Operator {
+fn operator_member<'t>(out: &mut Pieces<'t>, node: &'t ReadMember) -> Result<(), AllocError> {
+    let ReadMember::Operator {
         metadata,
         result,
         name,

@@ -3,15 +3,18 @@
 use crate::declarations::{declaration, marked};
 use crate::directives::directive;
 use dart_tokens::Words;
-use dart_tree::{Item, ItemNode, UnitTree};
+use dart_tree::{Item, ItemNode, ReadItem, UnitTree};
 use std::alloc::{AllocError, Global};
 use tree_notation::{Pieces, Ranges, function, text_of, variables};
 
 /// Writes a directive or a declaration.
 fn item<'t>(out: &mut Pieces<'t>, item: &'t Item) -> Result<(), AllocError> {
     out.range(item.place())?;
-    match &*item.node {
-        ItemNode::Function {
+    let ItemNode::Read(node) = &item.node else {
+        return out.text("(error)");
+    };
+    match &**node {
+        ReadItem::Function {
             metadata,
             function: declared,
             ..
@@ -19,7 +22,7 @@ fn item<'t>(out: &mut Pieces<'t>, item: &'t Item) -> Result<(), AllocError> {
             marked(out, metadata.as_slice())?;
             function(out, declared)
         }
-        ItemNode::Variables {
+        ReadItem::Variables {
             metadata,
             variables: declared,
             ..
@@ -27,10 +30,9 @@ fn item<'t>(out: &mut Pieces<'t>, item: &'t Item) -> Result<(), AllocError> {
             marked(out, metadata.as_slice())?;
             variables(out, declared)
         }
-        ItemNode::Class { .. } | ItemNode::Mixin { .. } | ItemNode::TypeAlias { .. } => {
-            declaration(out, &*item.node)
+        ReadItem::Class { .. } | ReadItem::Mixin { .. } | ReadItem::TypeAlias { .. } => {
+            declaration(out, node)
         }
-        ItemNode::Error { .. } => out.text("(error)"),
         other => directive(out, other),
     }
 }
