@@ -11,12 +11,11 @@ ghost use Rattle.grammar.specs.Whole.{unit_of};
 ghost use Rattle.work_counts.specs.Counts.{raised};
 ghost use Rattle.work_counts.specs.declared.kind.WorkKind.TheVariants.{Parse};
 
-use dart_scan::{scan, tokens_rise};
+use dart_scan::{GroupedText, scan_grouped, tokens_rise};
 use dart_text::Text;
-use dart_tokens::{Groups, Scanned, Tokens, group};
+use dart_tokens::Tokens;
 use dart_tree::{Unit, UnitTree};
 use grammar::Token;
-use grouped_tokens::grouped;
 use node_counts::nodes_of_texts_are_bounded;
 use parse_decl::parse_items;
 use std::alloc::{AllocError, Global};
@@ -31,16 +30,17 @@ fn order_law(text: &Text, tokens: &[Token])
     tokens_rise(text.as_str().as_bytes());
 }
 
-/// The tokens of a text, its words, and what is wrong with its parts: there are no more tokens than the
-/// text may have bytes.
-fn scanned(alloc: Global, text: &Text) -> Result<Scanned, AllocError>
-    ensures tokens { IfOk result (λ scanned. scanned.tokens ≡ tokens_of text.now) }
-    ensures words { IfOk result (λ scanned. scanned.words ≡ words_of text.now) }
-    ensures faults { IfOk result (λ scanned. scanned.faults ≡ faults_of text.now) }
-    ensures few { IfOk result (λ scanned. length scanned.tokens ≤ max_text) }
+/// The tokens of a text with their groups, its words, and what is wrong with them: there are no more
+/// tokens than the text may have bytes.
+fn scanned(alloc: Global, text: &Text) -> Result<GroupedText, AllocError>
+    ensures tokens { IfOk result (λ read. read.tokens ≡ tokens_of text.now) }
+    ensures groups { IfOk result (λ read. read.group_faults ≡ faults_of_groups (tokens_of text.now)) }
+    ensures words { IfOk result (λ read. read.words ≡ words_of text.now) }
+    ensures faults { IfOk result (λ read. read.lexical_faults ≡ faults_of text.now) }
+    ensures few { IfOk result (λ read. length read.tokens ≤ max_text) }
 {
     let _short = text.as_str();
-    scan(alloc, text)
+    scan_grouped(alloc, text)
 }
 
 /// The tokens of a text as the grammar reads them: each with the size of the group that it opens.
@@ -86,21 +86,16 @@ pub fn parse_unit(
     ensures counted { OnOk result (work.new ≡ raised Parse work.old) }
     ensures uncounted { OnErr result (work.new ≡ work.old) }
 {
-    let scanned = scanned(alloc, text)?;
-    let groups = group(alloc, scanned.tokens.as_slice())?;
-    let tokens = grouped(alloc, scanned.tokens, &groups)?;
-    // Which brackets belong together stands in the tokens, too.
-    let Groups { partner, faults } = groups;
-    drop(partner);
-    let mut tree = parse_items(alloc, in_core, read_tokens(text, &tokens))?;
-    few_nodes(text, in_core, &tokens, &tree);
+    let read = scanned(alloc, text)?;
+    let mut tree = parse_items(alloc, in_core, read_tokens(text, &read.tokens))?;
+    few_nodes(text, in_core, &read.tokens, &tree);
     number_unit(&mut tree);
     work.raise(WorkKind::Parse);
     Ok(Unit {
         tree,
-        tokens,
-        words: scanned.words,
-        lexical_faults: scanned.faults,
-        group_faults: faults,
+        tokens: read.tokens,
+        words: read.words,
+        lexical_faults: read.lexical_faults,
+        group_faults: read.group_faults,
     })
 }

@@ -18,7 +18,7 @@ use Rattle.dart_scan.specs.Pieces.{Spelled, spelled, piece_at, braces_behind, la
 use Rattle.dart_scan.specs.Openings.{shape}
 use Rattle.dart_scan.specs.Endings.{Names, NoneBegins}
 use Rattle.dart_scan.specs.Suspended.{Suspended, resumed, resumed_within}
-use Rattle.dart_scan.specs.Cutting.{Cut, rest_of, size_of, Ends, suspended, all_suspended, to_come_within, to_come, Lies, Nested, Stands, Sound, steps_left, Steps, IsDone, added, continued, passed, entered, abandoned, closed, with_part, interpolated, named}
+use Rattle.dart_scan.specs.Cutting.{Cut, rest_of, size_of, Ends, suspended, all_suspended, to_come_within, to_come, Lies, Nested, Stands, Sound, steps_left, Steps, IsDone, added, continued, passed, entered, abandoned, closed, with_part, interpolated, named, IsCode}
 use Rattle.dart_scan.specs.FormLemmas.{begins-split, Opens, opens, Reaches, reaches}
 use Rattle.dart_scan.specs.StepLemmas.{opening-some, named-parts}
 use Rattle.dart_scan.specs.ResumeLemmas.{braced, ends_interpolation, piece-step, string-step, closing-step, ending-step, quotes-step, opening-step, name-step, never-step}
@@ -384,6 +384,7 @@ done old braces s e out is =
       all = sym (at.comes ∙ ap (λ o. resumed (all_suspended old.text old.pieces old.end braces o) (spelled old.pieces old.text) (rest_of old)) is
           ∙ ap (resumed [] (spelled old.pieces old.text)) none ∙ append-nil (spelled old.pieces old.text));
       end = out ∙ nested;
+      outside = record { code = subst IsCode (sym e) tt; none = refl };
     }
 
 -- Steps in a string.

@@ -19,3 +19,4 @@ pub mod KindLemmas
 pub mod TokenLaws
 pub mod FirstLemmas
 pub mod FirstByteLemmas
+pub mod RunLemmas

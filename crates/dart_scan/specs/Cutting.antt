@@ -111,12 +111,18 @@ pub record Steps (old new : Cut) : Type 0 where
   pub same : to_come new ≡ to_come old
   pub less : steps_left new.within new < steps_left old.within old
 
+-- the next piece stands in no string, and in no interpolation of one
+pub record IsOutside (cut : Cut) : Type 0 where
+  pub code : IsCode cut.within
+  pub none : cut.around ≡ []
+
 -- a cut that is done
 pub record IsDone (old new : Cut) : Type 0 where
   pub text : new.text ≡ old.text
   pub sound : Sound new
   pub all : spelled new.pieces new.text ≡ to_come old
   pub end : new.at ≡ length new.text
+  pub outside : IsOutside new
 
 -- a step, if there is one, or else the end
 abbrev pub StepsOrEnds : Bool → Cut → Cut → Type 0

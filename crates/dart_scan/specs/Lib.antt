@@ -27,3 +27,4 @@ pub mod StepLemmas
 pub mod StringGrammar
 pub mod StringTexts
 pub mod Utf8Lemmas
+pub mod Runs

@@ -23,5 +23,5 @@ pub use laws::{
     a_string_is_whole_or_one_piece, a_string_of_one_quote_stands_in_a_line, a_word_is_its_lexeme,
     pieces_cover_a_text, pieces_of_a_text_are_texts, tokens_rise,
 };
-pub use scanner::scan;
+pub use scanner::{GroupedText, scan, scan_grouped};
 pub use value::string_value;

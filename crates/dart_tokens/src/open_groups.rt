@@ -1,6 +1,6 @@
 //! The groups that are open at a place among tokens.
 
-ghost use Rattle.std.specs.Prelude.{◌≡◌, [], ◌∷◌, OnOk, MatchOption, is_some};
+ghost use Rattle.std.specs.Prelude.{◌≡◌, [], ◌∷◌, OnErr, OnOk, MatchOption, is_some};
 ghost use Rattle.dart_tokens.specs.Groups.{nearest};
 ghost use Rattle.dart_tokens.specs.Stack.{bracket_of, closable, inside, is_among, open_of};
 
@@ -106,7 +106,8 @@ impl OpenGroups {
 
     /// A bracket opens a group inside all others.
     pub fn push(&mut self, group: Open) -> Result<(), AllocError>
-        ensures { OnOk result (self.new ≡ open_of group ∷ self.old) }
+        ensures opened { OnOk result (self.new ≡ open_of group ∷ self.old) }
+        ensures failed { OnErr result (self.new ≡ self.old) }
     {
         let around = self.closable();
         self.levels.push(Level {

@@ -7,11 +7,9 @@
 ghost use Rattle.std.specs.List.Sorted.{IsNonDecreasingBy};
 
 use crate::reading::are_in_order;
-use dart_scan::scan;
+use dart_scan::scan_grouped;
 use dart_text::Text;
-use dart_tokens::group;
 use grammar::Token;
-use grouped_tokens::grouped;
 use parse_expr::{parse_block, parse_parameters, parse_type};
 use std::alloc::{AllocError, Global};
 use std::test::Fail;
@@ -63,10 +61,8 @@ fn found(alloc: Global, case: &str) -> Result<String, Fail> {
     let (what, rest) = case.split_once(" ").ok_or("no depth")?;
     let (depth, text) = rest.split_once(" ").ok_or("no text")?;
     let text = Text::from_str(alloc, text)?;
-    let scanned = scan(alloc, &text)?;
-    let groups = group(alloc, scanned.tokens.as_slice())?;
-    let grouped = grouped(alloc, scanned.tokens, &groups)?;
-    let tokens = grouped.read();
+    let scanned = scan_grouped(alloc, &text)?;
+    let tokens = scanned.tokens.read();
     if !are_in_order(tokens) {
         return Ok(String::from_str(alloc, "out of order")?);
     }

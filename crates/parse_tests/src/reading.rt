@@ -3,11 +3,10 @@
 ghost use Rattle.std.specs.Prelude.{◌≡◌, true};
 ghost use Rattle.std.specs.List.Sorted.{IsNonDecreasingBy};
 
-use dart_scan::scan;
+use dart_scan::scan_grouped;
 use dart_text::{Text, TextRefusal};
-use dart_tokens::{Words, group};
+use dart_tokens::Words;
 use grammar::Token;
-use grouped_tokens::grouped;
 use parse_expr::{parse_expression, parse_statement};
 use std::alloc::{AllocError, Global};
 use tree_notation::{expression_text, statement_text};
@@ -73,10 +72,8 @@ fn expression(
 /// too long, and want of memory.
 pub fn read(alloc: Global, text: &str, depth: u32) -> Result<String, TextRefusal> {
     let text = Text::from_str(alloc, text)?;
-    let scanned = scan(alloc, &text)?;
-    let groups = group(alloc, scanned.tokens.as_slice())?;
-    let grouped = grouped(alloc, scanned.tokens, &groups)?;
-    let tokens = grouped.read();
+    let scanned = scan_grouped(alloc, &text)?;
+    let tokens = scanned.tokens.read();
     if !are_in_order(tokens) {
         return Ok(String::from_str(alloc, "out of order")?);
     }

@@ -1,11 +1,12 @@
 //! A cut of a text that is under way.
 
-ghost use Rattle.std.specs.Prelude.{◌≡◌, ◌+◌, ◌<◌, ◌≤◌, ◌^◌, ◌==◌, true, [], length, IfOk, OnOk, codes, if◌then◌else◌};
+ghost use Rattle.std.specs.Prelude.{◌≡◌, ◌+◌, ◌<◌, ◌≤◌, ◌^◌, ◌==◌, true, [], drop, length, IfOk, OnOk, codes, if◌then◌else◌};
 ghost use Rattle.dart_scan.specs.Lexemes.{begins};
 ghost use Rattle.dart_scan.specs.Strings.{within_reach};
 ghost use Rattle.dart_scan.specs.Pieces.{braces_behind, pieces};
 ghost use Rattle.dart_scan.specs.Openings.{shape};
-ghost use Rattle.dart_scan.specs.Cutting.{rest_of, Ends, Sound, Steps, StepsOrEnds, IsCode, to_come, added, left, continued, passed, entered, abandoned, closed, with_part, interpolated, named, fresh};
+ghost use Rattle.dart_scan.specs.Runs.{IsRun, StepsOrPauses};
+ghost use Rattle.dart_scan.specs.Cutting.{IsOutside, rest_of, Ends, Sound, Steps, StepsOrEnds, IsCode, to_come, added, left, continued, passed, entered, abandoned, closed, with_part, interpolated, named, fresh};
 
 use crate::cut::ending::{Ending, what_ends};
 use crate::cut::form::{StringForm, string_form};
@@ -15,6 +16,10 @@ use crate::cut::strings::{OpenString, OpenStrings};
 use crate::piece::{Class, Piece};
 use std::alloc::{AllocError, Global};
 use std::marker::Model;
+use std::mem::replace;
+
+/// About how many pieces are handed on at a time.
+const RUN: usize = 4096;
 
 /// Where the next piece stands.
 #[derive(Clone, Copy, Debug)]
@@ -379,5 +384,65 @@ impl<'t> Cutting<'t> {
                 self.run_out()
             }
         }
+    }
+
+    /// Whether the next piece stands in no string, and in no interpolation of one.
+    fn is_outside(&self) -> bool
+        ensures { result ≡ true → IsOutside self.now }
+    {
+        match self.within {
+            Within::InCode { braces: _ } => self.around.is_empty(),
+            Within::InString {
+                string: _,
+                begun: _,
+            } => false,
+        }
+    }
+
+    /// One step, if there are fewer pieces than so many, or a string is open; else, or if nothing is left,
+    /// false.
+    fn advance(&mut self, many: usize) -> Result<bool, AllocError>
+        requires sound { Sound self.old }
+        requires some { 0 < many }
+        ensures { IfOk result (λ more. StepsOrPauses more self.old self.new) }
+    {
+        if self.pieces.len() >= many && self.is_outside() {
+            return Ok(false);
+        }
+        let more = self.step()?;
+        Ok(more)
+    }
+
+    /// Hands on the pieces so far, where no string is open: what is left is a text of its own.
+    fn hand_on(&mut self, alloc: Global) -> Vec<Piece>
+        requires sound { Sound self.old }
+        requires outside { IsOutside self.old }
+        ensures pieces { result.items ≡ self.old.pieces }
+        ensures cut { self.new ≡ fresh (drop self.old.at self.old.text) self.new.line }
+        ensures line { Ends (drop self.old.at self.old.text) self.new.line }
+        ensures from { self.new.line.from ≡ 0 }
+    {
+        let line = self.line.that_holds(self.text, self.at);
+        let rest = &self.text[self.at..];
+        let pieces = replace(&mut self.pieces, Vec::new(alloc));
+        self.line = Line {
+            from: 0,
+            end: line.end - self.at,
+        };
+        self.text = rest;
+        self.at = 0;
+        self.end = rest.len();
+        self.within = Within::InCode { braces: 0 };
+        pieces
+    }
+
+    /// The next pieces: some thousands, or as many as stand before the first place at which no string is
+    /// open. None, if nothing is left.
+    pub fn run(&mut self, alloc: Global) -> Result<Vec<Piece>, AllocError>
+        requires { Sound self.old }
+        ensures { IfOk result (λ run. IsRun self.old self.new run.items) }
+    {
+        while self.advance(RUN)? {}
+        Ok(self.hand_on(alloc))
     }
 }

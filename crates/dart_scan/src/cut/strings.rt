@@ -1,6 +1,6 @@
 //! Strings that are open.
 
-ghost use Rattle.std.specs.Prelude.{◌≡◌, [], ◌∷◌, OnOk, MatchOption};
+ghost use Rattle.std.specs.Prelude.{◌≡◌, [], ◌∷◌, true, OnOk, MatchOption};
 
 use crate::cut::form::StringForm;
 use std::alloc::{AllocError, Global};
@@ -56,5 +56,12 @@ impl OpenStrings {
         ensures { MatchOption result ((self.old ≡ []) × (self.new ≡ [])) (λ string. self.old ≡ string ∷ self.new) }
     {
         self.strings.pop()
+    }
+
+    /// Whether no string is open.
+    pub fn is_empty(&self) -> bool
+        ensures { result ≡ true → self.now ≡ [] }
+    {
+        self.strings.is_empty()
     }
 }

@@ -1,0 +1,9 @@
+pub mod KindLemmas
+pub mod EndLemmas
+pub mod ReadLemmas
+pub mod SizeLemmas
+pub mod StepLemmas
+pub mod WholeLemmas
+pub mod BracketLemmas
+pub mod AddLemmas
+pub mod FaultLemmas
