@@ -70,8 +70,8 @@ fn link_read(alloc: Global, packages: &Packages, read: ReadFiles) -> Result<Link
     })
 }
 
-/// Reads files, and which of them their directives name. Each text is read once. The error is want of
-/// memory.
+/// Reads files, and which of them their directives name. Each text is read once, of which the contract
+/// doesn't speak. The error is want of memory.
 pub fn link(
     alloc: Global,
     packages: &Packages,
@@ -84,8 +84,8 @@ pub fn link(
     link_read(alloc, packages, read)
 }
 
-/// The same where files were linked before, over any packages: a text is read only where none of these
-/// had its path, or where that had another text.
+/// The same where files were linked before, over any packages. A text is read only where none of these
+/// had its path, or where that had another text; the contract speaks of what is found alone.
 pub fn link_again(
     alloc: Global,
     packages: &Packages,

@@ -76,8 +76,8 @@ impl From<AllocError> for AcceptRefusal {
     }
 }
 
-/// Accepts a program exactly where no clause fails at any of its points that a run may come to. The
-/// condition on the rows holds where no class forms a superinterface that is too large.
+/// Accepts a program exactly where no clause fails at its entry, nor at any of its points that a run may
+/// come to. The condition on the rows holds where no class forms a superinterface that is too large.
 pub fn accept(alloc: Global, program: CoreProgram) -> Result<Accepted, AcceptRefusal>
     requires well_formed { IsWellFormed program }
     requires nothing_out { LeavesNothingOut program.rows.table }

@@ -69,7 +69,7 @@ ends_piece form text = begins text form.quotes || (not form.raw && begins_interp
 abbrev pub begins_escape : Form → ℕ → Bool
 begins_escape form byte = not form.raw && byte == 92
 
--- how many bytes stand before the end of a piece of a string, or before the end of the text; what stands behind a backslash ends none
+-- how many bytes stand before the end of a piece of a string, or before the end of the text; what stands behind a backslash ends none, but in a raw string
 unfoldable pub plain_size : Form → List ℕ → ℕ
 plain_size form [] = 0
 plain_size form (byte ∷ []) = if ends_piece form (byte ∷ []) then 0 else 1

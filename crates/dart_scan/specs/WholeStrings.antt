@@ -6,7 +6,7 @@ use Rattle.dart_scan.specs.Strings.{Form, opening_of, within_reach, name_size, b
 use Rattle.dart_scan.specs.Pieces.{Spelled, Read, next_at, last_class, part_before, braces_behind, pieces}
 use Rattle.dart_scan.specs.Suspended.{enough, pieces_behind}
 
--- Bytes of a string before others: none begins the quotes of the string or an interpolation, unless a backslash stands before it.
+-- Bytes of a string before others: none begins the quotes of the string or an interpolation, unless a backslash that begins an escape stands before it.
 pub data IsPlain (form : Form) (behind : List ℕ) : List ℕ → Type 0 where
   no_more : IsPlain form behind []
   byte : (first : ℕ) {plain : List ℕ} → ends_piece form (first ∷ (plain ++ behind)) ≡ false → begins_escape form first ≡ false → IsPlain form behind plain → IsPlain form behind (first ∷ plain)

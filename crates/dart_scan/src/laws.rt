@@ -55,7 +55,7 @@ pub fn a_first_piece_is_of_its_class(_text: &[u8])
 {}
 
 /// Where a text begins with a whole string of the grammar, this one is read: up to the first quotes
-/// that no backslash stands before, with the braces of each interpolation matched. Where none begins
+/// that are no part of an escape, with the braces of each interpolation matched. Where none begins
 /// with the quotes that stand there, all that it may reach is one piece.
 pub fn a_string_is_whole_or_one_piece(_text: &[u8])
     ensures whole { ForSome (string_form _text.now) (λ form. (read : Read) → IsString form _text.now read → BeginsWith _text.now read) }

@@ -1,10 +1,11 @@
 //! The scanner: from the text of a file to its tokens.
 //!
 //! `pieces` in `specs/Pieces.antt` cuts a text into gaps and lexemes, `specs/Scanned.antt` makes
-//! tokens, words and faults of them, and `scan` gives exactly those; `string_value` in
-//! `specs/Values.antt` states what a string stands for. No state of a scanner occurs in any of it;
-//! what is still to come of a text at each step of the cut is in `specs/Suspended.antt`, for its proof.
-//! The crate stands on the texts of `dart_text` and the tokens of `dart_tokens`.
+//! tokens, words and faults of them, and `scan_grouped` gives exactly those, each token with its group,
+//! and `scan` gives them without groups; `string_value` in `specs/Values.antt` states what a string
+//! stands for. No state of a scanner occurs in any of it; what is still to come of a text at each step
+//! of the cut is in `specs/Suspended.antt`, for its proof. The crate stands on the texts of `dart_text`,
+//! the tokens of `dart_tokens` and their groups, which `grouping` makes.
 #![tactic(auto)]
 
 mod cut;

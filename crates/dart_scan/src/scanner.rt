@@ -158,7 +158,8 @@ pub struct GroupedText {
 }
 
 /// The tokens of a text with their groups, its words, and what is wrong with them and with its parts, in
-/// one pass. No list of all its pieces is made, and none of its tokens without their groups.
+/// one pass. No list of its tokens without their groups is made, and pieces are held for a run of some
+/// thousands alone, or until a string ends.
 pub fn scan_grouped(alloc: Global, text: &Text) -> Result<GroupedText, AllocError>
     ensures tokens { IfOk result (λ read. read.tokens ≡ tokens_of text.now) }
     ensures groups { IfOk result (λ read. read.group_faults ≡ faults_of_groups (tokens_of text.now)) }

@@ -13,11 +13,11 @@ pub enum LexFaultKind {
     UnterminatedComment,
     /// A string that never ends, from its quote to the end of its line, or of the text.
     UnterminatedString,
-    /// An escape of a string that stands for no character.
+    /// An escape of a string without the digits that it needs, or beyond the last code point.
     BadEscape,
     /// An ASCII character that begins no lexeme.
     IllegalCharacter,
-    /// Characters beyond ASCII outside strings and comments.
+    /// Characters beyond ASCII outside comments and the parts of strings.
     ProfileIdentifier,
 }
 

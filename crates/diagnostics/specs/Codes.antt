@@ -77,7 +77,7 @@ capitalized (first ∷ rest) = to_ascii_uppercase first ∷ rest
 abbrev pub message_of : DiagnosticCode → List ℕ
 message_of code = capitalized (words_of (name_of code)) ++ codes "."
 
--- the kind of a code: a text whose lexemes, brackets or grammar are wrong has a syntactic error, every other is a compile-time error
+-- the kind of a code: what is wrong with lexemes, brackets or grammar is a syntactic error; a form of Dart that is left out is a compile-time error, and so is every other
 abbrev pub kind_of : DiagnosticCode → ErrorKind
 kind_of AmbiguousExport = CompileTimeError
 kind_of ArgumentType = CompileTimeError

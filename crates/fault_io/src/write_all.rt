@@ -8,7 +8,7 @@ use crate::traits::{Sink, WriteRefusal};
 use std::alloc::Global;
 
 /// Writes all of `bytes`. After a refusal only a part of them, from their front, is written. Each
-/// call of the sink is handed all bytes that are left.
+/// call of the sink is handed all bytes that are left, of which the contract doesn't speak.
 pub fn write_all_of<K: Sink>(alloc: Global, sink: &mut K, bytes: &[u8]) -> Result<(), WriteRefusal>
     ensures all { OnOk result (K.written sink.new ≡ and_then (K.written sink.old) bytes.now) }
     ensures part { OnErr result ((n : ℕ) × (n < length bytes.now) × (K.written sink.new ≡ and_then (K.written sink.old) (take n bytes.now))) }

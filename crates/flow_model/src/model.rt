@@ -339,9 +339,10 @@ impl Flow {
 
     /// The model behind a `try` with a `finally` block, from the model behind its body and handlers
     /// and the one behind the block, which began with a conservative join. Of the locals that the
-    /// block writes or captures is known what the block leaves; of each other what the body leaves,
-    /// and what the block adds to it. The point is reached where both are. Of different scopes it
-    /// pairs the locals by their places, as far as both go.
+    /// block writes or captures the types are those that the block leaves; of each other those that
+    /// the body leaves, and what the block adds to them. A local has a value where it has one behind
+    /// either. The point is reached where both are. Of different scopes it pairs the locals by their
+    /// places, as far as both go.
     pub fn restrict(
         alloc: Global,
         rows: &Rows,

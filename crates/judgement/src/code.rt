@@ -7,7 +7,7 @@ pub enum DiagnosticCode {
     AmbiguousExport,
     /// The right side of an operator hasn't the type that the left side's operator takes.
     ArgumentType,
-    /// An escape of a string stands for no character.
+    /// An escape of a string hasn't the digits that it needs, or is beyond the last code point.
     BadEscape,
     /// The condition of an `if` or a `while` is no bool.
     ConditionNotBool,

@@ -96,7 +96,7 @@ pub record AreUnits (s : State) (place : ℕ) (units : List Path) : Type 0 where
   pub read : AreReached (directive_edges 0 (aims_now s)) place places
   pub units_are : units ≡ map (path_at s) places
 
--- what others see of a file: nothing of a text is known so far to matter to it alone
+-- what others see of a file: all of its text, as long as no checker tells a file by its interface part
 abbrev pub interface_of : FileContents → List ℕ
 interface_of contents = read_as contents
 
