@@ -16,7 +16,7 @@ asks for its errors (analysis.getErrors). There is a table for each family of te
     read    seconds of a session that only adds the text
     check   seconds that asking for its errors adds to it: checking it, and writing the reply
     whole   seconds of the whole session
-    MB      the most memory that the program held; what this script itself holds, some 50, hides less
+    MB      the most memory that the program held
 
 The seconds are less those of an empty session, which are printed first. Under each table stands the slope of `check`
 and `whole`: the least-squares slope of the logarithm of the time over that of the size. 1 is time in proportion to the
@@ -30,13 +30,12 @@ import argparse
 import json
 import math
 import os
-import subprocess
 import sys
 import tempfile
-import threading
-import time
 from dataclasses import dataclass
 from typing import Callable, List, Optional, Tuple
+
+from measured import Run, measured
 
 # Where `rt run` builds the program.
 BINARY = os.path.join(os.path.dirname(os.path.abspath(__file__)), os.pardir, "crates", "dart_serve", "out", "dart_serve")
@@ -268,34 +267,12 @@ def added(text: str) -> bytes:
 ASKED = line({"id": "2", "method": "analysis.getErrors", "params": {"file": PATH}})
 
 
-@dataclass(frozen=True)
-class Run:
-    """How a session went."""
-
-    seconds: float
-    bytes_held: int
-    status: int
-    output: bytes
-
-
 def session(binary: str, lines: bytes, limit: float) -> Run:
     """Serves these lines, and kills the program where it takes longer than the limit."""
     with tempfile.TemporaryFile() as source, tempfile.TemporaryFile() as sink:
         source.write(lines)
         source.seek(0)
-        start = time.perf_counter()
-        child = subprocess.Popen([binary, "serve"], stdin=source, stdout=sink)
-        timer = threading.Timer(limit, child.kill)
-        timer.start()
-        try:
-            _, status, usage = os.wait4(child.pid, 0)
-        finally:
-            timer.cancel()
-        seconds = time.perf_counter() - start
-        child.returncode = os.waitstatus_to_exitcode(status)
-        sink.seek(0)
-        unit = 1 if sys.platform == "darwin" else 1024
-        return Run(seconds, usage.ru_maxrss * unit, child.returncode, sink.read())
+        return measured([binary, "serve"], sink, source, limit)
 
 
 def best(binary: str, lines: bytes, runs: int, limit: float) -> Run:

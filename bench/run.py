@@ -14,41 +14,24 @@ Each figure is the fastest of some runs. Nothing fails on time. The status is 1 
 """
 
 import os
-import subprocess
 import sys
 import tempfile
-import time
-from typing import Callable, List, NamedTuple, Tuple
+from typing import Callable, List, Tuple
 
 from check import body, locals_in_a_block, loop_of_writes, mixed, shared_words, slope, with_program
+from measured import Run, measured
 
 
-class Ended(NamedTuple):
-    """How a run ended."""
-
-    seconds: float
-    megabytes: float
-    status: int
-    output: bytes
-
-
-def run_once(binary: str, text: str, steps: int) -> Ended:
+def run_once(binary: str, text: str, steps: int) -> Run:
     """Runs a text for at most so many steps."""
     with tempfile.TemporaryDirectory() as folder, tempfile.TemporaryFile() as sink:
         path = os.path.join(os.path.realpath(folder), "main.dart")
         with open(path, "w", encoding="utf-8") as file:
             file.write(text)
-        start = time.perf_counter()
-        child = subprocess.Popen([binary, "run", path, "--steps", str(steps)], stdout=sink)
-        _, status, usage = os.wait4(child.pid, 0)
-        seconds = time.perf_counter() - start
-        child.returncode = os.waitstatus_to_exitcode(status)
-        sink.seek(0)
-        unit = 1 if sys.platform == "darwin" else 1024
-        return Ended(seconds, usage.ru_maxrss * unit / 1e6, child.returncode, sink.read())
+        return measured([binary, "run", path, "--steps", str(steps)], sink)
 
 
-def best(binary: str, text: str, steps: int, runs: int) -> Ended:
+def best(binary: str, text: str, steps: int, runs: int) -> Run:
     """The fastest of some runs."""
     return min((run_once(binary, text, steps) for _ in range(runs)), key=lambda ended: ended.seconds)
 
@@ -94,7 +77,7 @@ def making(binary: str, runs: int) -> bool:
             ended = best(binary, text, 0, runs)
             if (ended.status, ended.output) == (5, SPENT):
                 points.append((size, ended.seconds))
-                print(f"{size:>12} {len(text):>10} {ended.seconds:>9.3f} {ended.megabytes:>7.0f}", flush=True)
+                print(f"{size:>12} {len(text):>10} {ended.seconds:>9.3f} {ended.bytes_held / 1e6:>7.0f}", flush=True)
             else:
                 right = False
                 print(f"{size:>12} {len(text):>10} WRONG: status {ended.status}, {ended.output[:80]!r}", flush=True)

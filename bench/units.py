@@ -20,14 +20,13 @@ with status 0 or finds another number of faults than the text has, and else 0.
 """
 
 import os
-import subprocess
 import sys
 import tempfile
-import time
 from dataclasses import dataclass
 from typing import Callable, List, Tuple
 
 from check import ORDINARY, Sizes, numbered, shared_words, slope, with_program
+from measured import Run, measured
 
 # Where `rt run` builds the program.
 BINARY = os.path.join(os.path.dirname(os.path.abspath(__file__)), os.pardir, "crates", "unit_lines", "out", "unit_lines")
@@ -77,29 +76,12 @@ FAMILIES = (
 )
 
 
-@dataclass(frozen=True)
-class Run:
-    """How a run went."""
-
-    seconds: float
-    bytes_held: int
-    status: int
-    output: bytes
-
-
 def run_once(binary: str, lines: bytes) -> Run:
     """The program over these lines."""
     with tempfile.TemporaryFile() as source, tempfile.TemporaryFile() as sink:
         source.write(lines)
         source.seek(0)
-        start = time.perf_counter()
-        child = subprocess.Popen([binary], stdin=source, stdout=sink)
-        _, status, usage = os.wait4(child.pid, 0)
-        seconds = time.perf_counter() - start
-        child.returncode = os.waitstatus_to_exitcode(status)
-        sink.seek(0)
-        unit = 1 if sys.platform == "darwin" else 1024
-        return Run(seconds, usage.ru_maxrss * unit, child.returncode, sink.read())
+        return measured([binary], sink, source)
 
 
 def best(binary: str, lines: bytes, runs: int) -> Run:
