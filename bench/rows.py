@@ -15,8 +15,8 @@ family, and a line in it for each size:
 
 The times are less those of a program that does nothing. Under each table stand the slopes, as bench/check.py has them: 1 is
 time in proportion to the size, 0 is time that doesn't depend on it. A union copies a pointer for each library and puts those
-that only the second rows have between those of the first; a look-up is two binary searches; and a join goes through all
-locals, and shares what is known of those in which the models don't differ.
+that only the second rows have between those of the first; a look-up is a binary search and a look at a place; and a join
+goes through all locals, and shares what is known of those in which the models don't differ.
 
 Nothing fails on time. The status is 1 where the program isn't built or an answer is wrong, 2 where the words are wrong, and
 else 0.

@@ -1,5 +1,5 @@
 -- Declared classes that are found by id, and their rows.
-use Rattle.std.proofs.Common.{◌≡◌, ℕ, ◌<◌, Bool, true, false, List, length, map, get_or, Contains, Option, Some, None, refl, sym, ap, ◌∙◌, subst, arith}
+use Rattle.std.proofs.Common.{◌≡◌, ℕ, ◌<◌, Bool, true, false, List, length, map, get_or, Contains, Option, Some, None, refl, sym, ap, ◌∙◌, subst}
 use Rattle.std.specs.Prelude.{AllPairs, find}
 use Rattle.std.specs.List.{AllWithin}
 use Rattle.std.specs.Option.{option_map, option_or}

@@ -5,3 +5,4 @@ pub mod Falls
 pub mod Pairs
 pub mod Ways
 pub mod Turning
+pub mod Refused

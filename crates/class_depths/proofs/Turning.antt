@@ -1,12 +1,12 @@
 -- What is gone through of direct supertypes, and where the way leads from there.
 use Rattle.std.proofs.Common.{◌≡◌, ℕ, suc, ◌+◌, ◌<◌, ◌≤◌, max, true, List, [], ◌∷◌, length, drop, get_or, Contains, Option, Some, None, refl, sym, ap, ◌∙◌, subst, arith, drop-cons, add-one}
 use Rattle.std.specs.Prelude.{AllPairs}
-use Rattle.std.proofs.lemmas.List.{drop_all, get_or_default}
+use Rattle.std.proofs.lemmas.List.{drop_all}
 use Rattle.dart_types.specs.Ty.{Ty}
-use Rattle.dart_types.specs.Tables.{Table, head_depth}
+use Rattle.dart_types.specs.Tables.{Table}
 use Rattle.dart_types.specs.WellFormed.{class_before}
 use Rattle.class_depths.specs.Marked.{IsDepthAt, IsDepthOf, IsDepthOver, over_none, over_below, over_declared, class_at, head_in, mark_at}
-use Rattle.class_depths.specs.Climbing.{IsPartly, LeadsTo, id_at}
+use Rattle.class_depths.specs.Climbing.{IsPartly, LeadsTo}
 use Rattle.class_depths.specs.declared.classes.DeclaredClass.{DeclaredClass}
 use Rattle.class_depths.specs.declared.marks.Mark.{Mark}
 use Rattle.class_depths.specs.declared.marks.Step.{Step}

@@ -1,14 +1,14 @@
 -- Steps of the way up keep what holds on it, and leave less of it.
-use Rattle.std.proofs.Common.{◌≡◌, ℕ, ◌+◌, ◌<◌, ◌≤◌, max, cond, inl, inr, List, [], ◌∷◌, ◌++◌, length, replicate, set, get_or, Contains, refl, sym, ap, ◌∙◌, subst, arith}
-use Rattle.std.specs.Prelude.{AllPairs, zero, suc}
+use Rattle.std.proofs.Common.{◌≡◌, ℕ, ◌+◌, ◌<◌, ◌≤◌, max, cond, inl, inr, List, [], ◌∷◌, ◌++◌, length, replicate, set, Contains, refl, sym, ap, ◌∙◌, subst, arith}
+use Rattle.std.specs.Prelude.{zero, suc}
 use Rattle.std.proofs.lemmas.Bool.{cases_eq}
 use Rattle.std.proofs.lemmas.List.{get_or-set_same, get_or-set_other, length-set, length-replicate, length_push}
 use Rattle.std.proofs.lemmas.List.Elements.{Contains-append_left, Contains-push, Contains-push_cases}
 use Rattle.std.proofs.lemmas.List.Sums.{sum_by-set}
 use Rattle.dart_types.specs.Tables.{Table}
 use Rattle.class_depths.specs.Over.{IsDirectlyOver, LiesOver, direct, further}
-use Rattle.class_depths.specs.Marked.{AreMarked, IsDepthAt, IsDepthOver, class_at, mark_at}
-use Rattle.class_depths.specs.Climbing.{Begins, Climbing, HasDepth, IsPartly, LeadsTo, Steps, effort, first_step, id_at, is_unseen, unseen}
+use Rattle.class_depths.specs.Marked.{IsDepthAt, mark_at}
+use Rattle.class_depths.specs.Climbing.{Begins, Climbing, HasDepth, IsPartly, LeadsTo, Steps, first_step, id_at, is_unseen, unseen}
 use Rattle.class_depths.specs.declared.classes.DeclaredClass.{DeclaredClass}
 use Rattle.class_depths.specs.declared.marks.Mark.{Mark}
 use Rattle.class_depths.specs.declared.marks.Mark.TheVariants.{Unseen, Open, Settled}

@@ -22,3 +22,8 @@ over below vars rows = beside below (record { classes = rows; vars = vars })
 pub record AreSettled (below : Table) (vars : List VarRow) (declared : List DeclaredClass) (rows : List ClassRow) : Type 0 where
   pub same : map declared_of rows ≡ declared
   pub depths : All (λ row. row.depth ≡ depth_above (over below vars rows) row.supers) rows
+
+-- the rows are those of the declared classes with the depths that fit, and no others are
+pub record AreRowsOf (below : Table) (vars : List VarRow) (declared : List DeclaredClass) (rows : List ClassRow) : Type 0 where
+  pub settled : AreSettled below vars declared rows
+  pub alone : (others : List ClassRow) → AreSettled below vars declared others → others ≡ rows

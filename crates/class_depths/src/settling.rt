@@ -6,7 +6,7 @@ ghost use Rattle.dart_types.specs.declared.class_rows.ClassRow.{ClassRow};
 ghost use Rattle.dart_types.specs.declared.class_rows.VarRow.{VarRow};
 ghost use Rattle.dart_types.specs.declared.ids.ClassId.{ClassId};
 ghost use Rattle.class_depths.specs.Over.{LiesOver};
-ghost use Rattle.class_depths.specs.Settled.{AreSettled, row_of};
+ghost use Rattle.class_depths.specs.Settled.{AreRowsOf, AreSettled, row_of};
 ghost use Rattle.class_depths.specs.Marked.{IsDepthAt, mark_at};
 ghost use Rattle.class_depths.specs.declared.marks.Mark.TheVariants.{Settled};
 ghost use Rattle.class_depths.specs.Climbing.{Begins, Climbing, HasDepth, IsRefusal};
@@ -20,16 +20,16 @@ use dart_types::{ClassRow, Rows};
 use std::alloc::{AllocError, Global};
 
 /// The rows of declared classes over rows below, each with its depth: the longest way up over one of its
-/// direct supertypes, as well-formed rows want it. The classes stand in the order of their ids, and the
-/// rows in the same. `Cycle` comes exactly where no depths fit, and then its class is a supertype of
-/// itself.
+/// direct supertypes, as well-formed rows want it; no other depths fit. The classes stand in the order of
+/// their ids, and the rows in the same. `Cycle` comes exactly where no depths fit, and then its class is a
+/// supertype of itself.
 pub fn settle(
     alloc: Global,
     below: &Rows,
     declared: &[DeclaredClass],
 ) -> Result<Vec<ClassRow>, Unsettled>
     requires { AllPairs (λ a b. class_before a.id b.id ≡ true) declared.now }
-    ensures ok { (vars : List VarRow) → IfOk result (λ rows. AreSettled below.now.table vars declared.now rows.items) }
+    ensures ok { (vars : List VarRow) → IfOk result (λ rows. AreRowsOf below.now.table vars declared.now rows.items) }
     ensures over_itself { (class : ClassId) → result ≡ Err (Cycle class) → LiesOver declared.now class class }
     ensures none_fit { (class : ClassId) → result ≡ Err (Cycle class) →
         (vars : List VarRow) (rows : List ClassRow) → AreSettled below.now.table vars declared.now rows → ⊥ }
@@ -44,7 +44,7 @@ fn rows_of(
     declared: &[DeclaredClass],
 ) -> Result<Vec<ClassRow>, Unsettled>
     requires { AllPairs (λ a b. class_before a.id b.id ≡ true) declared.now }
-    ensures ok { (vars : List VarRow) → IfOk result (λ rows. AreSettled below.now.table vars declared.now rows.items) }
+    ensures ok { (vars : List VarRow) → IfOk result (λ rows. AreRowsOf below.now.table vars declared.now rows.items) }
     ensures err { IfErr result (IsRefusal declared.now) }
 {
     let mut marks = vec![in alloc; Mark::Unseen; declared.len()]?;

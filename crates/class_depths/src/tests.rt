@@ -1,6 +1,6 @@
 //! Classes in all orders over rows below, and those that lie over themselves.
 
-use crate::{DeclaredClass, Unsettled, are_in_order, settle};
+use crate::{DeclaredClass, Unextended, Unsettled, are_in_order, extend_declared, settle};
 use dart_types::{CORE, ClassId, ClassRow, DartType, LibId, Rows, TypeList, VarList};
 use std::alloc::{AllocError, Global};
 use std::test::Fail;
@@ -69,16 +69,39 @@ fn settled(
     settle(alloc, below, classes)
 }
 
+// The rows below with classes of these direct supertypes over them, numbered from the first number on, or
+// why there are none. Classes in another order get none.
+fn extended(
+    alloc: Global,
+    below: &Rows,
+    first: u32,
+    supers: &[&[u32]],
+) -> Result<Result<Rows, Unextended>, Fail> {
+    let classes = classes(alloc, first, supers)?;
+    if !are_in_order(&classes) {
+        return Ok(Err(Unextended::Memory));
+    }
+    match extend_declared(alloc, below, &classes, Vec::new(alloc)) {
+        Ok(extended) => Ok(Ok(extended.rows)),
+        Err(refused) => Ok(Err(refused)),
+    }
+}
+
 // The rows below, none where they aren't well formed.
 fn core(alloc: Global) -> Result<Rows, Fail> {
     let none = Rows::none(alloc);
-    let supers: [&[u32]; 3] = [&[], &[O], &[P]];
-    let rows = settled(alloc, &none, &classes(alloc, O, &supers)?)?;
-    let vars = Vec::new(alloc);
-    if !none.takes(&rows, &vars) {
-        return Ok(none);
+    match extended(alloc, &none, O, &[&[], &[O], &[P]])? {
+        Ok(rows) => Ok(rows),
+        Err(_) => Ok(none),
     }
-    Ok(Rows::extend(alloc, &none, rows, vars)?.rows)
+}
+
+// The depth of a class of these rows, None where there are no rows or none of the class.
+fn depth_in(rows: &Result<Rows, Unextended>, number: u32) -> Option<u64> {
+    match rows {
+        Ok(rows) => rows.class(id(number)).map(|row| row.depth),
+        Err(_) => None,
+    }
 }
 
 // The depths of classes with these direct supertypes, or the class that is a supertype of itself.
@@ -139,6 +162,23 @@ fn a_class_over_itself_is_named(rt: HostRuntime) -> Result<(), Fail> {
     for (supers, named) in &cases {
         assert_eq!(rt; answer(alloc, &below, supers)?.as_str(), *named);
     }
+    Ok(())
+}
+
+#[test]
+fn rows_are_extended(rt: HostRuntime) -> Result<(), Fail> {
+    let alloc = rt.alloc();
+    let below = core(alloc)?;
+    let rows = extended(alloc, &below, 0, &[&[1], &[P], &[Q, O]])?;
+    assert_eq!(rt; depth_in(&rows, Q), Some(2));
+    assert_eq!(rt; depth_in(&rows, 0), Some(3));
+    assert_eq!(rt; depth_in(&rows, 2), Some(3));
+    let cycle = extended(alloc, &below, 0, &[&[O], &[2], &[1]])?;
+    let class = id(1);
+    assert!(rt; matches!(&cycle, Err(Unextended::Cycle { class: named }) if *named == class));
+    // A class that isn't `Object` and has no direct supertype.
+    let unformed = extended(alloc, &below, 0, &[&[]])?;
+    assert!(rt; matches!(&unformed, Err(Unextended::Unformed)));
     Ok(())
 }
 

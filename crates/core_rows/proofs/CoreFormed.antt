@@ -1,20 +1,24 @@
 -- The rows of `dart:core` are well formed over no rows.
-use Rattle.std.proofs.Common.{◌≡◌, ℕ, Bool, true, false, List, [], ◌∷◌, nat_eq, refl, ap, arith}
+use Rattle.std.proofs.Common.{◌≡◌, ℕ, Bool, true, false, List, [], ◌∷◌, nat_eq, refl, sym, ap, subst, arith}
 use Rattle.std.specs.Prelude.{◌≢◌, ◌&&◌, All, AllPairs}
 use Rattle.std.proofs.lemmas.Bool.Decides.{nat_tests}
-use Rattle.std.proofs.lemmas.List.Elements.{All-nil, All-cons, All-from_recursion}
+use Rattle.std.proofs.lemmas.List.Elements.{All-nil, All-cons, All-from_recursion, All-weaker}
 use Rattle.std.proofs.lemmas.List.Kept.{AllPairs-cons}
 use Rattle.dart_types.specs.Heads.{object}
 use Rattle.dart_types.specs.Tables.{Table, class_of, depth_above}
 use Rattle.dart_types.specs.Ty.{Ty, interface, no_more}
-use Rattle.dart_types.specs.Unions.{beside, IsFormedOver}
-use Rattle.dart_types.specs.WellFormed.{class_before, var_before, HasArguments, IsFormedClass, IsFormedVar, IsOver, IsSupertype}
+use Rattle.dart_types.specs.Unions.{beside, IsFormedOver, IsUnion}
+use Rattle.dart_types.specs.WellFormed.{class_before, var_before, HasArguments, IsFormedClass, IsFormedVar, IsOver, IsSupertype, IsWellFormed}
 use Rattle.dart_types.specs.declared.class_rows.ClassRow.{ClassRow}
 use Rattle.dart_types.specs.declared.class_rows.VarRow.{VarRow}
 use Rattle.dart_types.specs.declared.ids.ClassId.{ClassId}
 use Rattle.dart_types.specs.declared.ids.VarId.{VarId}
 use Rattle.dart_types.specs.declared.ids.TheConstants.{CORE, OBJECT, NULL, BOOL, FUNCTION, STACK_TRACE, INT, STRING, ITERATOR, ITERABLE, LIST, MAP, ERROR, TYPE_ERROR, STACK_OVERFLOW_ERROR, ARGUMENT_ERROR, RANGE_ERROR, STATE_ERROR, EXCEPTION, INTEGER_DIVISION_BY_ZERO_EXCEPTION, NO_LIBRARY}
+use Rattle.class_depths.specs.Settled.{AreRowsOf, AreSettled}
+use Rattle.class_depths.specs.declared.classes.DeclaredClass.{DeclaredClass}
+use Rattle.core_rows.specs.CoreDeclared.{declared_classes}
 use Rattle.core_rows.specs.CoreTable.{core_var, plain_row, generic_row, map_row, division_row, core_classes, free_row, core_vars, core_table}
+use Rattle.core_rows.proofs.SameRows.{union_of_none}
 
 -- rows whose ids rise, as a test
 module _ {X : Type 0} (before : X → X → Bool) where
@@ -136,3 +140,41 @@ core_formed = record {
   classes = classes_formed;
   vars = vars_formed;
 }
+
+-- the rows have the depths that fit the declared classes
+pub core_settled : AreSettled none core_vars declared_classes core_classes
+core_settled = record {
+  same = refl;
+  depths = All-weaker (IsFormedClass all) (λ (row : ClassRow). row.depth ≡ depth_above all row.supers) (λ row h. h.depth) core_classes classes_formed;
+}
+
+-- the declared classes stand in order
+pub declared_in_order : AllPairs (λ (a b : DeclaredClass). class_before a.id b.id ≡ true) declared_classes
+declared_in_order = pairs_from (λ (a b : DeclaredClass). class_before a.id b.id) declared_classes refl
+
+-- what comes of the declared classes and the type variables over no rows
+module _ (below : Table) (vars : List VarRow) (declared : List DeclaredClass) (nothing : below ≡ none) (params : vars ≡ core_vars) (classes : declared ≡ declared_classes) where
+  abbrev own : List ClassRow → Table
+  own rows = record { classes = rows; vars = vars }
+
+  -- the depths of the table fit
+  pub depths_fit : AreSettled below vars declared core_classes
+  depths_fit =
+      subst (λ (t : Table). AreSettled t vars declared core_classes) (sym nothing)
+      (subst (λ (vs : List VarRow). AreSettled none vs declared core_classes) (sym params)
+      (subst (λ (ds : List DeclaredClass). AreSettled none core_vars ds core_classes) (sym classes) core_settled))
+
+  module _ (rows : List ClassRow) (are : AreRowsOf below vars declared rows) where
+    -- so the rows are those of the table
+    own_is : core_table ≡ own rows
+    own_is = let e : core_classes ≡ rows = are.alone core_classes depths_fit in let p : core_vars ≡ vars = sym params in λ k. record { classes = e k; vars = p k }
+
+    -- which are well formed
+    pub formed_over : IsFormedOver below (own rows)
+    formed_over = subst (λ (t : Table). IsFormedOver t (own rows)) (sym nothing) (subst (λ (t : Table). IsFormedOver none t) own_is core_formed)
+
+    -- and rows that have them and none else are the table
+    pub all_is : (u : Table) → IsWellFormed u → IsUnion below (own rows) u → u ≡ core_table
+    all_is u formed_u union =
+        union_of_none core_table u core_formed formed_u
+        (subst (λ (t : Table). IsUnion none t u) (sym own_is) (subst (λ (t : Table). IsUnion t (own rows) u) nothing union))

@@ -1,2 +1,3 @@
 -- The rows of `dart:core`.
 pub mod CoreTable
+pub mod CoreDeclared

@@ -139,6 +139,18 @@ module _ {X : Type 0} (lib index : X → ℕ) (xs : List X) (order : AreIdsInOrd
         | inr ge ↦ let e : k ≡ j = omega arith in subst (λ (m : ℕ). stands_before (get_or xs m d) ≡ true) e h
       ]
 
+  -- the element with the id is found, wherever it stands
+  pub found_anywhere : (k : ℕ) (d : X) → k < length xs → is_it (get_or xs k d) ≡ true → find is_it xs ≡ Some (get_or xs k d)
+  found_anywhere k d within same = find_at is_it xs k d within earlier same
+    where
+      earlier : AllWithin (λ x. is_it x ≡ false) xs 0 k
+      earlier j e from to = not_true _ (λ also.
+          let p = same_both (lib (get_or xs j e)) (index (get_or xs j e)) l i also in
+          let here : is_it (get_or xs k e) ≡ true = rw (get_or_default xs k e d within) same in
+          let q = same_both (lib (get_or xs k e)) (index (get_or xs k e)) l i here in
+          before_other (lib (get_or xs j e)) (index (get_or xs j e)) (lib (get_or xs k e)) (index (get_or xs k e)) (order j k e to within)
+          (same_from (lib (get_or xs j e)) (index (get_or xs j e)) (lib (get_or xs k e)) (index (get_or xs k e)) (p.0 ∙ sym q.0) (p.1 ∙ sym q.1)))
+
   module _ (at : ℕ) (parted : IsPartitionPoint (λ x. stands_before x ≡ true) (λ x. stands_before x ≡ false) xs at) where
     -- what stands before the place has another id
     other_before : AllWithin (λ x. is_it x ≡ false) xs 0 at

@@ -31,7 +31,8 @@ pub struct ClassRow {
     pub params: VarList,
     /// Its direct supertypes: the superclass, the mixins and the interfaces.
     pub supers: TypeList,
-    /// The longest way from it up to `Object`, in steps from a class to a direct supertype.
+    /// The longest way from it up to `Object`, in steps from a class to a direct supertype. The crate
+    /// `class_depths` finds it: who declares the class doesn't count it.
     pub depth: u64,
 }
 

@@ -33,8 +33,26 @@ pub(crate) fn entries_of(alloc: Global, rows: Vec<ClassRow>) -> Result<Vec<Class
     Ok(entries)
 }
 
-/// The entry of a class, if it has one.
+/// The entry of a class, if it has one. It stands at the place that the index of the class names where
+/// each class of the library has an entry, else it is looked for by a binary search.
 pub(crate) fn find_entry(entries: &[ClassEntry], class: ClassId) -> Option<&ClassEntry>
+    requires { AllPairs (λ a b. class_before a.row.id b.row.id ≡ true) entries.now }
+    ensures { option_copied result ≡ find (λ entry. same_class entry.row.id class) entries.now }
+{
+    let place = class.index as usize;
+    if place >= entries.len() {
+        return search_entry(entries, class);
+    }
+    let entry = &entries[place];
+    if entry.row.id == class {
+        Some(entry)
+    } else {
+        search_entry(entries, class)
+    }
+}
+
+// The entry of a class, if it has one, by a binary search.
+fn search_entry(entries: &[ClassEntry], class: ClassId) -> Option<&ClassEntry>
     requires { AllPairs (λ a b. class_before a.row.id b.row.id ≡ true) entries.now }
     ensures { option_copied result ≡ find (λ entry. same_class entry.row.id class) entries.now }
 {
@@ -50,8 +68,26 @@ pub(crate) fn find_entry(entries: &[ClassEntry], class: ClassId) -> Option<&Clas
     }
 }
 
-/// The bound of a type variable, if it has one.
+/// The bound of a type variable, if it has one. Its row stands at the place that the index of the variable
+/// names where each variable of the library has a row, else it is looked for by a binary search.
 pub(crate) fn find_bound(rows: &[VarRow], var: VarId) -> Option<&DartType>
+    requires { AllPairs (λ a b. var_before a.var b.var ≡ true) rows.now }
+    ensures { option_copied result ≡ option_map (λ row. row.bound) (find (λ row. same_var row.var var) rows.now) }
+{
+    let place = var.index as usize;
+    if place >= rows.len() {
+        return search_bound(rows, var);
+    }
+    let row = &rows[place];
+    if row.var == var {
+        Some(&row.bound)
+    } else {
+        search_bound(rows, var)
+    }
+}
+
+// The bound of a type variable, if it has one, by a binary search.
+fn search_bound(rows: &[VarRow], var: VarId) -> Option<&DartType>
     requires { AllPairs (λ a b. var_before a.var b.var ≡ true) rows.now }
     ensures { option_copied result ≡ option_map (λ row. row.bound) (find (λ row. same_var row.var var) rows.now) }
 {

@@ -27,9 +27,10 @@ use std::alloc::{AllocError, Global};
 use std::marker::Model;
 
 /// Well-formed rows of classes and type variables, in the order of their ids. Those of each library are
-/// shared, so a copy or a union costs two pointers a library. One is found by binary searches, of the
-/// library and in it. Beside its row a class keeps its superinterfaces, so that they aren't looked for
-/// along the ways that lead up to them.
+/// shared, so a copy or a union costs two pointers a library. One is found by a binary search of its
+/// library and then at the place that its index names there; only where other rows of the library are left
+/// out, so that it doesn't stand there, by a binary search in the library too. Beside its row a class keeps
+/// its superinterfaces, so that they aren't looked for along the ways that lead up to them.
 ///
 /// Contracts see the rows together with the proof that they are well formed.
 #[derive(Drop)]

@@ -1,5 +1,4 @@
 use Rattle.std.proofs.Common.{◌≡◌, ℕ, ◌<◌, ◌≤◌, List, length, get_or, Contains, refl, sym, ◌+◌, subst, arith}
-use Rattle.std.proofs.lemmas.List.{get_or_read}
 use Rattle.dart_types.specs.Ty.{Ty}
 use Rattle.class_depths.specs.Marked.{IsAbove, class_at}
 use Rattle.class_depths.specs.Climbing.{IsPartly}

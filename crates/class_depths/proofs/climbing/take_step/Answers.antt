@@ -1,8 +1,8 @@
-use Rattle.std.proofs.Common.{rules, ◌≡◌, ℕ, ◌∷◌, ◌++◌, ◌<◌, [], List, length, set, get_or, sym, ap, subst, arith}
+use Rattle.std.proofs.Common.{rules, ◌≡◌, ◌∷◌, ◌++◌, [], List, set, sym, subst, arith}
 use Rattle.std.proofs.lemmas.List.{get_or_default}
-use Rattle.class_depths.specs.Marked.{AreMarked, no_class, class_at}
+use Rattle.class_depths.specs.Marked.{AreMarked, no_class}
 use Rattle.class_depths.specs.Over.{LiesOver}
-use Rattle.class_depths.specs.Climbing.{LeadsTo, Steps, Turns, first_step, id_at}
+use Rattle.class_depths.specs.Climbing.{LeadsTo, Steps, Turns}
 use Rattle.class_depths.specs.declared.classes.DeclaredClass.{DeclaredClass}
 use Rattle.class_depths.specs.declared.marks.Mark.{Mark}
 use Rattle.class_depths.specs.declared.marks.Mark.TheVariants.{Open, Unseen}

@@ -1,8 +1,7 @@
-use Rattle.std.proofs.Common.{rules, ◌≡◌, ℕ, ◌∷◌, ◌++◌, ◌<◌, [], List, length, sym, ap, ◌∙◌, subst, arith, refl}
+use Rattle.std.proofs.Common.{rules, ◌≡◌, ◌∷◌, ◌++◌, ◌<◌, [], List, length, sym, ap, ◌∙◌, subst, arith, refl}
 use Rattle.class_depths.specs.Marked.{mark_at}
-use Rattle.class_depths.specs.Climbing.{Begins, Climbing, HasDepth, Steps, effort}
+use Rattle.class_depths.specs.Climbing.{Begins, Climbing, HasDepth, effort}
 use Rattle.class_depths.specs.declared.marks.Mark.{Mark}
-use Rattle.class_depths.specs.declared.marks.Mark.TheVariants.{Settled}
 use Rattle.class_depths.specs.declared.marks.Step.{Step}
 use Rattle.class_depths.proofs.Ways.{begun, ended}
 use Rattle.class_depths.proofs.settling.depth_at.Goals as goal

@@ -1,7 +1,4 @@
-use Rattle.std.proofs.Common.{rules, ◌≡◌, ℕ, ◌<◌, ◌≤◌, [], List, length, replicate, refl, sym, subst, arith}
-use Rattle.std.proofs.lemmas.List.Elements.{All-nil}
-use Rattle.dart_types.specs.declared.class_rows.ClassRow.{ClassRow}
-use Rattle.class_depths.specs.Marked.{IsDepthOver}
+use Rattle.std.proofs.Common.{rules, ◌≡◌, [], List, length, replicate, refl, sym, subst, arith}
 use Rattle.class_depths.specs.Climbing.{Climbing}
 use Rattle.class_depths.specs.declared.marks.Mark.{Mark}
 use Rattle.class_depths.specs.declared.marks.Mark.TheVariants.{Unseen}

@@ -1,5 +1,5 @@
-use Rattle.std.proofs.Common.{◌≡◌, List, subst}
-use Rattle.std.specs.Prelude.{IfErr, Result}
+use Rattle.std.proofs.Common.{subst}
+use Rattle.std.specs.Prelude.{IfErr}
 use Rattle.class_depths.specs.Climbing.{IsRefusal}
 use Rattle.class_depths.proofs.Falls.{never_over_itself}
 use Rattle.class_depths.proofs.settling.settle.Goals as goal

@@ -1,28 +1,25 @@
-use Rattle.std.proofs.Common.{◌≡◌, List, [], subst, sym, ◌∙◌}
-use Rattle.dart_types.specs.Tables.{Table}
-use Rattle.dart_types.specs.Unions.{IsFormedOver, IsUnion}
-use Rattle.dart_types.specs.declared.class_rows.ClassRow.{ClassRow}
-use Rattle.dart_types.specs.declared.class_rows.VarRow.{VarRow}
-use Rattle.core_rows.specs.CoreTable.{core_classes, core_vars, core_table}
-use Rattle.core_rows.proofs.CoreFormed.{core_formed}
-use Rattle.core_rows.proofs.SameRows.{union_of_none}
+use Rattle.std.proofs.Common.{◌≡◌, true, List, Err, ap, sym, ◌∙◌, subst}
+use Rattle.std.specs.Prelude.{AllPairs}
+use Rattle.dart_types.specs.WellFormed.{class_before}
+use Rattle.class_depths.specs.declared.classes.DeclaredClass.{DeclaredClass}
+use Rattle.class_depths.specs.declared.unextended.Unextended.{Unextended}
+use Rattle.core_rows.specs.CoreTable.{core_classes}
+use Rattle.core_rows.proofs.CoreFormed.{declared_in_order, depths_fit, formed_over, all_is}
 use Rattle.core_rows.proofs.core_classes.core_rows.Goals as goal
 
--- own rows that are those of `dart:core`, in two lists
-own_is : (classes : List ClassRow) (vars : List VarRow) → classes ≡ core_classes → vars ≡ core_vars → core_table ≡ record { classes = classes; vars = vars }
-own_is classes vars c v = λ k. record { classes = sym c k; vars = sym v k }
+pub extend_declared-requires : goal.extend_declared-requires
+extend_declared-requires c = subst (λ (ds : List DeclaredClass). AllPairs (λ (a b : DeclaredClass). class_before a.id b.id ≡ true) ds) (sym (c.deref.ensures.value ∙ c.in_ok-classes.ensures)) declared_in_order
 
-formed_over : (below own : Table) → below ≡ record { classes = []; vars = [] } → core_table ≡ own → IsFormedOver below own
-formed_over below own none is = subst (λ (t : Table). IsFormedOver t own) (sym none) (subst (IsFormedOver (record { classes = []; vars = [] })) is core_formed)
+pub returns-in-Ok : goal.returns-in-Ok
+returns-in-Ok c =
+    let ok = c.in-Ok.ensures.ok in
+    let rows = c.in-Ok.extended.rows in
+    all_is c.none-none.result.table c.in_ok-vars.vars.items c.deref.result.now c.none-none.ensures c.in_ok-vars.ensures (c.deref.ensures.value ∙ c.in_ok-classes.ensures) ok.0 ok.1 rows.table rows.formed ok.3
 
-pub extend-requires : goal.extend-requires
-extend-requires c =
-    formed_over c.none-none.result.table (record { classes = c.in_ok-classes.classes.items; vars = c.in_ok-vars.vars.items }) c.none-none.ensures
-    (own_is c.in_ok-classes.classes.items c.in_ok-vars.vars.items c.in_ok-classes.ensures c.in_ok-vars.ensures)
+pub unreachable-requires : goal.unreachable-requires
+unreachable-requires c = c.in-Err-Cycle.ensures.none_fit c.in-Err-Cycle.field-0-0 (ap (λ (u : Unextended). Err u) c.in-Err-Cycle.field-0-is) core_classes (depths_fit c.none-none.result.table c.in_ok-vars.vars.items c.deref.result.now c.none-none.ensures c.in_ok-vars.ensures (c.deref.ensures.value ∙ c.in_ok-classes.ensures))
 
-pub returns : goal.returns
-returns c =
-    let own = own_is c.in_ok-classes.classes.items c.in_ok-vars.vars.items c.in_ok-classes.ensures c.in_ok-vars.ensures in
-    let rows = c.in_ok-extended.extended.rows in
-    let union = subst (λ (t : Table). IsUnion t (record { classes = c.in_ok-classes.classes.items; vars = c.in_ok-vars.vars.items }) rows.table) c.none-none.ensures c.in_ok-extended.ensures.ok in
-    union_of_none core_table rows.table core_formed rows.formed (subst (λ (t : Table). IsUnion (record { classes = []; vars = [] }) t rows.table) (sym own) union)
+pub unreachable-requires-in-Err-Unformed : goal.unreachable-requires-in-Err-Unformed
+unreachable-requires-in-Err-Unformed c =
+    let told = c.in-Err-Unformed.ensures.unformed (ap (λ (u : Unextended). Err u) c.in-Err-Unformed.field-0-is) in
+    told.2 (formed_over c.none-none.result.table c.in_ok-vars.vars.items c.deref.result.now c.none-none.ensures c.in_ok-vars.ensures (c.deref.ensures.value ∙ c.in_ok-classes.ensures) told.0 told.1)
