@@ -1,7 +1,8 @@
 -- A point has no faults just where no clause fails there.
-use Rattle.std.proofs.Common.{◌≡◌, ℕ, suc, Bool, true, false, nat_eq, List, [], ◌∷◌, if◌then◌else◌, length, not, refl, IsTrue, IsFalse, ◌↔◌, All, eq-eqb, eqb-true}
+use Rattle.std.proofs.Common.{◌≡◌, ℕ, Bool, true, false, nat_eq, List, [], if◌then◌else◌, length, not, refl, IsTrue, IsFalse, ◌↔◌, All, eq-eqb, eqb-true}
 use Rattle.std.specs.Prelude.{flat_map}
 use Rattle.dart_types.specs.Ty.{Ty}
+use Rattle.dart_types.specs.Same.{same_type}
 use Rattle.core_ir.specs.PointFacts.{PointFacts}
 use Rattle.core_ir.specs.Program.{Function, Program}
 use Rattle.core_ir.specs.Values.{declared_at}
@@ -12,7 +13,7 @@ use Rattle.core_check.specs.Known.{point_at, function_of, facts_at, known_of, is
 use Rattle.core_check.specs.Shapes.{WayShape, TermShape, shape}
 use Rattle.core_check.specs.Types.{type_from, known_on}
 use Rattle.core_check.specs.Accepted.{SlotImplies, Leads, IsFine, BeginsEmpty, IsEntry, IsFineAt}
-use Rattle.core_check.specs.Faults.{Fault, SlotPart, of_assigned, of_type, of_shared, unless, unless_below, slot_on, way_faults, reach_faults, next_faults, read_faults, stored_faults, asked_faults, shape_faults, entry_fact_faults, entry_faults, faults_at}
+use Rattle.core_check.specs.Faults.{Fault, SlotPart, of_assigned, of_type, of_shared, unless, slot_on, way_faults, reach_faults, next_faults, read_faults, stored_faults, asked_faults, shape_faults, entry_fact_faults, entry_faults, faults_at}
 use Rattle.core_check.proofs.NoFaults.{unless_none, below_none, implies_none, both_none, append_none, four_none, none_four, each_none, all_none, all_map, slots_none, none_slots}
 
 module _ (p : Program) (g : Function) (f : PointFacts) where
@@ -79,7 +80,11 @@ unless_not_none : (b : Bool) → IsFalse b ↔ (unless (not b) ≡ [])
 unless_not_none true = (λ h. absurd cc, λ h. absurd cc)
 unless_not_none false = (λ h. refl, λ h. refl)
 
-module _ (p : Program) (g : Function) where
+-- the test whether types are the same holds just of equal ones
+abbrev pub SameTypeLaw : Type 0
+SameTypeLaw = (s t : Ty) → IsTrue (same_type s t) ↔ (s ≡ t)
+
+module _ (law : SameTypeLaw) (g : Function) where
   -- the declared type of the slot of a fact, and the one that the fact tells
   abbrev declared_by : SlotFact → Ty
   declared_by fact = declared_at g fact.slot.0
@@ -88,38 +93,33 @@ module _ (p : Program) (g : Function) where
   held_by fact = held_type (declared_by fact) fact.known.held
 
   -- where a fact says what holds where the function begins, no part of it fails
-  begins_none : (part : SlotPart) (fact : SlotFact) → BeginsEmpty p g fact → entry_fact_faults p g part fact ≡ []
+  begins_none : (part : SlotPart) (fact : SlotFact) → BeginsEmpty g fact → entry_fact_faults g part fact ≡ []
   begins_none of_assigned fact b = (unless_not_none fact.known.assigned).0 b.unassigned
-  begins_none of_type fact b =
-      append_none (unless_below p.rows.table (held_by fact) (declared_by fact)) (unless_below p.rows.table (declared_by fact) (held_by fact))
-      ((below_none p.rows.table (held_by fact) (declared_by fact)).0 b.below) ((below_none p.rows.table (declared_by fact) (held_by fact)).0 b.above)
+  begins_none of_type fact b = (unless_none (same_type (held_by fact) (declared_by fact))).0 ((law (held_by fact) (declared_by fact)).1 b.declared)
   begins_none of_shared fact b = (unless_not_none (is_shared fact.known.held)).0 b.own
 
-  begins_from_none : (fact : SlotFact) → entry_fact_faults p g of_assigned fact ≡ [] → entry_fact_faults p g of_type fact ≡ [] → entry_fact_faults p g of_shared fact ≡ [] → BeginsEmpty p g fact
-  begins_from_none fact assigned typed shared =
-      let both = both_none (unless_below p.rows.table (held_by fact) (declared_by fact)) (unless_below p.rows.table (declared_by fact) (held_by fact)) typed in
-      record {
-        unassigned = (unless_not_none fact.known.assigned).1 assigned;
-        below = (below_none p.rows.table (held_by fact) (declared_by fact)).1 both.0;
-        above = (below_none p.rows.table (declared_by fact) (held_by fact)).1 both.1;
-        own = (unless_not_none (is_shared fact.known.held)).1 shared;
-      }
+  begins_from_none : (fact : SlotFact) → entry_fact_faults g of_assigned fact ≡ [] → entry_fact_faults g of_type fact ≡ [] → entry_fact_faults g of_shared fact ≡ [] → BeginsEmpty g fact
+  begins_from_none fact assigned typed shared = record {
+    unassigned = (unless_not_none fact.known.assigned).1 assigned;
+    declared = (law (held_by fact) (declared_by fact)).0 ((unless_none (same_type (held_by fact) (declared_by fact))).1 typed);
+    own = (unless_not_none (is_shared fact.known.held)).1 shared;
+  }
 
-  entry_none : (f : PointFacts) → IsEntry p g f → entry_faults p g f ≡ []
+  entry_none : (f : PointFacts) → IsEntry g f → entry_faults g f ≡ []
   entry_none f entry =
-      none_four (unless f.reachable) (flat_map (entry_fact_faults p g of_assigned) f.listed) (flat_map (entry_fact_faults p g of_type) f.listed) (flat_map (entry_fact_faults p g of_shared) f.listed)
+      none_four (unless f.reachable) (flat_map (entry_fact_faults g of_assigned) f.listed) (flat_map (entry_fact_faults g of_type) f.listed) (flat_map (entry_fact_faults g of_shared) f.listed)
       ((unless_none f.reachable).0 entry.reachable)
-      (all_none (entry_fact_faults p g of_assigned) f.listed (all_map f.listed (begins_none of_assigned) entry.begins))
-      (all_none (entry_fact_faults p g of_type) f.listed (all_map f.listed (begins_none of_type) entry.begins))
-      (all_none (entry_fact_faults p g of_shared) f.listed (all_map f.listed (begins_none of_shared) entry.begins))
+      (all_none (entry_fact_faults g of_assigned) f.listed (all_map f.listed (begins_none of_assigned) entry.begins))
+      (all_none (entry_fact_faults g of_type) f.listed (all_map f.listed (begins_none of_type) entry.begins))
+      (all_none (entry_fact_faults g of_shared) f.listed (all_map f.listed (begins_none of_shared) entry.begins))
 
-  entry_from_none : (f : PointFacts) → entry_faults p g f ≡ [] → IsEntry p g f
+  entry_from_none : (f : PointFacts) → entry_faults g f ≡ [] → IsEntry g f
   entry_from_none f h =
-      let none = four_none (unless f.reachable) (flat_map (entry_fact_faults p g of_assigned) f.listed) (flat_map (entry_fact_faults p g of_type) f.listed) (flat_map (entry_fact_faults p g of_shared) f.listed) h in
+      let none = four_none (unless f.reachable) (flat_map (entry_fact_faults g of_assigned) f.listed) (flat_map (entry_fact_faults g of_type) f.listed) (flat_map (entry_fact_faults g of_shared) f.listed) h in
       record {
         reachable = (unless_none f.reachable).1 none.0;
         begins = λ k d lt.
-            begins_from_none _ (each_none (entry_fact_faults p g of_assigned) f.listed none.1 k d lt) (each_none (entry_fact_faults p g of_type) f.listed none.2 k d lt) (each_none (entry_fact_faults p g of_shared) f.listed none.3 k d lt);
+            begins_from_none _ (each_none (entry_fact_faults g of_assigned) f.listed none.1 k d lt) (each_none (entry_fact_faults g of_type) f.listed none.2 k d lt) (each_none (entry_fact_faults g of_shared) f.listed none.3 k d lt);
       }
 
 -- a list that stands under a condition
@@ -135,28 +135,28 @@ abbrev reached_faults : Program → ℕ → List Fault
 reached_faults p k = if (facts_at p k).reachable then shape_faults p (function_of p k) (facts_at p k) (shape (point_at p k).term) else []
 
 abbrev first_faults : Program → ℕ → List Fault
-first_faults p k = if nat_eq (function_of p k).entry.0 k then entry_faults p (function_of p k) (facts_at p k) else []
+first_faults p k = if nat_eq (function_of p k).entry.0 k then entry_faults (function_of p k) (facts_at p k) else []
 
 reached_is : (p : Program) (k : ℕ) → (IsTrue (facts_at p k).reachable → shape_faults p (function_of p k) (facts_at p k) (shape (point_at p k).term) ≡ []) ↔ (reached_faults p k ≡ [])
 reached_is p k = under_none (facts_at p k).reachable (shape_faults p (function_of p k) (facts_at p k) (shape (point_at p k).term))
 
-first_none : (p : Program) (k : ℕ) → (IsTrue (nat_eq (function_of p k).entry.0 k) → entry_faults p (function_of p k) (facts_at p k) ≡ []) ↔ (first_faults p k ≡ [])
-first_none p k = under_none (nat_eq (function_of p k).entry.0 k) (entry_faults p (function_of p k) (facts_at p k))
+first_none : (p : Program) (k : ℕ) → (IsTrue (nat_eq (function_of p k).entry.0 k) → entry_faults (function_of p k) (facts_at p k) ≡ []) ↔ (first_faults p k ≡ [])
+first_none p k = under_none (nat_eq (function_of p k).entry.0 k) (entry_faults (function_of p k) (facts_at p k))
 
-none_at_fine : (p : Program) (k : ℕ) → IsFineAt p k → faults_at p k ≡ []
-none_at_fine p k fine =
+none_at_fine : SameTypeLaw → (p : Program) (k : ℕ) → IsFineAt p k → faults_at p k ≡ []
+none_at_fine law p k fine =
     append_none (reached_faults p k) (first_faults p k)
     ((reached_is p k).0 (λ reached. shape_none p (function_of p k) (facts_at p k) (shape (point_at p k).term) (fine.fine reached)))
-    ((first_none p k).0 (λ first. entry_none p (function_of p k) (facts_at p k) (fine.entry ((same_number (function_of p k).entry.0 k).1 first))))
+    ((first_none p k).0 (λ first. entry_none law (function_of p k) (facts_at p k) (fine.entry ((same_number (function_of p k).entry.0 k).1 first))))
 
-fine_at_none : (p : Program) (k : ℕ) → faults_at p k ≡ [] → IsFineAt p k
-fine_at_none p k h =
+fine_at_none : SameTypeLaw → (p : Program) (k : ℕ) → faults_at p k ≡ [] → IsFineAt p k
+fine_at_none law p k h =
     let both = both_none (reached_faults p k) (first_faults p k) h in
     record {
       fine = λ reached. fine_from_none p (function_of p k) (facts_at p k) (shape (point_at p k).term) ((reached_is p k).1 both.0 reached);
-      entry = λ first. entry_from_none p (function_of p k) (facts_at p k) ((first_none p k).1 both.1 ((same_number (function_of p k).entry.0 k).0 first));
+      entry = λ first. entry_from_none law (function_of p k) (facts_at p k) ((first_none p k).1 both.1 ((same_number (function_of p k).entry.0 k).0 first));
     }
 
 -- no clause fails at a point just where it has no fault
-pub fine_at_is : (p : Program) (k : ℕ) → IsFineAt p k ↔ (faults_at p k ≡ [])
-fine_at_is p k = (none_at_fine p k, fine_at_none p k)
+pub fine_at_is : SameTypeLaw → (p : Program) (k : ℕ) → IsFineAt p k ↔ (faults_at p k ≡ [])
+fine_at_is law p k = (none_at_fine law p k, fine_at_none law p k)

@@ -14,7 +14,7 @@ pub point_is_in : (p : Program) (k : ℕ) → IsWellFormed p → k < length p.po
 point_is_in p k well lt = well.points_in k (point_at p k) (slice_get-get_or p.points k no_point lt)
 
 -- the facts behind a way list slots of the function
-pub listed_behind : (p : Program) (g : Function) (n : ℕ) (way : WayShape) → IsWellFormed p → g ≡ function_at p n → IsWay p g n way → All (λ (fact : SlotFact). IsSlot g fact.slot) (facts_at p way.next.0).listed
+pub listed_behind : (p : Program) (g : Function) (n : ℕ) (way : WayShape) → IsWellFormed p → g ≡ function_at p n → IsWay p n way → All (λ (fact : SlotFact). IsSlot g fact.slot) (facts_at p way.next.0).listed
 listed_behind p g n way well same is_way =
     subst (λ (h : Function). All (λ (fact : SlotFact). IsSlot h fact.slot) (facts_at p way.next.0).listed) (sym same)
     (subst (λ (m : ℕ). All (λ (fact : SlotFact). IsSlot (function_at p m) fact.slot) (facts_at p way.next.0).listed) is_way.same_function
@@ -24,7 +24,7 @@ listed_behind p g n way well same is_way =
 abbrev pub parts_of : Program → ℕ → Point → Function → List Fault
 parts_of p k point g =
     (if point.facts.reachable then shape_faults p g point.facts (shape point.term) else [])
-    ++ (if nat_eq g.entry.0 k then entry_faults p g point.facts else [])
+    ++ (if nat_eq g.entry.0 k then entry_faults g point.facts else [])
 
 pub faults_are : (p : Program) (k : ℕ) (point : Point) (g : Function) → point ≡ point_at p k → g ≡ function_at p point.function.0 → faults_at p k ≡ parts_of p k point g
 faults_are p k point g same of =

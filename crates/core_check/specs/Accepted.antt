@@ -46,21 +46,20 @@ pub record IsFine (p : Program) (g : Function) (f : PointFacts) (s : TermShape) 
   pub leads : All (Leads p g f) s.ways
 
 -- a fact says what holds where a function begins: its slot has no value, has its declared type, and isn't shared
-pub record BeginsEmpty (p : Program) (g : Function) (fact : SlotFact) : Type 0 where
+pub record BeginsEmpty (g : Function) (fact : SlotFact) : Type 0 where
   pub unassigned : IsFalse fact.known.assigned
-  pub below : IsTrue (sub p.rows.table (held_type (declared_at g fact.slot.0) fact.known.held) (declared_at g fact.slot.0))
-  pub above : IsTrue (sub p.rows.table (declared_at g fact.slot.0) (held_type (declared_at g fact.slot.0) fact.known.held))
+  pub declared : held_type (declared_at g fact.slot.0) fact.known.held ≡ declared_at g fact.slot.0
   pub own : IsFalse (is_shared fact.known.held)
 
 -- a run may come to an entry, and its facts say what holds where the function begins; so does a slot that isn't listed
-pub record IsEntry (p : Program) (g : Function) (f : PointFacts) : Type 0 where
+pub record IsEntry (g : Function) (f : PointFacts) : Type 0 where
   pub reachable : IsTrue f.reachable
-  pub begins : All (BeginsEmpty p g) f.listed
+  pub begins : All (BeginsEmpty g) f.listed
 
 -- no clause fails at the point with the number k: its term is fine if a run may come to it, and the entry of its function is an entry
 pub record IsFineAt (p : Program) (k : ℕ) : Type 0 where
   pub fine : IsTrue (facts_at p k).reachable → IsFine p (function_of p k) (facts_at p k) (shape (point_at p k).term)
-  pub entry : (function_of p k).entry.0 ≡ k → IsEntry p (function_of p k) (facts_at p k)
+  pub entry : (function_of p k).entry.0 ≡ k → IsEntry (function_of p k) (facts_at p k)
 
 -- no clause fails at any point
 pub record IsAccepted (p : Program) : Type 0 where

@@ -1,6 +1,7 @@
 -- What fails at a point, in the order of the clauses.
 use Rattle.std.specs.Prelude.{◌≡◌, ℕ, zero, suc, ◌<◌, Bool, not, ◌||◌, nat_eq, List, [], ◌∷◌, ◌++◌, Some, if◌then◌else◌, flat_map, slice_get, length}
 use Rattle.dart_types.specs.Ty.{Ty, invalid}
+use Rattle.dart_types.specs.Same.{same_type}
 use Rattle.dart_types.specs.SubTest.{sub}
 use Rattle.dart_types.specs.Tables.{Table}
 use Rattle.core_ir.specs.PointFacts.{PointFacts}
@@ -87,29 +88,28 @@ shape_faults p g f s =
     ++ next_faults p g f s.ways
 
 -- what fails of a part at an entry, for a slot by its declared type and what is known of it
-abbrev pub entry_slot_faults : SlotPart → Table → Ty → Known → List Fault
-entry_slot_faults of_assigned table declared known = unless (not known.assigned)
-entry_slot_faults of_type table declared known =
-    unless_below table (held_type declared known.held) declared ++ unless_below table declared (held_type declared known.held)
-entry_slot_faults of_shared table declared known = unless (not (is_shared known.held))
+abbrev pub entry_slot_faults : SlotPart → Ty → Known → List Fault
+entry_slot_faults of_assigned declared known = unless (not known.assigned)
+entry_slot_faults of_type declared known = unless (same_type (held_type declared known.held) declared)
+entry_slot_faults of_shared declared known = unless (not (is_shared known.held))
 
 -- what fails of a part at an entry, for the slot of a fact
-abbrev pub entry_fact_faults : Program → Function → SlotPart → SlotFact → List Fault
-entry_fact_faults p g part fact = entry_slot_faults part p.rows.table (declared_at g fact.slot.0) fact.known
+abbrev pub entry_fact_faults : Function → SlotPart → SlotFact → List Fault
+entry_fact_faults g part fact = entry_slot_faults part (declared_at g fact.slot.0) fact.known
 
 -- what fails at an entry: that a run may come there, and then part by part, in each part fact by fact
-abbrev pub entry_faults : Program → Function → PointFacts → List Fault
-entry_faults p g f =
+abbrev pub entry_faults : Function → PointFacts → List Fault
+entry_faults g f =
     unless f.reachable
-    ++ flat_map (entry_fact_faults p g of_assigned) f.listed
-    ++ flat_map (entry_fact_faults p g of_type) f.listed
-    ++ flat_map (entry_fact_faults p g of_shared) f.listed
+    ++ flat_map (entry_fact_faults g of_assigned) f.listed
+    ++ flat_map (entry_fact_faults g of_type) f.listed
+    ++ flat_map (entry_fact_faults g of_shared) f.listed
 
 -- what fails at the point with the number k: at its term, if a run may come to it, and then at the entry, if it is that of its function
 abbrev pub faults_at : Program → ℕ → List Fault
 faults_at p k =
     (if (facts_at p k).reachable then shape_faults p (function_of p k) (facts_at p k) (shape (point_at p k).term) else [])
-    ++ (if nat_eq (function_of p k).entry.0 k then entry_faults p (function_of p k) (facts_at p k) else [])
+    ++ (if nat_eq (function_of p k).entry.0 k then entry_faults (function_of p k) (facts_at p k) else [])
 
 -- the fault is the first at the point with the number k, and no clause fails at a lesser one
 pub record IsFirstFault (p : Program) (k : ℕ) (fault : Fault) : Type 0 where

@@ -2,6 +2,8 @@ pub mod Known
 pub mod Shapes
 pub mod Types
 pub mod WellFormed
+pub mod Named
+pub mod NamedSlots
 pub mod Accepted
 pub mod Faults
 pub mod Refusals

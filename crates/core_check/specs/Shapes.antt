@@ -1,8 +1,9 @@
--- The shape of each term: what it reads, stores and asks, and the ways on from it. One row for each term, and all that acceptance says of it.
-use Rattle.std.specs.Prelude.{true, false, List, [], ◌∷◌, refl}
+-- The shape of each term: the slots that it names, what it reads, stores and asks, and the ways on from it. One row for each term, and all that acceptance says of it.
+use Rattle.std.specs.Prelude.{true, false, List, [], ◌∷◌, ◌++◌, flat_map, refl}
 use Rattle.std.specs.Coded.{Coded, code_by, coded×, coded_list}
 use Rattle.core_ir.specs.declared.values.Value.TheVariants.{Null, Integer, Boolean}
 use Rattle.core_ir.specs.declared.points.SlotId.{SlotId}
+use Rattle.core_ir.specs.contracts.points.SlotId as slot_id
 use Rattle.core_ir.specs.declared.points.PointId.{PointId}
 use Rattle.core_ir.specs.contracts.points.PointId as point_id
 use Rattle.core_ir.specs.declared.points.Operand.{Operand}
@@ -25,8 +26,9 @@ pub record WayShape : Type 0 where
   pub next : PointId
   pub changes : List Change
 
--- the operands that must have a value, in their order; the slots that are stored to, with the type of what is stored; the types that must be subtypes, so that the machine never goes wrong by them; and the ways on
+-- the slots that the term names, which its function must have; the operands that must have a value, in their order; the slots that are stored to, with the type of what is stored; the types that must be subtypes, so that the machine never goes wrong by them; and the ways on
 pub record TermShape : Type 0 where
+  pub slots : List SlotId
   pub reads : List Operand
   pub stores : List Stored
   pub asks : List Asked
@@ -39,11 +41,20 @@ way_code =
 
 abbrev pub shape_code : Coded TermShape
 shape_code =
-    code_by ((List Operand × List Stored) × (List Asked × List WayShape))
-    (coded× (coded× (coded_list operand.the_row.coded) (coded_list stored.the_row.coded)) (coded× (coded_list asked.the_row.coded) (coded_list way_code)))
-    (λ s. ((s.reads, s.stores), (s.asks, s.ways)))
-    (λ p. record { reads = p.0.0; stores = p.0.1; asks = p.1.0; ways = p.1.1 })
+    code_by (List SlotId × ((List Operand × List Stored) × (List Asked × List WayShape)))
+    (coded× (coded_list slot_id.the_row.coded) (coded× (coded× (coded_list operand.the_row.coded) (coded_list stored.the_row.coded)) (coded× (coded_list asked.the_row.coded) (coded_list way_code))))
+    (λ s. (s.slots, ((s.reads, s.stores), (s.asks, s.ways))))
+    (λ p. record { slots = p.0; reads = p.1.0.0; stores = p.1.0.1; asks = p.1.1.0; ways = p.1.1.1 })
     (λ _. refl)
+
+-- the slot that an operand names, if it isn't a constant
+abbrev pub slot_of : Operand → List SlotId
+slot_of (Slot slot) = slot ∷ []
+slot_of (Constant value) = []
+
+-- the slots that a term names by itself, and those of its operands
+abbrev pub names : List SlotId → List Operand → List SlotId
+names slots operands = slots ++ flat_map slot_of operands
 
 -- a value of a type is stored to a slot; an operand must have a type
 abbrev pub puts : SlotId → TypeSource → Stored
@@ -74,35 +85,37 @@ straight next = way next []
 -- an operator on two integers, which stores a value of a type
 abbrev pub on_integers : SlotId → (left right : Operand) → TypeSource → PointId → TermShape
 on_integers to left right ty next = record {
+  slots = names (to ∷ []) (left ∷ right ∷ []);
   reads = left ∷ right ∷ [];
   stores = puts to ty ∷ [];
   asks = asks_of left IntType ∷ asks_of right IntType ∷ [];
   ways = way next (holds to ty ∷ []) ∷ [];
 }
 
--- a branch on what is no constant bool
-abbrev pub on_bool : Operand → (when_true when_false : PointId) → TermShape
-on_bool on when_true when_false = record {
-  reads = on ∷ [];
-  stores = [];
-  asks = asks_of on BoolType ∷ [];
-  ways = straight when_true ∷ straight when_false ∷ [];
-}
+-- a branch with the ways that it may take
+abbrev pub on_condition : Operand → List WayShape → TermShape
+on_condition on ways = record { slots = names [] (on ∷ []); reads = on ∷ []; stores = []; asks = asks_of on BoolType ∷ []; ways = ways }
 
--- a branch on a constant takes one way
-abbrev pub on_constant : Operand → PointId → TermShape
-on_constant on next = record { reads = on ∷ []; stores = []; asks = asks_of on BoolType ∷ []; ways = straight next ∷ [] }
+-- the ways on from a branch: one on a constant takes one way
+abbrev pub branch_ways : Operand → (when_true when_false : PointId) → List WayShape
+branch_ways (Constant (Boolean true)) when_true when_false = straight when_true ∷ []
+branch_ways (Constant (Boolean false)) when_true when_false = straight when_false ∷ []
+branch_ways (Constant Null) when_true when_false = straight when_true ∷ straight when_false ∷ []
+branch_ways (Constant (Integer n)) when_true when_false = straight when_true ∷ straight when_false ∷ []
+branch_ways (Slot on) when_true when_false = straight when_true ∷ straight when_false ∷ []
 
 -- the shape of each term
 abbrev pub shape : Term → TermShape
 shape (Store to from next) = record {
+  slots = names (to ∷ []) (from ∷ []);
   reads = from ∷ [];
   stores = puts to (OperandType from) ∷ [];
   asks = [];
   ways = way next (holds to (OperandType from) ∷ []) ∷ [];
 }
-shape (Declare slot next) = record { reads = []; stores = []; asks = []; ways = way next (is_fresh slot ∷ []) ∷ [] }
+shape (Declare slot next) = record { slots = slot ∷ []; reads = []; stores = []; asks = []; ways = way next (is_fresh slot ∷ []) ∷ [] }
 shape (Initialize slot from next) = record {
+  slots = names (slot ∷ []) (from ∷ []);
   reads = from ∷ [];
   stores = puts slot (OperandType from) ∷ [];
   asks = [];
@@ -111,22 +124,20 @@ shape (Initialize slot from next) = record {
 shape (Add to left right next) = on_integers to left right IntType next
 shape (Less to left right next) = on_integers to left right BoolType next
 shape (NotEqual to left right next) = record {
+  slots = names (to ∷ []) (left ∷ right ∷ []);
   reads = left ∷ right ∷ [];
   stores = puts to BoolType ∷ [];
   asks = [];
   ways = way next (holds to BoolType ∷ []) ∷ [];
 }
-shape (Branch (Constant (Boolean true)) when_true when_false) = on_constant (Constant (Boolean true)) when_true
-shape (Branch (Constant (Boolean false)) when_true when_false) = on_constant (Constant (Boolean false)) when_false
-shape (Branch (Constant Null) when_true when_false) = on_bool (Constant Null) when_true when_false
-shape (Branch (Constant (Integer n)) when_true when_false) = on_bool (Constant (Integer n)) when_true when_false
-shape (Branch (Slot on) when_true when_false) = on_bool (Slot on) when_true when_false
+shape (Branch on when_true when_false) = on_condition on (branch_ways on when_true when_false)
 shape (TestNull slot at_null other) = record {
+  slots = slot ∷ [];
   reads = Slot slot ∷ [];
   stores = [];
   asks = [];
   ways = straight at_null ∷ way other (narrows slot (NonNullType slot) ∷ []) ∷ [];
 }
-shape (Goto next) = record { reads = []; stores = []; asks = []; ways = straight next ∷ [] }
-shape (Output from next) = record { reads = from ∷ []; stores = []; asks = []; ways = straight next ∷ [] }
-shape End = record { reads = []; stores = []; asks = []; ways = [] }
+shape (Goto next) = record { slots = []; reads = []; stores = []; asks = []; ways = straight next ∷ [] }
+shape (Output from next) = record { slots = names [] (from ∷ []); reads = from ∷ []; stores = []; asks = []; ways = straight next ∷ [] }
+shape End = record { slots = []; reads = []; stores = []; asks = []; ways = [] }

@@ -2,7 +2,7 @@
 
 ghost use Rattle.std.specs.Prelude.{◌≡◌, ◌<◌, IfOk, IsTrue, length};
 ghost use Rattle.core_ir.specs.Values.{declared_at};
-ghost use Rattle.core_check.specs.WellFormed.{IsOperand};
+ghost use Rattle.core_check.specs.Named.{IsOperand};
 ghost use Rattle.core_check.specs.Known.{known_of, held_type, is_shared, is_assigned, operand_type};
 
 use crate::context::Context;

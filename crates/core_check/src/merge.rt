@@ -3,7 +3,8 @@
 ghost use Rattle.std.specs.Prelude.{◌≡◌, ◌<◌, ◌||◌, not, All, IfOk, IsTrue, IsFalse, drop, length};
 ghost use Rattle.dart_types.specs.SubTest.{sub};
 ghost use Rattle.core_ir.specs.Values.{declared_at};
-ghost use Rattle.core_check.specs.WellFormed.{IsSlot, IsChange};
+ghost use Rattle.core_check.specs.WellFormed.{IsSlot};
+ghost use Rattle.core_check.specs.Named.{IsChange, AreChanges};
 ghost use Rattle.core_check.specs.Known.{facts_at, held_type, known_of};
 ghost use Rattle.core_check.specs.Types.{is_changed, known_on};
 ghost use Rattle.core_check.specs.Accepted.{SlotImplies, Leads};
@@ -219,7 +220,7 @@ pub(crate) fn surely_leads(
 ) -> Result<bool, AllocError>
     requires listed_in { All (λ fact. IsSlot context.function.now fact.slot) facts.now.listed }
     requires after_in { All (λ fact. IsSlot context.function.now fact.slot) after.now.listed }
-    requires changes_in { All (IsChange context.function.now) way.now.changes }
+    requires changes_in { AreChanges context.function.now way.now }
     requires after_is { after.now ≡ facts_at context.program.now way.now.next.0 }
     ensures { IfOk result (λ sure. IsTrue sure → Leads context.entry.program.now context.entry.function.now facts.now way.now) }
 {

@@ -16,6 +16,7 @@ use crate::misses::Miss;
 use crate::shapes::shape_of;
 use crate::terms::check_shape;
 use core_ir::{CoreFunction, CoreProgram, Facts, FunctionId, Point, PointId, Term};
+use dart_types::equality_laws;
 use std::alloc::Global;
 
 // Whether no clause fails at a term, if a run may come to it.
@@ -37,8 +38,8 @@ fn check_reached(context: Context<'_>, facts: &Facts, term: Term) -> Result<(), 
 // Whether the facts are those of an entry, at the entry of the function.
 fn check_first(context: Context<'_>, facts: &Facts, number: usize) -> Result<(), Miss>
     requires { All (λ fact. IsSlot context.function.now fact.slot) facts.now.listed }
-    ensures { let p = context.entry.program.now in let g = context.entry.function.now in
-        Tells result (if nat_eq g.entry.0 number then entry_faults p g facts.now else []) }
+    ensures { let g = context.entry.function.now in
+        Tells result (if nat_eq g.entry.0 number then entry_faults g facts.now else []) }
 {
     let function = context.function;
     if function.entry.0 as usize == number {
@@ -55,7 +56,7 @@ fn check_parts(context: Context<'_>, point: &Point, number: usize) -> Result<(),
     requires shape_in { IsShape context.program.now context.function.now context.number.0 (shape point.now.term) }
     ensures { let p = context.entry.program.now in let g = context.entry.function.now in
         Tells result ((if point.now.facts.reachable then shape_faults p g point.now.facts (shape point.now.term) else [])
-        ++ (if nat_eq g.entry.0 number then entry_faults p g point.now.facts else [])) }
+        ++ (if nat_eq g.entry.0 number then entry_faults g point.now.facts else [])) }
 {
     check_reached(context, &point.facts, point.term)?;
     check_first(context, &point.facts, number)
@@ -113,6 +114,7 @@ pub(crate) fn check_points(
     ensures accepted { OnOk result (IsAccepted program.now) }
     ensures refused { IfErr result (λ refusal. IsCause program.now refusal) }
 {
+    equality_laws();
     for number in 0..program.points.len() {
         match check_point(alloc, program, core, number) {
             Ok(()) => (),

@@ -1,7 +1,7 @@
 //! The shape of each term.
 
 ghost use Rattle.std.specs.Prelude.{◌≡◌, ◌++◌, ◌∷◌, [], IfOk, OnOk};
-ghost use Rattle.core_check.specs.Shapes.{shape, on_integers};
+ghost use Rattle.core_check.specs.Shapes.{names, shape, on_integers};
 
 use crate::parts::{Asked, Change, How, Stored, TypeSource};
 use core_ir::{Operand, PointId, SlotId, Term, Value};
@@ -28,6 +28,7 @@ impl Model for Way {
 /// The shape of a term. Contracts see it as its value.
 #[derive(Drop)]
 pub(crate) struct Shape {
+    pub(crate) slots: Vec<SlotId>,
     pub(crate) reads: Vec<Operand>,
     pub(crate) stores: Vec<Stored>,
     pub(crate) asks: Vec<Asked>,
@@ -41,23 +42,40 @@ impl Model for Shape {
 
     ghost coded = { shape_code };
 
-    ghost view = { λ s. record { reads = s.reads.items; stores = s.stores.items; asks = s.asks.items; ways = s.ways.items } };
+    ghost view = { λ s. record { slots = s.slots.items; reads = s.reads.items; stores = s.stores.items; asks = s.asks.items; ways = s.ways.items } };
+}
+
+// These slots, and those of operands behind them.
+fn names(alloc: Global, slots: &[SlotId], operands: &[Operand]) -> Result<Vec<SlotId>, AllocError>
+    ensures { IfOk result (λ named. named.items ≡ names slots.now operands.now) }
+{
+    let mut named = slots.to_vec(alloc)?;
+    for operand in operands {
+        match operand {
+            Operand::Slot(slot) => named.push(*slot)?,
+            Operand::Constant(_) => (),
+        }
+    }
+    Ok(named)
 }
 
 impl Shape {
-    // A shape of these parts, without a way on.
+    // A shape of these parts, without a way on: it names these slots and those that it reads.
     fn of(
         alloc: Global,
+        slots: &[SlotId],
         reads: &[Operand],
         stores: &[Stored],
         asks: &[Asked],
     ) -> Result<Shape, AllocError>
-        ensures { IfOk result (λ s. s ≡ record { reads = reads.now; stores = stores.now; asks = asks.now; ways = [] }) }
+        ensures { IfOk result (λ s. s ≡ record { slots = names slots.now reads.now; reads = reads.now; stores = stores.now; asks = asks.now; ways = [] }) }
     {
+        let slots = names(alloc, slots, reads)?;
         let reads = reads.to_vec(alloc)?;
         let stores = stores.to_vec(alloc)?;
         let asks = asks.to_vec(alloc)?;
         Ok(Shape {
+            slots,
             reads,
             stores,
             asks,
@@ -140,7 +158,7 @@ fn on_integers(
 {
     let int = TypeSource::IntType;
     let asks = [asks_of(left, int), asks_of(right, int)];
-    let shape = Shape::of(alloc, &[left, right], &[puts(to, ty)], &asks)?;
+    let shape = Shape::of(alloc, &[to], &[left, right], &[puts(to, ty)], &asks)?;
     let shape = shape.with_way(alloc, next, &[holds(to, ty)])?;
     Ok(shape)
 }
@@ -154,7 +172,7 @@ fn on_branch(
 ) -> Result<Shape, AllocError>
     ensures { IfOk result (λ s. s ≡ shape (Term.Branch on when_true when_false)) }
 {
-    let shape = Shape::of(alloc, &[on], &[], &[asks_of(on, TypeSource::BoolType)])?;
+    let shape = Shape::of(alloc, &[], &[on], &[], &[asks_of(on, TypeSource::BoolType)])?;
     match on {
         Operand::Constant(Value::Boolean(true)) => {
             let shape = shape.with_way(alloc, when_true, &[])?;
@@ -180,18 +198,18 @@ pub(crate) fn shape_of(alloc: Global, term: Term) -> Result<Shape, AllocError>
     match term {
         Term::Store { to, from, next } => {
             let ty = TypeSource::OperandType(from);
-            let shape = Shape::of(alloc, &[from], &[puts(to, ty)], &[])?;
+            let shape = Shape::of(alloc, &[to], &[from], &[puts(to, ty)], &[])?;
             let shape = shape.with_way(alloc, next, &[holds(to, ty)])?;
             Ok(shape)
         }
         Term::Declare { slot, next } => {
-            let shape = Shape::of(alloc, &[], &[], &[])?;
+            let shape = Shape::of(alloc, &[slot], &[], &[], &[])?;
             let shape = shape.with_way(alloc, next, &[is_fresh(slot)])?;
             Ok(shape)
         }
         Term::Initialize { slot, from, next } => {
             let ty = TypeSource::OperandType(from);
-            let shape = Shape::of(alloc, &[from], &[puts(slot, ty)], &[])?;
+            let shape = Shape::of(alloc, &[slot], &[from], &[puts(slot, ty)], &[])?;
             let shape = shape.with_way(alloc, next, &[is_fresh(slot), holds(slot, ty)])?;
             Ok(shape)
         }
@@ -220,7 +238,7 @@ pub(crate) fn shape_of(alloc: Global, term: Term) -> Result<Shape, AllocError>
             next,
         } => {
             let ty = TypeSource::BoolType;
-            let shape = Shape::of(alloc, &[left, right], &[puts(to, ty)], &[])?;
+            let shape = Shape::of(alloc, &[to], &[left, right], &[puts(to, ty)], &[])?;
             let shape = shape.with_way(alloc, next, &[holds(to, ty)])?;
             Ok(shape)
         }
@@ -233,24 +251,24 @@ pub(crate) fn shape_of(alloc: Global, term: Term) -> Result<Shape, AllocError>
             Ok(shape)
         }
         Term::TestNull { slot, null, other } => {
-            let shape = Shape::of(alloc, &[Operand::Slot(slot)], &[], &[])?;
+            let shape = Shape::of(alloc, &[], &[Operand::Slot(slot)], &[], &[])?;
             let shape = shape.with_way(alloc, null, &[])?;
             let bare = TypeSource::NonNullType(slot);
             let shape = shape.with_way(alloc, other, &[narrows(slot, bare)])?;
             Ok(shape)
         }
         Term::Goto { next } => {
-            let shape = Shape::of(alloc, &[], &[], &[])?;
+            let shape = Shape::of(alloc, &[], &[], &[], &[])?;
             let shape = shape.with_way(alloc, next, &[])?;
             Ok(shape)
         }
         Term::Output { from, next } => {
-            let shape = Shape::of(alloc, &[from], &[], &[])?;
+            let shape = Shape::of(alloc, &[], &[from], &[], &[])?;
             let shape = shape.with_way(alloc, next, &[])?;
             Ok(shape)
         }
         Term::End => {
-            let shape = Shape::of(alloc, &[], &[], &[])?;
+            let shape = Shape::of(alloc, &[], &[], &[], &[])?;
             Ok(shape)
         }
     }

@@ -1,7 +1,8 @@
 //! The clauses on a term, by its shape.
 
 ghost use Rattle.std.specs.Prelude.{◌≡◌, flat_map, All};
-ghost use Rattle.core_check.specs.WellFormed.{IsSlot, IsOperand, IsStored, IsAsked, IsShape, IsWellFormed};
+ghost use Rattle.core_check.specs.WellFormed.{IsSlot, IsShape, IsWellFormed};
+ghost use Rattle.core_check.specs.Named.{IsStored, IsAsked, IsNamed};
 ghost use Rattle.core_check.specs.Known.{function_at};
 ghost use Rattle.core_check.specs.Faults.{read_faults, stored_faults, asked_faults, shape_faults};
 ghost use Rattle.core_check.specs.Checks.{Tells};
@@ -78,6 +79,7 @@ pub(crate) fn check_shape(context: Context<'_>, facts: &Facts, shape: &Shape) ->
     requires function { context.function.now ≡ function_at context.program.now context.number.0 }
     requires listed_in { All (λ fact. IsSlot context.function.now fact.slot) facts.now.listed }
     requires shape_in { IsShape context.program.now context.function.now context.number.0 shape.now }
+    requires named_in { IsNamed context.function.now shape.now }
     ensures { Tells result (shape_faults context.entry.program.now context.entry.function.now facts.now shape.now) }
 {
     check_reads(context, facts, &shape.reads)?;

@@ -1,7 +1,7 @@
 //! What a shape means by the facts of a point.
 
 ghost use Rattle.std.specs.Prelude.{◌≡◌, All, IfOk};
-ghost use Rattle.core_check.specs.WellFormed.{IsSource, IsHow, IsChange};
+ghost use Rattle.core_check.specs.Named.{IsSource, IsHow, IsChange};
 ghost use Rattle.core_check.specs.Types.{without_null, type_from, held_as, changed, known_on, is_changed};
 
 use crate::context::Context;

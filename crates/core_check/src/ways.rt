@@ -1,7 +1,8 @@
 //! What is known where a run goes on, and whether it implies the facts of the next point.
 
 ghost use Rattle.std.specs.Prelude.{◌≡◌, ◌<◌, flat_map, All, IfOk, IsTrue, length};
-ghost use Rattle.core_check.specs.WellFormed.{IsSlot, IsChange, IsWay, IsWellFormed};
+ghost use Rattle.core_check.specs.WellFormed.{IsSlot, IsWay, IsWellFormed};
+ghost use Rattle.core_check.specs.Named.{AreChanges};
 ghost use Rattle.core_check.specs.Known.{facts_at, function_at};
 ghost use Rattle.core_check.specs.Accepted.{Leads};
 ghost use Rattle.core_check.specs.Faults.{slot_on, way_faults, reach_faults, next_faults};
@@ -31,7 +32,7 @@ pub(crate) enum Part {
 fn facts_behind<'a>(context: Context<'a>, way: &Way) -> &'a Facts
     requires well_formed { IsWellFormed context.program.now }
     requires function { context.function.now ≡ function_at context.program.now context.number.0 }
-    requires way_in { IsWay context.program.now context.function.now context.number.0 way.now }
+    requires way_in { IsWay context.program.now context.number.0 way.now }
     ensures facts { result.now ≡ facts_at context.entry.program.now way.now.next.0 }
     ensures listed_in { All (λ fact. IsSlot context.entry.function.now fact.slot) result.now.listed }
 {
@@ -50,7 +51,7 @@ fn check_slot(
     slot: usize,
 ) -> Result<(), Miss>
     requires slot_in { slot < length context.function.now.slots }
-    requires changes_in { All (IsChange context.function.now) way.now.changes }
+    requires changes_in { AreChanges context.function.now way.now }
     requires after_is { after.now ≡ facts_at context.program.now way.now.next.0 }
     ensures { Tells result (slot_on context.entry.program.now context.entry.function.now facts.now (part_of part) way.now slot) }
 {
@@ -78,7 +79,8 @@ fn check_slot(
 fn check_way(context: Context<'_>, facts: &Facts, way: &Way, part: Part) -> Result<(), Miss>
     requires well_formed { IsWellFormed context.program.now }
     requires function { context.function.now ≡ function_at context.program.now context.number.0 }
-    requires way_in { IsWay context.program.now context.function.now context.number.0 way.now }
+    requires way_in { IsWay context.program.now context.number.0 way.now }
+    requires changes_in { AreChanges context.function.now way.now }
     ensures { Tells result (way_faults context.entry.program.now context.entry.function.now facts.now (part_of part) way.now) }
 {
     let function = context.function;
@@ -93,7 +95,7 @@ fn check_way(context: Context<'_>, facts: &Facts, way: &Way, part: Part) -> Resu
 fn check_reachable(context: Context<'_>, ways: &[Way]) -> Result<(), Miss>
     requires well_formed { IsWellFormed context.program.now }
     requires function { context.function.now ≡ function_at context.program.now context.number.0 }
-    requires ways_in { All (IsWay context.program.now context.function.now context.number.0) ways.now }
+    requires ways_in { All (IsWay context.program.now context.number.0) ways.now }
     ensures { Tells result (flat_map (reach_faults context.entry.program.now) ways.now) }
 {
     for way in ways {
@@ -106,7 +108,8 @@ fn check_reachable(context: Context<'_>, ways: &[Way]) -> Result<(), Miss>
 fn check_part(context: Context<'_>, facts: &Facts, ways: &[Way], part: Part) -> Result<(), Miss>
     requires well_formed { IsWellFormed context.program.now }
     requires function { context.function.now ≡ function_at context.program.now context.number.0 }
-    requires ways_in { All (IsWay context.program.now context.function.now context.number.0) ways.now }
+    requires ways_in { All (IsWay context.program.now context.number.0) ways.now }
+    requires changes_in { All (AreChanges context.function.now) ways.now }
     ensures { Tells result (flat_map (way_faults context.entry.program.now context.entry.function.now facts.now (part_of part)) ways.now) }
 {
     for way in ways {
@@ -120,7 +123,8 @@ fn way_leads(context: Context<'_>, facts: &Facts, way: &Way) -> Result<bool, All
     requires well_formed { IsWellFormed context.program.now }
     requires function { context.function.now ≡ function_at context.program.now context.number.0 }
     requires listed_in { All (λ fact. IsSlot context.function.now fact.slot) facts.now.listed }
-    requires way_in { IsWay context.program.now context.function.now context.number.0 way.now }
+    requires way_in { IsWay context.program.now context.number.0 way.now }
+    requires changes_in { AreChanges context.function.now way.now }
     ensures { IfOk result (λ sure. IsTrue sure → Leads context.entry.program.now context.entry.function.now facts.now way.now) }
 {
     let after = facts_behind(context, way);
@@ -133,7 +137,8 @@ fn all_lead(context: Context<'_>, facts: &Facts, ways: &[Way]) -> Result<bool, A
     requires well_formed { IsWellFormed context.program.now }
     requires function { context.function.now ≡ function_at context.program.now context.number.0 }
     requires listed_in { All (λ fact. IsSlot context.function.now fact.slot) facts.now.listed }
-    requires ways_in { All (IsWay context.program.now context.function.now context.number.0) ways.now }
+    requires ways_in { All (IsWay context.program.now context.number.0) ways.now }
+    requires changes_in { All (AreChanges context.function.now) ways.now }
     ensures { IfOk result (λ sure. IsTrue sure → All (Leads context.entry.program.now context.entry.function.now facts.now) ways.now) }
 {
     for way in ways {
@@ -149,7 +154,8 @@ fn all_lead(context: Context<'_>, facts: &Facts, ways: &[Way]) -> Result<bool, A
 fn find_fault(context: Context<'_>, facts: &Facts, ways: &[Way]) -> Result<(), Miss>
     requires well_formed { IsWellFormed context.program.now }
     requires function { context.function.now ≡ function_at context.program.now context.number.0 }
-    requires ways_in { All (IsWay context.program.now context.function.now context.number.0) ways.now }
+    requires ways_in { All (IsWay context.program.now context.number.0) ways.now }
+    requires changes_in { All (AreChanges context.function.now) ways.now }
     ensures { Tells result (next_faults context.entry.program.now context.entry.function.now facts.now ways.now) }
 {
     check_reachable(context, ways)?;
@@ -164,7 +170,8 @@ pub(crate) fn check_ways(context: Context<'_>, facts: &Facts, ways: &[Way]) -> R
     requires well_formed { IsWellFormed context.program.now }
     requires function { context.function.now ≡ function_at context.program.now context.number.0 }
     requires listed_in { All (λ fact. IsSlot context.function.now fact.slot) facts.now.listed }
-    requires ways_in { All (IsWay context.program.now context.function.now context.number.0) ways.now }
+    requires ways_in { All (IsWay context.program.now context.number.0) ways.now }
+    requires changes_in { All (AreChanges context.function.now) ways.now }
     ensures { Tells result (next_faults context.entry.program.now context.entry.function.now facts.now ways.now) }
 {
     if all_lead(context, facts, ways)? {

@@ -6,12 +6,11 @@ ghost use Rattle.core_ir.specs.Program.{Function};
 ghost use Rattle.core_ir.specs.Values.{int, bool};
 ghost use Rattle.core_ir.specs.declared.points.Point.{Point as CorePoint};
 ghost use Rattle.core_check.specs.Known.{function_at, point_at};
-ghost use Rattle.core_check.specs.WellFormed.{HasPointParts, IsSlot, IsOperand, IsSource, IsHow, IsStored, IsAsked, IsChange, IsWay, IsShape, IsPointOf, IsFunctionOf, IsWellFormed};
+ghost use Rattle.core_check.specs.WellFormed.{HasPointParts, IsSlot, IsWay, IsShape, IsPointOf, IsFunctionOf, IsWellFormed};
 
 use crate::context::CoreTypes;
-use crate::parts::{Asked, Change, How, Stored, TypeSource};
 use crate::shapes::{Shape, Way, shape_of};
-use core_ir::{CoreFunction, CoreProgram, Facts, FunctionId, Operand, Point, PointId, SlotId};
+use core_ir::{CoreFunction, CoreProgram, Facts, FunctionId, Point, PointId, SlotId};
 use dart_types::is_subtype;
 use std::alloc::{AllocError, Global};
 
@@ -25,102 +24,12 @@ fn is_slot(function: &CoreFunction, slot: SlotId) -> bool
     (slot.0 as usize) < function.slots.len()
 }
 
-// Whether an operand is a constant, or a slot that the function has.
-fn is_operand(function: &CoreFunction, operand: Operand) -> bool
-    ensures { IsTrue result ↔ IsOperand function.now operand }
+// Whether the function has all of these slots.
+fn are_slots(function: &CoreFunction, slots: &[SlotId]) -> bool
+    ensures { IsTrue result ↔ All (IsSlot function.now) slots.now }
 {
-    match operand {
-        Operand::Slot(slot) => is_slot(function, slot),
-        Operand::Constant(_) => true,
-    }
-}
-
-// Whether a type is named by what the function has.
-fn is_source(function: &CoreFunction, source: TypeSource) -> bool
-    ensures { IsTrue result ↔ IsSource function.now source }
-{
-    match source {
-        TypeSource::IntType => true,
-        TypeSource::BoolType => true,
-        TypeSource::OperandType(operand) => is_operand(function, operand),
-        TypeSource::NonNullType(slot) => is_slot(function, slot),
-    }
-}
-
-// Whether the function has what a stored part names.
-fn is_stored(function: &CoreFunction, stored: Stored) -> bool
-    ensures { IsTrue result ↔ IsStored function.now stored }
-{
-    is_slot(function, stored.slot) && is_source(function, stored.ty)
-}
-
-// Whether the function has what a question names.
-fn is_asked(function: &CoreFunction, asked: Asked) -> bool
-    ensures { IsTrue result ↔ IsAsked function.now asked }
-{
-    is_source(function, asked.found) && is_source(function, asked.expected)
-}
-
-// Whether the type of a change is named by what the function has.
-fn is_how(function: &CoreFunction, how: How) -> bool
-    ensures { IsTrue result ↔ IsHow function.now how }
-{
-    match how {
-        How::Fresh => true,
-        How::Holds(source) => is_source(function, source),
-        How::Narrows(source) => is_source(function, source),
-    }
-}
-
-// Whether the function has what a change names.
-fn is_change(function: &CoreFunction, change: Change) -> bool
-    ensures { IsTrue result ↔ IsChange function.now change }
-{
-    is_slot(function, change.slot) && is_how(function, change.how)
-}
-
-// Whether the function has all operands that are read.
-fn are_operands(function: &CoreFunction, reads: &[Operand]) -> bool
-    ensures { IsTrue result ↔ All (IsOperand function.now) reads.now }
-{
-    for read in reads {
-        if !is_operand(function, *read) {
-            return false;
-        }
-    }
-    true
-}
-
-// Whether the function has what all stored parts name.
-fn are_stores(function: &CoreFunction, stores: &[Stored]) -> bool
-    ensures { IsTrue result ↔ All (IsStored function.now) stores.now }
-{
-    for stored in stores {
-        if !is_stored(function, *stored) {
-            return false;
-        }
-    }
-    true
-}
-
-// Whether the function has what all questions name.
-fn are_asks(function: &CoreFunction, asks: &[Asked]) -> bool
-    ensures { IsTrue result ↔ All (IsAsked function.now) asks.now }
-{
-    for asked in asks {
-        if !is_asked(function, *asked) {
-            return false;
-        }
-    }
-    true
-}
-
-// Whether the function has what all changes name.
-fn are_changes(function: &CoreFunction, changes: &[Change]) -> bool
-    ensures { IsTrue result ↔ All (IsChange function.now) changes.now }
-{
-    for change in changes {
-        if !is_change(function, *change) {
+    for slot in slots {
+        if !is_slot(function, *slot) {
             return false;
         }
     }
@@ -173,78 +82,44 @@ fn next_of(way: &Way) -> PointId
     way.next
 }
 
-// Whether the function has what the changes of a way name.
-fn changes_are_in(function: &CoreFunction, way: &Way) -> bool
-    ensures { IsTrue result ↔ All (IsChange function.now) way.now.changes }
-{
-    are_changes(function, &way.changes)
-}
-
-// Whether a way leads to a point of the same function, which has what its changes name.
-fn is_way(program: &CoreProgram, function: &CoreFunction, number: FunctionId, way: &Way) -> bool
-    ensures { IsTrue result ↔ IsWay program.now function.now number.0 way.now }
+// Whether a way leads to a point of the function with this number.
+fn is_way(program: &CoreProgram, number: FunctionId, way: &Way) -> bool
+    ensures { IsTrue result ↔ IsWay program.now number.0 way.now }
 {
     let next = next_of(way).0 as usize;
     if !has_point(program, next) {
         return false;
     }
-    if point_in(program, next).function.0 != number.0 {
-        return false;
-    }
-    changes_are_in(function, way)
+    point_in(program, next).function.0 == number.0
 }
 
 // Whether all ways do.
-fn are_ways(
-    program: &CoreProgram,
-    function: &CoreFunction,
-    number: FunctionId,
-    ways: &[Way],
-) -> bool
-    ensures { IsTrue result ↔ All (IsWay program.now function.now number.0) ways.now }
+fn are_ways(program: &CoreProgram, number: FunctionId, ways: &[Way]) -> bool
+    ensures { IsTrue result ↔ All (IsWay program.now number.0) ways.now }
 {
     for way in ways {
-        if !is_way(program, function, number, way) {
+        if !is_way(program, number, way) {
             return false;
         }
     }
     true
 }
 
-// Whether the function has the operands that a shape reads.
-fn reads_are_in(function: &CoreFunction, shape: &Shape) -> bool
-    ensures { IsTrue result ↔ All (IsOperand function.now) shape.now.reads }
+// Whether the function has the slots of a shape.
+fn slots_are_in(function: &CoreFunction, shape: &Shape) -> bool
+    ensures { IsTrue result ↔ All (IsSlot function.now) shape.now.slots }
 {
-    are_operands(function, &shape.reads)
+    are_slots(function, &shape.slots)
 }
 
-// Whether it has what the stores of a shape name.
-fn stores_are_in(function: &CoreFunction, shape: &Shape) -> bool
-    ensures { IsTrue result ↔ All (IsStored function.now) shape.now.stores }
+// Whether the ways of a shape lead to points of the function with this number.
+fn ways_are_in(program: &CoreProgram, number: FunctionId, shape: &Shape) -> bool
+    ensures { IsTrue result ↔ All (IsWay program.now number.0) shape.now.ways }
 {
-    are_stores(function, &shape.stores)
+    are_ways(program, number, &shape.ways)
 }
 
-// Whether it has what the questions of a shape name.
-fn asks_are_in(function: &CoreFunction, shape: &Shape) -> bool
-    ensures { IsTrue result ↔ All (IsAsked function.now) shape.now.asks }
-{
-    are_asks(function, &shape.asks)
-}
-
-// Whether it has what the ways of a shape name.
-fn ways_are_in(
-    program: &CoreProgram,
-    function: &CoreFunction,
-    number: FunctionId,
-    shape: &Shape,
-) -> bool
-    ensures { IsTrue result ↔ All (IsWay program.now function.now number.0) shape.now.ways }
-{
-    are_ways(program, function, number, &shape.ways)
-}
-
-// Whether the function has what a shape names.
+// Whether what a shape names is there: slots of a function, whose number this is, and points of it.
 fn is_shape(
     program: &CoreProgram,
     function: &CoreFunction,
@@ -253,16 +128,7 @@ fn is_shape(
 ) -> bool
     ensures { IsTrue result ↔ IsShape program.now function.now number.0 shape.now }
 {
-    if !reads_are_in(function, shape) {
-        return false;
-    }
-    if !stores_are_in(function, shape) {
-        return false;
-    }
-    if !asks_are_in(function, shape) {
-        return false;
-    }
-    ways_are_in(program, function, number, shape)
+    slots_are_in(function, shape) && ways_are_in(program, number, shape)
 }
 
 // Whether no way leads back to the point with this number.

@@ -11,20 +11,17 @@ use Rattle.core_ir.specs.Program.{Function, Program}
 use Rattle.core_ir.specs.declared.facts.SlotFact.{SlotFact}
 use Rattle.core_ir.specs.declared.values.Value.TheVariants.{Null, Integer, Boolean}
 use Rattle.core_ir.specs.declared.points.FunctionId.{FunctionId}
-use Rattle.core_ir.specs.declared.points.Operand.{Operand}
 use Rattle.core_ir.specs.declared.points.Operand.TheVariants.{Slot, Constant}
 use Rattle.core_ir.specs.declared.points.Point.{Point}
 use Rattle.core_ir.specs.declared.points.PointId.{PointId}
-use Rattle.core_ir.specs.declared.points.SlotId.{SlotId}
 use Rattle.core_ir.specs.declared.points.Span.{Span}
 use Rattle.core_ir.specs.declared.points.Term.{Term}
 use Rattle.core_ir.specs.declared.points.Term.TheVariants.{Goto, End}
-use Rattle.core_check.specs.declared.parts.TypeSource.{TypeSource}
 use Rattle.core_check.specs.declared.parts.TypeSource.TheVariants.{IntType, BoolType, OperandType, NonNullType}
 use Rattle.core_check.specs.declared.parts.Change.{Change}
 use Rattle.core_check.specs.Known.{no_point, function_at}
-use Rattle.core_check.specs.Shapes.{TermShape, WayShape, shape, puts, asks_of, holds, is_fresh, narrows, way, straight, on_integers, on_bool, on_constant}
-use Rattle.core_check.specs.WellFormed.{IsSlot, IsOperand, IsSource, IsStored, IsAsked, IsChange, IsShape, IsPointOf}
+use Rattle.core_check.specs.Shapes.{TermShape, WayShape, shape, holds, is_fresh, narrows, way, straight}
+use Rattle.core_check.specs.WellFormed.{IsSlot, IsShape, IsPointOf}
 use Rattle.core_emit.specs.Code.{Code, Step, Test, stores, declares, initializes, adds, compares, differs, prints, goes_on, on_truth, on_not_null, nothing, leaf, sequence, choice, loop, step_to, test_to}
 use Rattle.core_emit.specs.Emitted.{Made, with_point, with_term, emit, with_points, IsStepOf, IsTestOf, AreFactsOf, IsCodeOf, AllFormed}
 
@@ -40,129 +37,59 @@ module _ (g : Function) where
   pub record Goes (n k : ℕ) (way : WayShape) : Type 0 where
     pub next_in : way.next.0 < n
     pub apart : way.next.0 ≢ k
-    pub changes_in : All (IsChange g) way.changes
 
-  -- the function has what a shape names, and its ways go to other points
+  -- the function has the slots that a shape names, and its ways go to other points
   pub record HasParts (n k : ℕ) (s : TermShape) : Type 0 where
-    pub reads_in : All (IsOperand g) s.reads
-    pub stores_in : All (IsStored g) s.stores
-    pub asks_in : All (IsAsked g) s.asks
+    pub slots_in : All (IsSlot g) s.slots
     pub ways_in : All (Goes n k) s.ways
 
   -- more points are there
   parts_of_more : (m n k : ℕ) (s : TermShape) → m ≤ n → HasParts m k s → HasParts n k s
   parts_of_more m n k s le has = record {
-    reads_in = has.reads_in;
-    stores_in = has.stores_in;
-    asks_in = has.asks_in;
-    ways_in =
-        All-weaker (Goes m k) (Goes n k)
-        (λ way goes. record { next_in = let lt = goes.next_in in omega arith; apart = goes.apart; changes_in = goes.changes_in }) s.ways has.ways_in;
+    slots_in = has.slots_in;
+    ways_in = All-weaker (Goes m k) (Goes n k) (λ way goes. record { next_in = let lt = goes.next_in in omega arith; apart = goes.apart }) s.ways has.ways_in;
   }
 
-  store_in : (to : SlotId) (source : TypeSource) → IsSlot g to → IsSource g source → All (IsStored g) (puts to source ∷ [])
-  store_in to source slot_in source_in = one (IsStored g) (puts to source) (record { slot_in = slot_in; ty_in = source_in })
-
-  hold_in : (to : SlotId) (source : TypeSource) → IsSlot g to → IsSource g source → IsChange g (holds to source)
-  hold_in to source slot_in source_in = record { slot_in = slot_in; how_in = source_in }
-
-  fresh_in : (slot : SlotId) → IsSlot g slot → IsChange g (is_fresh slot)
-  fresh_in slot slot_in = record { slot_in = slot_in; how_in = tt }
-
-  asked_in : (operand : Operand) (source : TypeSource) → IsOperand g operand → IsSource g source → IsAsked g (asks_of operand source)
-  asked_in operand source operand_in source_in = record { found_in = operand_in; expected_in = source_in }
-
   module _ (n k : ℕ) where
-    goes_straight : (next : PointId) → next.0 < n → next.0 ≢ k → Goes n k (straight next)
-    goes_straight next lt apart = record { next_in = lt; apart = apart; changes_in = All-nil (IsChange g) }
-
-    goes : (next : PointId) (changes : List Change) → next.0 < n → next.0 ≢ k → All (IsChange g) changes → All (Goes n k) (way next changes ∷ [])
-    goes next changes lt apart all = one (Goes n k) (way next changes) (record { next_in = lt; apart = apart; changes_in = all })
-
-    integers_parts : (to : SlotId) (left right : Operand) (source : TypeSource) (next : PointId) → IsSlot g to → IsOperand g left → IsOperand g right → IsSource g source → next.0 < n → next.0 ≢ k → HasParts n k (on_integers to left right source next)
-    integers_parts to left right source next to_in left_in right_in source_in lt apart = record {
-      reads_in = two (IsOperand g) left right left_in right_in;
-      stores_in = store_in to source to_in source_in;
-      asks_in = two (IsAsked g) (asks_of left IntType) (asks_of right IntType) (asked_in left IntType left_in tt) (asked_in right IntType right_in tt);
-      ways_in = goes next (holds to source ∷ []) lt apart (one (IsChange g) (holds to source) (hold_in to source to_in source_in));
-    }
-
-    bool_parts : (on : Operand) (first second : PointId) → IsOperand g on → first.0 < n → first.0 ≢ k → second.0 < n → second.0 ≢ k → HasParts n k (on_bool on first second)
-    bool_parts on first second on_in first_lt first_apart second_lt second_apart = record {
-      reads_in = one (IsOperand g) on on_in;
-      stores_in = All-nil (IsStored g);
-      asks_in = one (IsAsked g) (asks_of on BoolType) (asked_in on BoolType on_in tt);
-      ways_in = two (Goes n k) (straight first) (straight second) (goes_straight first first_lt first_apart) (goes_straight second second_lt second_apart);
-    }
-
-    constant_parts : (on : Operand) (next : PointId) → IsOperand g on → next.0 < n → next.0 ≢ k → HasParts n k (on_constant on next)
-    constant_parts on next on_in lt apart = record {
-      reads_in = one (IsOperand g) on on_in;
-      stores_in = All-nil (IsStored g);
-      asks_in = one (IsAsked g) (asks_of on BoolType) (asked_in on BoolType on_in tt);
-      ways_in = one (Goes n k) (straight next) (goes_straight next lt apart);
-    }
-
     end_parts : HasParts n k (shape End)
-    end_parts = record { reads_in = All-nil (IsOperand g); stores_in = All-nil (IsStored g); asks_in = All-nil (IsAsked g); ways_in = All-nil (Goes n k) }
+    end_parts = record { slots_in = All-nil (IsSlot g); ways_in = All-nil (Goes n k) }
 
-    -- the parts of the term of a step
+    -- the ways of the term of a step
+    module _ (next : PointId) (lt : next.0 < n) (apart : next.0 ≢ k) where
+      goes : (changes : List Change) → All (Goes n k) (way next changes ∷ [])
+      goes changes = one (Goes n k) (way next changes) (record { next_in = lt; apart = apart })
+
+      step_goes : (step : Step) → All (Goes n k) (shape (step_to step next)).ways
+      step_goes (stores to from) = goes (holds to (OperandType from) ∷ [])
+      step_goes (declares slot) = goes (is_fresh slot ∷ [])
+      step_goes (initializes slot from) = goes (is_fresh slot ∷ holds slot (OperandType from) ∷ [])
+      step_goes (adds to left right) = goes (holds to IntType ∷ [])
+      step_goes (compares to left right) = goes (holds to BoolType ∷ [])
+      step_goes (differs to left right) = goes (holds to BoolType ∷ [])
+      step_goes (prints from) = goes []
+      step_goes goes_on = goes []
+
     step_parts : (step : Step) (next : PointId) → IsStepOf g step → next.0 < n → next.0 ≢ k → HasParts n k (shape (step_to step next))
-    step_parts (stores to from) next has lt apart = record {
-      reads_in = one (IsOperand g) from has.1;
-      stores_in = store_in to (OperandType from) has.0 has.1;
-      asks_in = All-nil (IsAsked g);
-      ways_in = goes next (holds to (OperandType from) ∷ []) lt apart (one (IsChange g) (holds to (OperandType from)) (hold_in to (OperandType from) has.0 has.1));
-    }
-    step_parts (declares slot) next has lt apart = record {
-      reads_in = All-nil (IsOperand g);
-      stores_in = All-nil (IsStored g);
-      asks_in = All-nil (IsAsked g);
-      ways_in = goes next (is_fresh slot ∷ []) lt apart (one (IsChange g) (is_fresh slot) (fresh_in slot has));
-    }
-    step_parts (initializes slot from) next has lt apart = record {
-      reads_in = one (IsOperand g) from has.1;
-      stores_in = store_in slot (OperandType from) has.0 has.1;
-      asks_in = All-nil (IsAsked g);
-      ways_in =
-          goes next (is_fresh slot ∷ holds slot (OperandType from) ∷ []) lt apart
-          (two (IsChange g) (is_fresh slot) (holds slot (OperandType from)) (fresh_in slot has.0) (hold_in slot (OperandType from) has.0 has.1));
-    }
-    step_parts (adds to left right) next has lt apart = integers_parts to left right IntType next has.0 has.1.0 has.1.1 tt lt apart
-    step_parts (compares to left right) next has lt apart = integers_parts to left right BoolType next has.0 has.1.0 has.1.1 tt lt apart
-    step_parts (differs to left right) next has lt apart = record {
-      reads_in = two (IsOperand g) left right has.1.0 has.1.1;
-      stores_in = store_in to BoolType has.0 tt;
-      asks_in = All-nil (IsAsked g);
-      ways_in = goes next (holds to BoolType ∷ []) lt apart (one (IsChange g) (holds to BoolType) (hold_in to BoolType has.0 tt));
-    }
-    step_parts (prints from) next has lt apart = record {
-      reads_in = one (IsOperand g) from has;
-      stores_in = All-nil (IsStored g);
-      asks_in = All-nil (IsAsked g);
-      ways_in = one (Goes n k) (straight next) (goes_straight next lt apart);
-    }
-    step_parts goes_on next has lt apart = record {
-      reads_in = All-nil (IsOperand g);
-      stores_in = All-nil (IsStored g);
-      asks_in = All-nil (IsAsked g);
-      ways_in = one (Goes n k) (straight next) (goes_straight next lt apart);
-    }
+    step_parts step next has lt apart = record { slots_in = has next; ways_in = step_goes next lt apart step }
 
     -- and of the term of a test
+    module _ (first second : PointId) (first_lt : first.0 < n) (first_apart : first.0 ≢ k) (second_lt : second.0 < n) (second_apart : second.0 ≢ k) where
+      both_ways : All (Goes n k) (straight first ∷ straight second ∷ [])
+      both_ways = two (Goes n k) (straight first) (straight second) (record { next_in = first_lt; apart = first_apart }) (record { next_in = second_lt; apart = second_apart })
+
+      test_goes : (test : Test) → All (Goes n k) (shape (test_to test first second)).ways
+      test_goes (on_truth (Slot slot)) = both_ways
+      test_goes (on_truth (Constant Null)) = both_ways
+      test_goes (on_truth (Constant (Integer i))) = both_ways
+      test_goes (on_truth (Constant (Boolean true))) = goes first first_lt first_apart []
+      test_goes (on_truth (Constant (Boolean false))) = goes second second_lt second_apart []
+      test_goes (on_not_null slot) =
+          two (Goes n k) (straight second) (way first (narrows slot (NonNullType slot) ∷ [])) (record { next_in = second_lt; apart = second_apart }) (record { next_in = first_lt; apart = first_apart })
+
     test_parts : (test : Test) (first second : PointId) → IsTestOf g test → first.0 < n → first.0 ≢ k → second.0 < n → second.0 ≢ k → HasParts n k (shape (test_to test first second))
-    test_parts (on_truth (Slot slot)) first second has first_lt first_apart second_lt second_apart = bool_parts (Slot slot) first second has first_lt first_apart second_lt second_apart
-    test_parts (on_truth (Constant Null)) first second has first_lt first_apart second_lt second_apart = bool_parts (Constant Null) first second has first_lt first_apart second_lt second_apart
-    test_parts (on_truth (Constant (Integer i))) first second has first_lt first_apart second_lt second_apart = bool_parts (Constant (Integer i)) first second has first_lt first_apart second_lt second_apart
-    test_parts (on_truth (Constant (Boolean true))) first second has first_lt first_apart second_lt second_apart = constant_parts (Constant (Boolean true)) first has first_lt first_apart
-    test_parts (on_truth (Constant (Boolean false))) first second has first_lt first_apart second_lt second_apart = constant_parts (Constant (Boolean false)) second has second_lt second_apart
-    test_parts (on_not_null slot) first second has first_lt first_apart second_lt second_apart = record {
-      reads_in = one (IsOperand g) (Slot slot) has;
-      stores_in = All-nil (IsStored g);
-      asks_in = All-nil (IsAsked g);
-      ways_in =
-          two (Goes n k) (straight second) (way first (narrows slot (NonNullType slot) ∷ [])) (goes_straight second second_lt second_apart)
-          (record { next_in = first_lt; apart = first_apart; changes_in = one (IsChange g) (narrows slot (NonNullType slot)) (record { slot_in = has; how_in = has }) });
+    test_parts test first second has first_lt first_apart second_lt second_apart = record {
+      slots_in = has first second;
+      ways_in = test_goes first second first_lt first_apart second_lt second_apart test;
     }
 
   module _ (id : FunctionId) where
@@ -306,7 +233,7 @@ module _ (g : Function) where
         let at_in : start.entry.0 < length asks.points = omega arith in
         let told_n = told_length asks.points c.all start.entry (Goto asks.entry) at_in in
         record {
-          all = tell asks.points c.all start.entry (Goto asks.entry) at_in (step_parts (length asks.points) start.entry.0 goes_on asks.entry tt c_in (λ e. absurd (omega arith)));
+          all = tell asks.points c.all start.entry (Goto asks.entry) at_in (step_parts (length asks.points) start.entry.0 goes_on asks.entry (λ next. All-nil (IsSlot g)) c_in (λ e. absurd (omega arith)));
           longer = omega arith;
           entry_in = omega arith;
           entry_new = inr (omega arith);
@@ -323,10 +250,8 @@ module _ (g : Function) where
             own = own;
             listed_in = subst (λ (h : Function). All (λ (fact : SlotFact). IsSlot h fact.slot) point.facts.listed) same is.listed_in;
             parts_in = record {
-              reads_in = parts.reads_in;
-              stores_in = parts.stores_in;
-              asks_in = parts.asks_in;
-              ways_in = λ j d lt. record { next_in = (parts.ways_in j d lt).next_in; apart = is.moves_on j d lt; changes_in = (parts.ways_in j d lt).changes_in };
+              slots_in = parts.slots_in;
+              ways_in = λ j d lt. record { next_in = (parts.ways_in j d lt).next_in; apart = is.moves_on j d lt };
             };
           }
 
@@ -335,13 +260,10 @@ module _ (g : Function) where
           let same : g ≡ function_at p point.function.0 = sym (ap (function_at p) is.own ∙ function_is) in
           let parts : IsShape (with_points p points) g point.function.0 (shape point.term) =
           record {
-            reads_in = is.parts_in.reads_in;
-            stores_in = is.parts_in.stores_in;
-            asks_in = is.parts_in.asks_in;
+            slots_in = is.parts_in.slots_in;
             ways_in = λ j d lt. record {
               next_in = (is.parts_in.ways_in j d lt).next_in;
               same_function = (all.each (get_or (shape point.term).ways j d).next.0 (is.parts_in.ways_in j d lt).next_in).own ∙ sym is.own;
-              changes_in = (is.parts_in.ways_in j d lt).changes_in;
             };
           } in
           record {

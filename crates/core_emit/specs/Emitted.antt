@@ -13,8 +13,8 @@ use Rattle.core_ir.specs.declared.points.Term.TheVariants.{Goto, End}
 use Rattle.core_check.specs.Accepted.{IsFine}
 use Rattle.core_check.specs.Known.{no_point, facts_at, function_at, point_at}
 use Rattle.core_check.specs.Shapes.{shape}
-use Rattle.core_check.specs.WellFormed.{IsSlot, IsOperand, IsPointOf}
-use Rattle.core_emit.specs.Code.{Code, Step, Test, stores, declares, initializes, adds, compares, differs, prints, goes_on, on_truth, on_not_null, nothing, leaf, sequence, choice, loop, step_to, test_to}
+use Rattle.core_check.specs.WellFormed.{IsSlot, IsPointOf}
+use Rattle.core_emit.specs.Code.{Code, Step, Test, goes_on, nothing, leaf, sequence, choice, loop, step_to, test_to}
 
 -- points, and the one among them at which the code that was made last begins
 pub record Made : Type 0 where
@@ -100,21 +100,13 @@ EmitsFinePoints p g id code after next old =
 
 -- Slots and numbers.
 
--- a step names what the function has
+-- the function has the slots that a step names, wherever the step goes on
 abbrev pub IsStepOf : Function → Step → Type 0
-IsStepOf g (stores to from) = IsSlot g to × IsOperand g from
-IsStepOf g (declares slot) = IsSlot g slot
-IsStepOf g (initializes slot from) = IsSlot g slot × IsOperand g from
-IsStepOf g (adds to left right) = IsSlot g to × (IsOperand g left × IsOperand g right)
-IsStepOf g (compares to left right) = IsSlot g to × (IsOperand g left × IsOperand g right)
-IsStepOf g (differs to left right) = IsSlot g to × (IsOperand g left × IsOperand g right)
-IsStepOf g (prints from) = IsOperand g from
-IsStepOf g goes_on = Unit {0}
+IsStepOf g step = (next : PointId) → All (IsSlot g) (shape (step_to step next)).slots
 
--- so does a test
+-- and those that a test names
 abbrev pub IsTestOf : Function → Test → Type 0
-IsTestOf g (on_truth on) = IsOperand g on
-IsTestOf g (on_not_null slot) = IsSlot g slot
+IsTestOf g test = (first second : PointId) → All (IsSlot g) (shape (test_to test first second)).slots
 
 -- facts are of slots that the function has
 abbrev pub AreFactsOf : Function → PointFacts → Type 0

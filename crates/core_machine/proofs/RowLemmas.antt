@@ -30,7 +30,9 @@ use Rattle.core_check.specs.declared.parts.How.TheVariants.{Fresh, Holds as Hold
 use Rattle.core_check.specs.declared.parts.Stored.{Stored}
 use Rattle.core_check.specs.declared.parts.Asked.{Asked}
 use Rattle.core_check.specs.declared.parts.Change.{Change}
-use Rattle.core_check.specs.WellFormed.{IsSlot, IsOperand, IsWay, IsShape, IsWellFormed}
+use Rattle.core_check.specs.WellFormed.{IsSlot, IsWay, IsShape, IsWellFormed}
+use Rattle.core_check.specs.Named.{IsOperand, IsNamed}
+use Rattle.core_check.specs.NamedSlots.{named}
 use Rattle.core_check.specs.Known.{no_point, function_at, point_at, facts_at, known_of, is_shared, held_type, slot_type, operand_type}
 use Rattle.core_check.specs.Shapes.{WayShape, shape, way, straight, holds, is_fresh, narrows, puts, asks_of}
 use Rattle.core_check.specs.Types.{type_from, held_as, changed, known_on, without_null}
@@ -86,7 +88,7 @@ module _ (p : Program) (laws : RowLaws p.rows.table) (out : LeavesNothingOut p.r
   after changes = known_on p g facts changes
 
   -- a frame that comes on a way to a next point fits there
-  arrives : (slots : Slots) (on : WayShape) → IsWay p g f.function.0 on → SlotsFit p g slots → ViewFits p g slots (after on.changes) → Leads p g facts on → FrameFits p (record f { point = on.next; slots = slots })
+  arrives : (slots : Slots) (on : WayShape) → IsWay p f.function.0 on → SlotsFit p g slots → ViewFits p g slots (after on.changes) → Leads p g facts on → FrameFits p (record f { point = on.next; slots = slots })
   arrives slots on is_way slots_fit view_fits leads = record {
     function_in = function_in;
     inside = is_way.next_in;
@@ -130,7 +132,7 @@ module _ (p : Program) (laws : RowLaws p.rows.table) (out : LeavesNothingOut p.r
   held_as_typed slot t v false declared typed = typed
 
   -- a value that has the declared type of a slot goes into it, and the slot has what is known then
-  good_put : (to : SlotId) (next : PointId) (changes : List Change) (now : Known) (v : Value) → IsWay p g f.function.0 (way next changes) → IsSlot g to → IsTrue (has_type p v (declared_at g to.0)) → after changes to.0 ≡ now → ((i : ℕ) → i ≢ to.0 → after changes i ≡ known_of facts i) → IsTrue (has_type p v (held_type (declared_at g to.0) now.held)) → Leads p g facts (way next changes) → IsGood p f (put p g to next v)
+  good_put : (to : SlotId) (next : PointId) (changes : List Change) (now : Known) (v : Value) → IsWay p f.function.0 (way next changes) → IsSlot g to → IsTrue (has_type p v (declared_at g to.0)) → after changes to.0 ≡ now → ((i : ℕ) → i ≢ to.0 → after changes i ≡ known_of facts i) → IsTrue (has_type p v (held_type (declared_at g to.0) now.held)) → Leads p g facts (way next changes) → IsGood p f (put p g to next v)
   good_put to next changes now v is_way here declared same others typed leads =
       let wide = fit.wide in
       let within : to.0 < length f.slots = omega arith in
@@ -145,16 +147,15 @@ module _ (p : Program) (laws : RowLaws p.rows.table) (out : LeavesNothingOut p.r
       )
 
   -- a value of a type that fits goes into the cell of a slot
-  good_store : (to : SlotId) (next : PointId) (ty : TypeSource) (v : Value) → IsWay p g f.function.0 (way next (holds to ty ∷ [])) → IsTrue (has_type p v (type_from p g facts ty)) → IsTrue (sub p.rows.table (type_from p g facts ty) (declared_at g to.0)) → Leads p g facts (way next (holds to ty ∷ [])) → IsGood p f (put p g to next v)
-  good_store to next ty v is_way typed below leads =
-      let here = (is_way.changes_in 0 (holds to ty) (lit< tt)).slot_in in
+  good_store : (to : SlotId) (next : PointId) (ty : TypeSource) (v : Value) → IsWay p f.function.0 (way next (holds to ty ∷ [])) → IsSlot g to → IsTrue (has_type p v (type_from p g facts ty)) → IsTrue (sub p.rows.table (type_from p g facts ty) (declared_at g to.0)) → Leads p g facts (way next (holds to ty ∷ [])) → IsGood p f (put p g to next v)
+  good_store to next ty v is_way here typed below leads =
       let declared = has_supertype p laws out v (type_from p g facts ty) (declared_at g to.0) typed below in
       good_put to next (holds to ty ∷ []) (changed p g facts (HoldsType ty) (known_of facts to.0)) v is_way here declared (changed_same to (HoldsType ty)) (changed_other to (HoldsType ty))
       (held_as_typed to (type_from p g facts ty) v (is_shared (known_of facts to.0).held) declared typed) leads
 
   -- an operator of int on two operands that are asked to be integers
-  good_operator : (operator : ℤ → ℤ → Value) (ty : TypeSource) → ((a b : ℤ) → IsTrue (has_type p (operator a b) (type_from p g facts ty))) → (to : SlotId) (next : PointId) (left right : Operand) → IsOperand g left → IsOperand g right → IsWay p g f.function.0 (way next (holds to ty ∷ [])) → IsReadable facts left → IsReadable facts right → IsTrue (sub p.rows.table (type_from p g facts ty) (declared_at g to.0)) → IsTrue (sub p.rows.table (operand_type g facts left) int) → IsTrue (sub p.rows.table (operand_type g facts right) int) → Leads p g facts (way next (holds to ty ∷ [])) → IsGood p f (with_value (value_of f.slots left) (λ a. with_value (value_of f.slots right) (on_integers operator (put p g to next) a)))
-  good_operator operator ty gives to next left right left_in right_in is_way left_read right_read below left_asked right_asked leads =
+  good_operator : (operator : ℤ → ℤ → Value) (ty : TypeSource) → ((a b : ℤ) → IsTrue (has_type p (operator a b) (type_from p g facts ty))) → (to : SlotId) (next : PointId) (left right : Operand) → IsSlot g to → IsOperand g left → IsOperand g right → IsWay p f.function.0 (way next (holds to ty ∷ [])) → IsReadable facts left → IsReadable facts right → IsTrue (sub p.rows.table (type_from p g facts ty) (declared_at g to.0)) → IsTrue (sub p.rows.table (operand_type g facts left) int) → IsTrue (sub p.rows.table (operand_type g facts right) int) → Leads p g facts (way next (holds to ty ∷ [])) → IsGood p f (with_value (value_of f.slots left) (λ a. with_value (value_of f.slots right) (on_integers operator (put p g to next) a)))
+  good_operator operator ty gives to next left right here left_in right_in is_way left_read right_read below left_asked right_asked leads =
       let x = got left left_in left_read in
       let y = got right right_in right_read in
       good_with p f _ _ x.value x.held (good_with p f _ _ y.value y.held (both x.value y.value
@@ -166,7 +167,7 @@ module _ (p : Program) (laws : RowLaws p.rows.table) (out : LeavesNothingOut p.r
       both (Boolean a) b ha hb = absurd ha
       both (Integer a) Null ha hb = absurd hb
       both (Integer a) (Boolean b) ha hb = absurd hb
-      both (Integer a) (Integer b) ha hb = good_store to next ty (operator a b) is_way (gives a b) below leads
+      both (Integer a) (Integer b) ha hb = good_store to next ty (operator a b) is_way here (gives a b) below leads
 
   good_choose : (v : Value) (when_true when_false : PointId) → IsBoolean v → FrameFits p (record f { point = when_true }) → FrameFits p (record f { point = when_false }) → IsGood p f (choose when_true when_false v)
   good_choose Null when_true when_false h a b = absurd h
@@ -175,7 +176,7 @@ module _ (p : Program) (laws : RowLaws p.rows.table) (out : LeavesNothingOut p.r
   good_choose (Boolean false) when_true when_false h a b = b
 
   -- a branch on what is no constant bool
-  good_branch : (on : Operand) (when_true when_false : PointId) → IsOperand g on → IsWay p g f.function.0 (straight when_true) → IsWay p g f.function.0 (straight when_false) → IsReadable facts on → IsTrue (sub p.rows.table (operand_type g facts on) bool) → Leads p g facts (straight when_true) → Leads p g facts (straight when_false) → IsGood p f (with_value (value_of f.slots on) (choose when_true when_false))
+  good_branch : (on : Operand) (when_true when_false : PointId) → IsOperand g on → IsWay p f.function.0 (straight when_true) → IsWay p f.function.0 (straight when_false) → IsReadable facts on → IsTrue (sub p.rows.table (operand_type g facts on) bool) → Leads p g facts (straight when_true) → Leads p g facts (straight when_false) → IsGood p f (with_value (value_of f.slots on) (choose when_true when_false))
   good_branch on when_true when_false on_in true_in false_in read asked to_true to_false =
       let x = got on on_in read in
       good_with p f _ _ x.value x.held (good_choose x.value when_true when_false (boolean_from p well x.value (has_supertype p laws out x.value _ bool x.typed asked))
@@ -189,9 +190,8 @@ module _ (p : Program) (laws : RowLaws p.rows.table) (out : LeavesNothingOut p.r
   narrowed_typed slot v Shared some h = h
 
   -- a test for null narrows the slot where it isn't null
-  good_test : (slot : SlotId) (null other : PointId) → IsWay p g f.function.0 (straight null) → IsWay p g f.function.0 (way other (narrows slot (NonNullType slot) ∷ [])) → IsReadable facts (Slot slot) → Leads p g facts (straight null) → Leads p g facts (way other (narrows slot (NonNullType slot) ∷ [])) → IsGood p f (with_value (value_at f.slots slot) (λ v. Does (Go (if_null null other v))))
-  good_test slot null other null_in other_in read to_null to_other =
-      let here = (other_in.changes_in 0 (narrows slot (NonNullType slot)) (lit< tt)).slot_in in
+  good_test : (slot : SlotId) (null other : PointId) → IsSlot g slot → IsWay p f.function.0 (straight null) → IsWay p f.function.0 (way other (narrows slot (NonNullType slot) ∷ [])) → IsReadable facts (Slot slot) → Leads p g facts (straight null) → Leads p g facts (way other (narrows slot (NonNullType slot) ∷ [])) → IsGood p f (with_value (value_at f.slots slot) (λ v. Does (Go (if_null null other v))))
+  good_test slot null other here null_in other_in read to_null to_other =
       let x = got (Slot slot) here read in
       good_with p f _ _ x.value x.held (by_value here x.value x.held x.typed)
     where
@@ -215,13 +215,13 @@ module _ (p : Program) (laws : RowLaws p.rows.table) (out : LeavesNothingOut p.r
       by_value here (Boolean b) held typed = narrowed here (Boolean b) tt held typed
 
   -- the row of a term whose shape no clause fails at
-  good_row : (term : Term) → IsShape p g f.function.0 (shape term) → IsFine p g facts (shape term) → IsGood p f (row p g f.slots term)
-  good_row (Store to from next) inside fine =
-      let x = got from (inside.reads_in 0 from (lit< tt)) (fine.read 0 from (lit< tt)) in
-      good_with p f _ _ x.value x.held (good_store to next (OperandType from) x.value (inside.ways_in 0 (no_way next) (lit< tt)) x.typed (fine.stored 0 (no_store to) (lit< tt)) (fine.leads 0 (no_way next) (lit< tt)))
-  good_row (Declare slot next) inside fine =
+  good_row : (term : Term) → IsShape p g f.function.0 (shape term) → IsNamed g (shape term) → IsFine p g facts (shape term) → IsGood p f (row p g f.slots term)
+  good_row (Store to from next) inside parts fine =
+      let x = got from (parts.reads_in 0 from (lit< tt)) (fine.read 0 from (lit< tt)) in
+      good_with p f _ _ x.value x.held (good_store to next (OperandType from) x.value (inside.ways_in 0 (no_way next) (lit< tt)) (parts.stores_in 0 (no_store to) (lit< tt)).slot_in x.typed (fine.stored 0 (no_store to) (lit< tt)) (fine.leads 0 (no_way next) (lit< tt)))
+  good_row (Declare slot next) inside parts fine =
       let is_way = inside.ways_in 0 (no_way next) (lit< tt) in
-      let here = (is_way.changes_in 0 (is_fresh slot) (lit< tt)).slot_in in
+      let here = inside.slots_in 0 slot (lit< tt) in
       let wide = fit.wide in
       let within : slot.0 < length f.slots = omega arith in (
         within,
@@ -231,47 +231,47 @@ module _ (p : Program) (laws : RowLaws p.rows.table) (out : LeavesNothingOut p.r
             (λ assigned. absurd (let no : false ≡ true = ap (λ (k : Known). k.assigned) (sym (changed_same slot Fresh)) ∙ assigned in cc)) fits)
             (fine.leads 0 (no_way next) (lit< tt)),
       )
-  good_row (Initialize slot from next) inside fine =
-      let x = got from (inside.reads_in 0 from (lit< tt)) (fine.read 0 from (lit< tt)) in
+  good_row (Initialize slot from next) inside parts fine =
+      let x = got from (parts.reads_in 0 from (lit< tt)) (fine.read 0 from (lit< tt)) in
       let is_way = inside.ways_in 0 (no_way next) (lit< tt) in
-      let here = (is_way.changes_in 0 (is_fresh slot) (lit< tt)).slot_in in
+      let here = (parts.stores_in 0 (no_store slot) (lit< tt)).slot_in in
       let declared = has_supertype p laws out x.value (operand_type g facts from) (declared_at g slot.0) x.typed (fine.stored 0 (no_store slot) (lit< tt)) in
       good_with p f _ _ x.value x.held (good_put slot next (is_fresh slot ∷ holds slot (OperandType from) ∷ []) (record { assigned = true; held = Own (operand_type g facts from) }) x.value is_way here declared
       (fresh_same slot (HoldsType (OperandType from))) (fresh_other slot (HoldsType (OperandType from))) x.typed (fine.leads 0 (no_way next) (lit< tt)))
-  good_row (Add to left right next) inside fine =
-      good_operator sum_of IntType (λ a b. has_own_type p laws (sum_of a b)) to next left right (inside.reads_in 0 left (lit< tt)) (inside.reads_in 1 left (lit< tt)) (inside.ways_in 0 (no_way next) (lit< tt))
+  good_row (Add to left right next) inside parts fine =
+      good_operator sum_of IntType (λ a b. has_own_type p laws (sum_of a b)) to next left right (parts.stores_in 0 (no_store to) (lit< tt)).slot_in (parts.reads_in 0 left (lit< tt)) (parts.reads_in 1 left (lit< tt)) (inside.ways_in 0 (no_way next) (lit< tt))
       (fine.read 0 left (lit< tt)) (fine.read 1 left (lit< tt)) (fine.stored 0 (no_store to) (lit< tt))
       (fine.asked 0 (no_ask left) (lit< tt)) (fine.asked 1 (no_ask left) (lit< tt)) (fine.leads 0 (no_way next) (lit< tt))
-  good_row (Less to left right next) inside fine =
-      good_operator less_of BoolType (λ a b. has_own_type p laws (less_of a b)) to next left right (inside.reads_in 0 left (lit< tt)) (inside.reads_in 1 left (lit< tt)) (inside.ways_in 0 (no_way next) (lit< tt))
+  good_row (Less to left right next) inside parts fine =
+      good_operator less_of BoolType (λ a b. has_own_type p laws (less_of a b)) to next left right (parts.stores_in 0 (no_store to) (lit< tt)).slot_in (parts.reads_in 0 left (lit< tt)) (parts.reads_in 1 left (lit< tt)) (inside.ways_in 0 (no_way next) (lit< tt))
       (fine.read 0 left (lit< tt)) (fine.read 1 left (lit< tt)) (fine.stored 0 (no_store to) (lit< tt))
       (fine.asked 0 (no_ask left) (lit< tt)) (fine.asked 1 (no_ask left) (lit< tt)) (fine.leads 0 (no_way next) (lit< tt))
-  good_row (NotEqual to left right next) inside fine =
-      let x = got left (inside.reads_in 0 left (lit< tt)) (fine.read 0 left (lit< tt)) in
-      let y = got right (inside.reads_in 1 left (lit< tt)) (fine.read 1 left (lit< tt)) in
+  good_row (NotEqual to left right next) inside parts fine =
+      let x = got left (parts.reads_in 0 left (lit< tt)) (fine.read 0 left (lit< tt)) in
+      let y = got right (parts.reads_in 1 left (lit< tt)) (fine.read 1 left (lit< tt)) in
       good_with p f _ _ x.value x.held (good_with p f _ _ y.value y.held
-      (good_store to next BoolType (Boolean (not (same_value x.value y.value))) (inside.ways_in 0 (no_way next) (lit< tt)) (has_own_type p laws (Boolean (not (same_value x.value y.value)))) (fine.stored 0 (no_store to) (lit< tt)) (fine.leads 0 (no_way next) (lit< tt))))
-  good_row (Branch (Slot slot) when_true when_false) inside fine =
-      good_branch (Slot slot) when_true when_false (inside.reads_in 0 (Slot slot) (lit< tt)) (inside.ways_in 0 (no_way when_true) (lit< tt)) (inside.ways_in 1 (no_way when_true) (lit< tt))
+      (good_store to next BoolType (Boolean (not (same_value x.value y.value))) (inside.ways_in 0 (no_way next) (lit< tt)) (parts.stores_in 0 (no_store to) (lit< tt)).slot_in (has_own_type p laws (Boolean (not (same_value x.value y.value)))) (fine.stored 0 (no_store to) (lit< tt)) (fine.leads 0 (no_way next) (lit< tt))))
+  good_row (Branch (Slot slot) when_true when_false) inside parts fine =
+      good_branch (Slot slot) when_true when_false (parts.reads_in 0 (Slot slot) (lit< tt)) (inside.ways_in 0 (no_way when_true) (lit< tt)) (inside.ways_in 1 (no_way when_true) (lit< tt))
       (fine.read 0 (Slot slot) (lit< tt)) (fine.asked 0 (no_ask (Slot slot)) (lit< tt)) (fine.leads 0 (no_way when_true) (lit< tt)) (fine.leads 1 (no_way when_true) (lit< tt))
-  good_row (Branch (Constant Null) when_true when_false) inside fine =
+  good_row (Branch (Constant Null) when_true when_false) inside parts fine =
       good_branch (Constant Null) when_true when_false tt (inside.ways_in 0 (no_way when_true) (lit< tt)) (inside.ways_in 1 (no_way when_true) (lit< tt))
       refl (fine.asked 0 (no_ask (Constant Null)) (lit< tt)) (fine.leads 0 (no_way when_true) (lit< tt)) (fine.leads 1 (no_way when_true) (lit< tt))
-  good_row (Branch (Constant (Integer n)) when_true when_false) inside fine =
+  good_row (Branch (Constant (Integer n)) when_true when_false) inside parts fine =
       good_branch (Constant (Integer n)) when_true when_false tt (inside.ways_in 0 (no_way when_true) (lit< tt)) (inside.ways_in 1 (no_way when_true) (lit< tt))
       refl (fine.asked 0 (no_ask (Constant Null)) (lit< tt)) (fine.leads 0 (no_way when_true) (lit< tt)) (fine.leads 1 (no_way when_true) (lit< tt))
-  good_row (Branch (Constant (Boolean true)) when_true when_false) inside fine =
+  good_row (Branch (Constant (Boolean true)) when_true when_false) inside parts fine =
       arrives f.slots (straight when_true) (inside.ways_in 0 (no_way when_true) (lit< tt)) fit fits (fine.leads 0 (no_way when_true) (lit< tt))
-  good_row (Branch (Constant (Boolean false)) when_true when_false) inside fine =
+  good_row (Branch (Constant (Boolean false)) when_true when_false) inside parts fine =
       arrives f.slots (straight when_false) (inside.ways_in 0 (no_way when_false) (lit< tt)) fit fits (fine.leads 0 (no_way when_false) (lit< tt))
-  good_row (TestNull slot null other) inside fine =
-      good_test slot null other (inside.ways_in 0 (no_way null) (lit< tt)) (inside.ways_in 1 (no_way null) (lit< tt)) (fine.read 0 (Slot slot) (lit< tt))
+  good_row (TestNull slot null other) inside parts fine =
+      good_test slot null other (inside.slots_in 0 slot (lit< tt)) (inside.ways_in 0 (no_way null) (lit< tt)) (inside.ways_in 1 (no_way null) (lit< tt)) (fine.read 0 (Slot slot) (lit< tt))
       (fine.leads 0 (no_way null) (lit< tt)) (fine.leads 1 (no_way null) (lit< tt))
-  good_row (Goto next) inside fine = arrives f.slots (straight next) (inside.ways_in 0 (no_way next) (lit< tt)) fit fits (fine.leads 0 (no_way next) (lit< tt))
-  good_row (Output from next) inside fine =
-      let x = got from (inside.reads_in 0 from (lit< tt)) (fine.read 0 from (lit< tt)) in
+  good_row (Goto next) inside parts fine = arrives f.slots (straight next) (inside.ways_in 0 (no_way next) (lit< tt)) fit fits (fine.leads 0 (no_way next) (lit< tt))
+  good_row (Output from next) inside parts fine =
+      let x = got from (parts.reads_in 0 from (lit< tt)) (fine.read 0 from (lit< tt)) in
       good_with p f _ _ x.value x.held (arrives f.slots (straight next) (inside.ways_in 0 (no_way next) (lit< tt)) fit fits (fine.leads 0 (no_way next) (lit< tt)))
-  good_row End inside fine = tt
+  good_row End inside parts fine = tt
 
 -- the row at which a frame stands that fits
 pub row_is_good : (p : Program) → RowLaws p.rows.table → LeavesNothingOut p.rows.table → IsWellFormed p → IsAccepted p → (f : FrameState) → FrameFits p f → IsGood p f (row_at p f)
@@ -280,4 +280,4 @@ row_is_good p laws out well accepted f fits =
     let point = well.points_in k (point_at p k) (slice_get-get_or p.points k no_point fits.inside) in
     let inside = subst (λ (n : ℕ). IsShape p (function_at p n) n (shape (point_at p k).term)) fits.own point.shape_in in
     let fine = subst (λ (n : ℕ). IsFine p (function_at p n) (facts_at p k) (shape (point_at p k).term)) fits.own ((accepted.each k fits.inside).fine fits.reachable) in
-    good_row p laws out well f (facts_at p k) fits.function_in fits.slots (All-head (ViewFits p (function_at p f.function.0) f.slots) _ [] fits.views) (point_at p k).term inside fine
+    good_row p laws out well f (facts_at p k) fits.function_in fits.slots (All-head (ViewFits p (function_at p f.function.0) f.slots) _ [] fits.views) (point_at p k).term inside (named (function_at p f.function.0) (point_at p k).term inside.slots_in) fine

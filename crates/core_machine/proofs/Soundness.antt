@@ -25,12 +25,12 @@ empty_at_entry : (p : Program) (i : ℕ) (v : Value) → i < length (main_of p).
 empty_at_entry p i v here held = let none : slice_index_or (entered p.main (main_of p)).slots i None ≡ None = get_or-replicate (length (main_of p).slots) i None None here in cc
 
 -- facts of an entry say of no slot that it has a value
-unassigned_in : (p : Program) (g : Function) (listed : List SlotFact) (i : ℕ) → All (BeginsEmpty p g) listed → (known_in listed i).assigned ≡ false
-unassigned_in p g [] i begins = refl
-unassigned_in p g (fact ∷ facts) i begins =
+unassigned_in : (g : Function) (listed : List SlotFact) (i : ℕ) → All (BeginsEmpty g) listed → (known_in listed i).assigned ≡ false
+unassigned_in g [] i begins = refl
+unassigned_in g (fact ∷ facts) i begins =
     elim (nat_eq fact.slot.0 i) as (λ b. (if b then fact.known else known_in facts i).assigned ≡ false) [
       | true ↦ (begins 0 fact (omega arith)).unassigned
-      | false ↦ unassigned_in p g facts i (λ k d lt. begins (suc k) d (omega arith))
+      | false ↦ unassigned_in g facts i (λ k d lt. begins (suc k) d (omega arith))
     ]
 
 -- a frame at the entry of `main` fits
@@ -39,7 +39,7 @@ entered_fits p well accepted =
     let is_function = well.functions_in p.main.0 (main_of p) (slice_get-get_or p.functions p.main.0 no_function well.main_in) in
     let at = (main_of p).entry.0 in
     let same : function_of p at ≡ main_of p = ap (λ (n : ℕ). function_at p n) is_function.entry_own in
-    let entry : IsEntry p (function_of p at) (facts_at p at) = (accepted.each at is_function.entry_in).entry (ap (λ (g : Function). g.entry.0) same) in
+    let entry : IsEntry (function_of p at) (facts_at p at) = (accepted.each at is_function.entry_in).entry (ap (λ (g : Function). g.entry.0) same) in
     record {
       function_in = well.main_in;
       inside = is_function.entry_in;
@@ -47,7 +47,7 @@ entered_fits p well accepted =
       reachable = entry.reachable;
       slots = record { wide = length-replicate (length (main_of p).slots) None; declared = λ i v here held. absurd (empty_at_entry p i v here held) };
       views = All-cons (ViewFits p (main_of p) (entered p.main (main_of p)).slots) (known_of (facts_at p at)) []
-          (record { holds = λ i here assigned. absurd (let no = unassigned_in p (function_of p at) (facts_at p at).listed i entry.begins in cc) })
+          (record { holds = λ i here assigned. absurd (let no = unassigned_in (function_of p at) (facts_at p at).listed i entry.begins in cc) })
           (All-nil (ViewFits p (main_of p) (entered p.main (main_of p)).slots));
     }
 

@@ -94,7 +94,7 @@ const CHANGED: &str = "\
 -- slots are listed at the entry of which nothing is known; or one is shared there, or has not its declared type
 0:9 initialize x null 1 = 12 points, 19 steps: 3/
 0:10 initialize x null 1 = rejected at 0: invalid, invalid
-0:11 initialize x null 1 = rejected at 0: int, nullable";
+0:11 initialize x null 1 = rejected at 0: invalid, invalid";
 
 // Terms, and what a program prints that does the term and then prints the slot which it writes.
 const OPERATORS: &str = "\

@@ -25,7 +25,7 @@ use Rattle.core_ir.specs.declared.points.Term.TheVariants.{End}
 use Rattle.core_check.specs.Accepted.{BeginsEmpty, FitsAsked, FitsDeclared, IsAccepted, IsEntry, IsFine, IsReadable, Leads}
 use Rattle.core_check.specs.Known.{facts_at, function_at, function_of, no_point, point_at}
 use Rattle.core_check.specs.Shapes.{shape}
-use Rattle.core_check.specs.WellFormed.{IsAsked, IsFunctionOf, IsOperand, IsPointOf, IsStored, IsWay, IsWellFormed}
+use Rattle.core_check.specs.WellFormed.{IsFunctionOf, IsPointOf, IsSlot, IsWay, IsWellFormed}
 use Rattle.core_emit.specs.Code.{Code, goes_on, leaf}
 use Rattle.core_emit.specs.Emitted.{AllFine, AllFormed, AreFactsOf, EmitsFinePoints, EmitsFormedPoints, IsEmitted, with_points}
 use Rattle.elaborate.specs.Sources.{Sources, known_behind}
@@ -115,7 +115,7 @@ module _ (rows : FormedTable) (x : Sources) (outside : List Meaning) (at : Place
 
       enters : Does c (leaf None entry_facts goes_on) entry_facts (facts x start no_values)
       enters =
-          does_step c laws None entry_facts (facts x start no_values) goes_on (facts_inside c start no_values start_stands nothing_held) tt
+          does_step c laws None entry_facts (facts x start no_values) goes_on (facts_inside c start no_values start_stands nothing_held) (λ next. All-nil (IsSlot c.g))
           (λ reached f' tells. go_leads c laws entry_facts (facts x start no_values) (unshared c laws start start_stands no_values nothing_held) refl f' tells (tells_itself c laws entry_facts) refl)
 
       whole : Does c (function_code x body) entry_facts final
@@ -147,7 +147,7 @@ module _ (rows : FormedTable) (x : Sources) (outside : List Meaning) (at : Place
           subst (IsPointOf (with_points p old) k) same (record {
             function_in = omega arith;
             listed_in = final_inside;
-            shape_in = record { reads_in = All-nil (IsOperand c.g); stores_in = All-nil (IsStored c.g); asks_in = All-nil (IsAsked c.g); ways_in = All-nil (IsWay (with_points p old) c.g 0) };
+            shape_in = record { slots_in = All-nil (IsSlot c.g); ways_in = All-nil (IsWay (with_points p old) 0) };
             moves_on = λ j d lt. absurd (omega arith);
           })
 
@@ -168,11 +168,11 @@ module _ (rows : FormedTable) (x : Sources) (outside : List Meaning) (at : Place
       function_is : (k : ℕ) → k < length p.points → function_of p k ≡ c.g
       function_is k lt = ap (function_at p) (all_formed.own k lt)
 
-      entry_is : (k : ℕ) → k < length p.points → (function_of p k).entry.0 ≡ k → IsEntry p (function_of p k) (facts_at p k)
+      entry_is : (k : ℕ) → k < length p.points → (function_of p k).entry.0 ≡ k → IsEntry (function_of p k) (facts_at p k)
       entry_is k lt is =
           let at_entry : (points_of x body).entry.0 ≡ k = sym (ap (λ (g : Function). g.entry.0) (function_is k lt)) ∙ is in
           let known : facts_at p k ≡ entry_facts = sym (ap (facts_at p) at_entry) ∙ emitted.entry_facts in
-          subst (IsEntry p (function_of p k)) (sym known) (record { reachable = refl; begins = All-nil (BeginsEmpty p (function_of p k)) })
+          subst (IsEntry (function_of p k)) (sym known) (record { reachable = refl; begins = All-nil (BeginsEmpty (function_of p k)) })
 
       pub accepted : IsAccepted p
       accepted = record {

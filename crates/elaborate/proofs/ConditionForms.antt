@@ -34,7 +34,9 @@ use Rattle.core_ir.specs.declared.points.Operand.{Operand}
 use Rattle.core_ir.specs.declared.points.SlotId.{SlotId}
 use Rattle.core_check.specs.Accepted.{SlotImplies}
 use Rattle.core_check.specs.Known.{slot_type, held_type}
+use Rattle.core_check.specs.NamedSlots.{from_in}
 use Rattle.core_check.specs.Types.{without_null}
+use Rattle.core_check.specs.WellFormed.{IsSlot}
 use Rattle.core_emit.specs.Code.{Test, nothing, on_not_null}
 use Rattle.core_emit.specs.Emitted.{IsTestOf, TestLeads}
 use Rattle.elaborate.specs.Sources.{known_before, known_behind, slot_of_local}
@@ -45,6 +47,7 @@ use Rattle.elaborate.proofs.Chains.{sub_itself}
 use Rattle.elaborate.proofs.Standing.{AreValues, IsValueSlot, Standing, found_of, own_typed}
 use Rattle.elaborate.proofs.Tells.{Tells, facts_tell}
 use Rattle.elaborate.proofs.Claims.{Does, does_nothing}
+use Rattle.elaborate.proofs.Leaves.{all_one}
 use Rattle.elaborate.proofs.Points.{known_local, others_stay, unshared}
 use Rattle.elaborate.proofs.Tests.{narrowed_current, null_leads, truth_leads}
 use Rattle.elaborate.proofs.ValueTypes.{fits_sub, left_none, name_reads, plain_value, right_none}
@@ -203,7 +206,7 @@ module _ (c : Setting) (laws : Laws c) (names : Names) where
           let has = has_operand c laws e.after (holding no_values on) on e.ty after on_held one.operand (held_with c laws no_values on) in
           record {
             does = one.does;
-            inside = operand_inside c laws on e.ty one.operand;
+            inside = λ first second. from_in c.g on (operand_inside c laws on e.ty one.operand);
             values = on_held;
             leads = λ reached f' f'' tells tells'.
                 truth_leads c laws (facts c.x e.after (holding no_values on)) reached on e.ty (facts c.x e.when_true no_values) (facts c.x e.when_false no_values) (unshared c laws e.after after (holding no_values on) on_held) has fits
@@ -232,7 +235,7 @@ module _ (c : Setting) (laws : Laws c) (names : Names) where
           let is_slot_type : slot_type c.g (facts c.x e.after no_values) slot ≡ current_of null.l = ap (λ (k : Known). held_type (declared_at c.g slot.0) k.held) known ∙ own_typed (declared_at c.g slot.0) null.l local.slot.typed in
           record {
             does = subst (λ (k : FlowModel). Does c nothing (facts c.x m no_values) (facts c.x k no_values)) (sym null.after) (does_nothing c laws (facts c.x m no_values));
-            inside = subst (IsTestOf c.g) (sym null.test_is) local.slot.inside;
+            inside = subst (IsTestOf c.g) (sym null.test_is) (λ first second. all_one (IsSlot c.g) slot local.slot.inside);
             values = nothing_held;
             leads = λ reached f' f'' tells tells'.
                 let reached_true : IsTrue e.when_true.reachable = ap (λ (k : FlowModel). k.reachable) null.when_true ∙ sym (ap (λ (k : FlowModel). k.reachable) null.after) ∙ reached in

@@ -28,6 +28,8 @@ use Rattle.judgement.specs.Judgement.{declare, evaluate}
 use Rattle.built_forms.specs.Forms.{is_value}
 use Rattle.core_ir.specs.declared.points.Operand.TheVariants.{Constant}
 use Rattle.core_ir.specs.declared.points.SlotId.{SlotId}
+use Rattle.core_check.specs.NamedSlots.{to_from_in}
+use Rattle.core_check.specs.WellFormed.{IsSlot}
 use Rattle.core_ir.specs.declared.values.Value.TheVariants.{Null}
 use Rattle.core_emit.specs.Code.{Code, declares, initializes, leaf}
 use Rattle.elaborate.specs.Sources.{known_before, known_behind, slot_of_local}
@@ -38,7 +40,7 @@ use Rattle.elaborate.proofs.Given.{Setting, Laws, around}
 use Rattle.elaborate.proofs.Standing.{AreValues, HasSlots, IsSlotOf, IsValueSlot, Standing, found_of}
 use Rattle.elaborate.proofs.Claims.{Does, does_both, does_step}
 use Rattle.elaborate.proofs.Inside.{facts_inside}
-use Rattle.elaborate.proofs.Leaves.{declare_leads, initialize_leads}
+use Rattle.elaborate.proofs.Leaves.{all_one, declare_leads, initialize_leads}
 use Rattle.elaborate.proofs.Points.{gives_local, leaves_unset, others_stay, unshared, written_fits}
 use Rattle.elaborate.proofs.ValueTypes.{fits_sub, left_none, right_none}
 use Rattle.elaborate.proofs.Expressions.{AreSaid, IsSaid, Valued, has_operand, held_with, operand_inside, said_last, said_left, values_with}
@@ -110,7 +112,7 @@ module _ (c : Setting) (laws : Laws c) (names : Names) (at : Place) (name : Name
         let known : fresh.assigned ≡ true = ap (λ b. b && true) is in
         let quiet = unshared c laws m stands no_values (nothing_held c) in
         does_step c laws (site_of at) (facts c.x m no_values) (facts c.x m' no_values) (initializes slot (Constant Null)) (facts_inside c m no_values stands (nothing_held c))
-        (slot_in, tt)
+        (λ next. to_from_in c.g slot (Constant Null) slot_in tt)
         (λ reached f' tells. initialize_leads c laws (facts c.x m no_values) (facts c.x m' no_values) quiet reached f' tells slot (Constant Null) ty.null (record { assigned = refl; typed = refl })
         (gives_local c laws m m' stands stands' no_values no_values (nothing_held c) (nothing_held c) (λ i here. here) reached var (fresh_facts fresh) (laws.declared m fresh) (laws.undeclared m fresh) ty.null is is known quiet reached))
       where
@@ -120,7 +122,7 @@ module _ (c : Setting) (laws : Laws c) (names : Names) (at : Place) (name : Name
         let unknown : fresh.assigned ≡ false = ap (λ b. b && true) is in
         let quiet = unshared c laws m stands no_values (nothing_held c) in
         does_step c laws (site_of at) (facts c.x m no_values) (facts c.x m' no_values) (declares slot) (facts_inside c m no_values stands (nothing_held c))
-        (found_of c m' var (fresh_facts fresh) stands' (laws.declared m fresh)).slot.inside
+        (λ next. all_one (IsSlot c.g) slot (found_of c m' var (fresh_facts fresh) stands' (laws.declared m fresh)).slot.inside)
         (λ reached f' tells. declare_leads c laws (facts c.x m no_values) (facts c.x m' no_values) quiet reached f' tells slot
         (leaves_unset c laws m m' stands stands' no_values no_values (nothing_held c) (nothing_held c) (λ i here. here) reached var (fresh_facts fresh) (laws.declared m fresh) (laws.undeclared m fresh) unknown refl)
         (others_stay c laws m m' stands stands' no_values no_values (nothing_held c) (nothing_held c) (λ i here. here) reached var (fresh_facts fresh) (laws.declared m fresh) (laws.undeclared m fresh)))
@@ -223,7 +225,7 @@ module _ (c : Setting) (laws : Laws c) (names : Names) (at : Place) (name : Name
           does_both c laws (code.code_of c.x no_values value) _ (facts c.x m no_values) (facts c.x e.after held) (facts c.x behind_it no_values) one.does
           (subst (λ (k : Code). Does c k (facts c.x e.after held) (facts c.x behind_it no_values)) (sym code_is)
           (does_step c laws (site_of at) (facts c.x e.after held) (facts c.x behind_it no_values) (initializes slot (operand_of c.x value)) (facts_inside c e.after held stands_e are_held)
-          ((found_of c behind_it var written stands' is_written).slot.inside, operand_inside c laws (operand_of c.x value) e.ty one.operand)
+          (λ next. to_from_in c.g slot (operand_of c.x value) (found_of c behind_it var written stands' is_written).slot.inside (operand_inside c laws (operand_of c.x value) e.ty one.operand))
           (λ reached f' tells. initialize_leads c laws (facts c.x e.after held) (facts c.x behind_it no_values) quiet reached f' tells slot (operand_of c.x value) e.ty
           (has_operand c laws e.after held (operand_of c.x value) e.ty stands_e are_held one.operand (held_with c laws no_values (operand_of c.x value)))
           (gives_local c laws e.after behind_it stands_e stands' held no_values are_held (nothing_held c) (λ i here. absurd cc) reached var written is_written others e.ty fits (written_fits c laws e.ty (fresh_facts given) fits) refl quiet reached))))

@@ -32,6 +32,7 @@ use Rattle.built_forms.specs.Forms as forms
 use Rattle.built_forms.specs.Meanings.{meaning_at}
 use Rattle.rule_laws.specs.Plain.{HidesNothing, is_value_type}
 use Rattle.core_ir.specs.declared.points.SlotId.{SlotId}
+use Rattle.core_check.specs.NamedSlots.{from_in, to_from_in}
 use Rattle.core_emit.specs.Code.{Code, leaf, nothing, prints, stores}
 use Rattle.elaborate.specs.Sources.{known_behind, local_meant, slot_of_local}
 use Rattle.elaborate.specs.Sources as sources
@@ -201,7 +202,7 @@ module _ (c : Setting) (laws : Laws c) (names : Names) where
           does_both c laws (code_of c.x no_values value) _ (facts c.x m no_values) (facts c.x e.after held) (facts c.x m' no_values) one.does
           (subst (λ (k : Code). Does c k (facts c.x e.after held) (facts c.x m' no_values)) (sym code_is)
           (does_step c laws (site_of at) (facts c.x e.after held) (facts c.x m' no_values) (stores slot (operand_of c.x value)) (facts_inside c e.after held stands_e are_held)
-          ((found_of c e.after target.var writes.l stands_e writes.found).slot.inside, operand_inside c laws (operand_of c.x value) e.ty one.operand)
+          (λ next. to_from_in c.g slot (operand_of c.x value) (found_of c e.after target.var writes.l stands_e writes.found).slot.inside (operand_inside c laws (operand_of c.x value) e.ty one.operand))
           (λ reached f' tells. store_leads c laws (facts c.x e.after held) (facts c.x m' no_values) quiet reached f' tells slot (operand_of c.x value) e.ty
           (has_operand c laws e.after held (operand_of c.x value) e.ty stands_e are_held one.operand (held_with c laws no_values (operand_of c.x value)))
           (gives_local c laws e.after m' stands_e stands' held no_values are_held (nothing_held c) (λ i here. absurd cc) reached target.var (assign_facts c.rows.table e.ty writes.l) is_written
@@ -274,7 +275,7 @@ module _ (c : Setting) (laws : Laws c) (names : Names) where
         (does_both c laws (code_of c.x no_values value) _ (facts c.x m no_values) (facts c.x printed.after held) (facts c.x printed.after no_values) one.does
         (subst (λ (k : Code). Does c k (facts c.x printed.after held) (facts c.x printed.after no_values)) (sym row_is)
         (does_step c laws (site_of at) (facts c.x printed.after held) (facts c.x printed.after no_values) (prints (operand_of c.x value)) (facts_inside c printed.after held stands_e are_held)
-        (operand_inside c laws (operand_of c.x value) printed.ty one.operand)
+        (λ next. from_in c.g (operand_of c.x value) (operand_inside c laws (operand_of c.x value) printed.ty one.operand))
         (λ reached f' tells. print_leads c laws (facts c.x printed.after held) (facts c.x printed.after no_values) quiet reached f' tells (operand_of c.x value) printed.ty
         (has_operand c laws printed.after held (operand_of c.x value) printed.ty stands_e are_held one.operand (held_with c laws no_values (operand_of c.x value)))
         less reached)))))

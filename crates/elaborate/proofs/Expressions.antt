@@ -29,7 +29,8 @@ use Rattle.core_ir.specs.declared.points.Operand.TheVariants.{Slot, Constant}
 use Rattle.core_ir.specs.declared.points.SlotId.{SlotId}
 use Rattle.core_ir.specs.declared.values.Value.TheVariants.{Boolean}
 use Rattle.core_emit.specs.Code.{Code, stores}
-use Rattle.core_check.specs.WellFormed.{IsOperand}
+use Rattle.core_check.specs.Named.{IsOperand}
+use Rattle.core_check.specs.NamedSlots.{to_from_in}
 use Rattle.elaborate.specs.Sources.{is_of_node, nowhere, known_before, known_behind, local_meant, slot_at, slot_of, slot_of_local}
 use Rattle.elaborate.specs.Known.{facts, holding}
 use Rattle.elaborate.specs.Rows.{code_of, name_row, operand_of, site_of, step_at, test_of_null}
@@ -164,7 +165,7 @@ module _ (c : Setting) (laws : Laws c) where
           let quiet = unshared c laws m stands values are in
           subst (λ (code : Code). Does c code (facts c.x m values) (facts c.x m (values ++ slot ∷ []))) (sym name_code)
           (does_step c laws (site_of at) (facts c.x m values) (facts c.x m (values ++ slot ∷ [])) (stores slot (Slot (slot_of_local c.x var))) (facts_inside c m values stands are)
-          (value.0.inside, (found_of c m var l stands is).slot.inside)
+          (λ next. to_from_in c.g slot (Slot (slot_of_local c.x var)) value.0.inside (found_of c m var l stands is).slot.inside)
           (λ reached f' tells. store_leads c laws (facts c.x m values) (facts c.x m (values ++ slot ∷ [])) quiet reached f' tells slot (Slot (slot_of_local c.x var)) (current_of l)
           (has_local c laws m stands values are var l is assigned)
           (gives_value c laws m stands values values are (λ i here. here) reached slot (current_of l) value.0 value.1 quiet)))

@@ -23,7 +23,7 @@ use Rattle.core_ir.specs.declared.points.SlotId.{SlotId}
 use Rattle.core_ir.specs.declared.values.Value.TheVariants.{Null, Integer, Boolean}
 use Rattle.core_check.specs.Accepted.{SlotImplies, IsFine, Leads, IsReadable, FitsDeclared, FitsAsked}
 use Rattle.core_check.specs.Known.{facts_at, known_of, operand_type, slot_type}
-use Rattle.core_check.specs.Shapes.{asks_of, narrows, way, straight, on_bool, on_constant}
+use Rattle.core_check.specs.Shapes.{asks_of, narrows, on_condition, way, straight}
 use Rattle.core_check.specs.Types.{held_as, known_on, changed, without_null}
 use Rattle.core_check.specs.declared.parts.How.TheVariants.{Narrows}
 use Rattle.core_check.specs.declared.parts.TypeSource.TheVariants.{BoolType, NonNullType}
@@ -50,7 +50,7 @@ module _ (c : Setting) (laws : Laws c) (f : PointFacts) (here : IsTrue f.reachab
 
   -- a branch on what is no constant truth may go both ways
   both_ways_fine : (p : Program) (on : Operand) (ty : Ty) (first second : PointId) (one other f' f'' : PointFacts) → p.rows ≡ c.rows → facts_at p first.0 ≡ f' → facts_at p second.0 ≡ f'' → IsUnshared f
-      → Has c f on ty → IsTrue (sub c.rows.table ty bool) → Reaches c f one → Reaches c f other → Tells c one f' → Tells c other f'' → IsFine p c.g f (on_bool on first second)
+      → Has c f on ty → IsTrue (sub c.rows.table ty bool) → Reaches c f one → Reaches c f other → Tells c one f' → Tells c other f'' → IsFine p c.g f (on_condition on (straight first ∷ straight second ∷ []))
   both_ways_fine p on ty first second one other f' f'' rows is is' unshared has fits a b tells tells' = record {
     read = all_one (IsReadable f) on has.assigned;
     stored = All-nil (FitsDeclared p c.g f);
@@ -59,7 +59,7 @@ module _ (c : Setting) (laws : Laws c) (f : PointFacts) (here : IsTrue f.reachab
   }
 
   one_way_fine : (p : Program) (on : Operand) (ty : Ty) (next : PointId) (one f' : PointFacts) → p.rows ≡ c.rows → facts_at p next.0 ≡ f' → IsUnshared f
-      → Has c f on ty → IsTrue (sub c.rows.table ty bool) → Reaches c f one → Tells c one f' → IsFine p c.g f (on_constant on next)
+      → Has c f on ty → IsTrue (sub c.rows.table ty bool) → Reaches c f one → Tells c one f' → IsFine p c.g f (on_condition on (straight next ∷ []))
   one_way_fine p on ty next one f' rows is unshared has fits a tells = record {
     read = all_one (IsReadable f) on has.assigned;
     stored = All-nil (FitsDeclared p c.g f);

@@ -1,6 +1,6 @@
 -- The code of each form of a value does what the rules say of it.
 use Rattle.std.proofs.Common.{◌≡◌, ◌≢◌, ℕ, ◌+◌, ◌-◌, ◌<◌, Bool, true, false, cond, ◌&&◌, ◌||◌, nat_eq, List, [], ◌∷◌, ◌++◌, Option, Some, None, is_some, refl, sym, ap, ◌∙◌, subst, IsTrue}
-use Rattle.std.specs.Prelude.{find}
+use Rattle.std.specs.Prelude.{All, find}
 use Rattle.std.specs.Option.{option_map_or}
 use Rattle.dart_tree.specs.Tree as tree
 use Rattle.dart_tree.specs.Tree.{Tree, integer_literal, boolean_literal, null_literal, parenthesis, binary_expression}
@@ -20,10 +20,13 @@ use Rattle.judgement.specs.Judgement.{element_of, evaluate}
 use Rattle.judgement.specs.declared.code.DiagnosticCode.TheVariants.{IntegerLiteralOutOfRange}
 use Rattle.core_ir.specs.PointFacts.{PointFacts}
 use Rattle.core_ir.specs.Values.{declared_at}
+use Rattle.core_ir.specs.declared.points.PointId.{PointId}
 use Rattle.core_ir.specs.declared.points.SlotId.{SlotId}
 use Rattle.core_emit.specs.Code.{Code, Step, adds, compares, differs, leaf, nothing}
 use Rattle.core_emit.specs.Emitted.{IsStepOf, StepLeads}
-use Rattle.core_check.specs.WellFormed.{IsOperand, IsSlot}
+use Rattle.core_check.specs.NamedSlots.{to_both_in}
+use Rattle.core_check.specs.Shapes.{names as slots_named}
+use Rattle.core_check.specs.WellFormed.{IsSlot}
 use Rattle.elaborate.specs.Sources.{nowhere, known_before, known_behind, slot_at}
 use Rattle.elaborate.specs.Known.{facts, holding}
 use Rattle.elaborate.specs.Rows.{code_of, operand_of, operator_row, operator_step, site_of, step_at}
@@ -189,5 +192,6 @@ module _ (c : Setting) (laws : Laws c) where
             differ_leads c laws (facts c.x e'.after both_held) (facts c.x e'.after (values ++ slot ∷ [])) quiet reached f' tells slot (operand_of c.x left) (operand_of c.x right) e.ty e'.ty has_left has_right
             (gives_value c laws e'.after stands both_held values are_held (λ i here. fewer_held c laws (holding values (operand_of c.x left)) (operand_of c.x right) i (fewer_held c laws values (operand_of c.x left) i here)) reached slot bool own.0 (own.1 ∙ is) quiet)
 
-      pub operands_inside : IsValueSlot c slot.0 → IsSlot c.g slot × (IsOperand c.g (operand_of c.x left) × IsOperand c.g (operand_of c.x right))
-      operands_inside value = (value.inside, (operand_inside c laws (operand_of c.x left) e.ty one.operand, operand_inside c laws (operand_of c.x right) e'.ty other.operand))
+      -- the function has the slots that each of them names
+      pub operands_inside : IsValueSlot c slot.0 → PointId → All (IsSlot c.g) (slots_named (slot ∷ []) (operand_of c.x left ∷ operand_of c.x right ∷ []))
+      operands_inside value next = to_both_in c.g slot (operand_of c.x left) (operand_of c.x right) value.inside (operand_inside c laws (operand_of c.x left) e.ty one.operand) (operand_inside c laws (operand_of c.x right) e'.ty other.operand)
