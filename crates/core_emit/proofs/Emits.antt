@@ -22,7 +22,7 @@ use Rattle.core_check.specs.declared.parts.How.{How}
 use Rattle.core_check.specs.declared.parts.How.TheVariants.{Fresh, Holds, Narrows}
 use Rattle.core_check.specs.declared.parts.Change.{Change}
 use Rattle.core_check.specs.Accepted.{SlotImplies, IsFine, Leads}
-use Rattle.core_check.specs.Known.{no_point, facts_at, known_of, is_shared, slot_type}
+use Rattle.core_check.specs.Known.{no_point, facts_at, function_at, known_of, is_shared, slot_type}
 use Rattle.core_check.specs.Shapes.{TermShape, WayShape, shape}
 use Rattle.core_check.specs.Types.{without_null, type_from, held_as, changed, changes_to, known_on}
 use Rattle.core_emit.specs.Code.{Code, nothing, leaf, sequence, choice, loop, step_to, test_to}
@@ -46,18 +46,20 @@ changes_same p q g f (c ∷ cs) i known e =
     ap (λ (k : Known). changes_to p g f cs i (cond (nat_eq c.slot.0 i) k known)) (changed_same p q g f c.how known e)
     ∙ changes_same p q g f cs i (cond (nat_eq c.slot.0 i) (changed q g f c.how known) known) e
 
--- more points, with the facts of the old ones kept
+-- more points, with the facts and the functions of the old ones kept
 pub record Kept (old new : List Point) : Type 0 where
   pub longer : length old ≤ length new
   pub facts : (k : ℕ) → k < length old → (get_or new k no_point).facts ≡ (get_or old k no_point).facts
+  pub functions : (k : ℕ) → k < length old → (get_or new k no_point).function ≡ (get_or old k no_point).function
 
 kept_self : (points : List Point) → Kept points points
-kept_self points = record { longer = omega arith; facts = λ k lt. refl }
+kept_self points = record { longer = omega arith; facts = λ k lt. refl; functions = λ k lt. refl }
 
 kept_trans : (a b c : List Point) → Kept a b → Kept b c → Kept a c
 kept_trans a b c x y = record {
   longer = let u = x.longer in let v = y.longer in omega arith;
   facts = λ k lt. let u = x.longer in y.facts k (omega arith) ∙ x.facts k lt;
+  functions = λ k lt. let u = x.longer in y.functions k (omega arith) ∙ x.functions k lt;
 }
 
 -- a point that a run may come to is there
@@ -67,7 +69,7 @@ reached_in points k reached = elim (cases_lt k (length points)) [
   | inr past ↦ absurd (let e : get_or points k no_point ≡ no_point = get_or-eq_default points no_point past in let no : false ≡ true = ap (λ (q : Point). q.facts.reachable) (sym e) ∙ reached in cc)
 ]
 
-module _ (p : Program) (g : Function) (id : FunctionId) where
+module _ (p : Program) (g : Function) where
   -- what is fine stays so
   leads_kept : (old new : List Point) (f : PointFacts) (way : WayShape) → Kept old new → Leads (with_points p old) g f way → Leads (with_points p new) g f way
   leads_kept old new f way kept leads =
@@ -89,15 +91,16 @@ module _ (p : Program) (g : Function) (id : FunctionId) where
     leads = λ k d lt. leads_kept old new f (get_or s.ways k d) kept (fine.leads k d lt);
   }
 
+module _ (p : Program) (g : Function) (id : FunctionId) (function_is : function_at p id.0 ≡ g) where
   -- what making the points of code gives
   pub record Gives (old : List Point) (f : PointFacts) (made : Made) : Type 0 where
     pub kept : Kept old made.points
-    pub fine : AllFine (with_points p made.points) g
+    pub fine : AllFine (with_points p made.points)
     pub entry_in : made.entry.0 < length made.points
     pub entry_facts : (get_or made.points made.entry.0 no_point).facts ≡ f
 
   -- one more point
-  module _ (old : List Point) (all : AllFine (with_points p old) g) (site : Option Span) (f : PointFacts) (term : Term) where
+  module _ (old : List Point) (all : AllFine (with_points p old)) (site : Option Span) (f : PointFacts) (term : Term) where
     abbrev new_point : Point
     new_point = record { function = id; site = site; facts = f; term = term }
 
@@ -111,23 +114,25 @@ module _ (p : Program) (g : Function) (id : FunctionId) where
     more_kept = record {
       longer = let n = more_length in omega arith;
       facts = λ k lt. ap (λ (q : Point). q.facts) (get_or-append old (new_point ∷ []) no_point k lt);
+      functions = λ k lt. ap (λ (q : Point). q.function) (get_or-append old (new_point ∷ []) no_point k lt);
     }
 
     more_last : get_or more (length old) no_point ≡ new_point
     more_last = get_or-append_seam old new_point [] no_point
 
     abbrev FineIn : Point → Type 0
-    FineIn q = IsTrue q.facts.reachable → IsFine (with_points p more) g q.facts (shape q.term)
+    FineIn q = IsTrue q.facts.reachable → IsFine (with_points p more) (function_at p q.function.0) q.facts (shape q.term)
 
     fine_more : (IsTrue f.reachable → IsFine (with_points p more) g f (shape term)) → (k : ℕ) → k < length more → FineIn (get_or more k no_point)
     fine_more here k lt = elim (cases_lt k (length old)) [
       | inl before ↦
           subst FineIn (sym (get_or-append old (new_point ∷ []) no_point k before))
-          (λ reached. fine_kept old more (get_or old k no_point).facts (shape (get_or old k no_point).term) more_kept (all.each k before reached))
+          (λ reached. fine_kept p (function_at p (get_or old k no_point).function.0) old more (get_or old k no_point).facts (shape (get_or old k no_point).term) more_kept (all.each k before reached))
       | inr behind ↦
           (let n = more_length in
           let same : k ≡ length old = omega arith in
-          subst FineIn (sym (ap (λ (i : ℕ). get_or more i no_point) same ∙ more_last)) here)
+          subst FineIn (sym (ap (λ (i : ℕ). get_or more i no_point) same ∙ more_last))
+          (λ reached. subst (λ (h : Function). IsFine (with_points p more) h f (shape term)) (sym function_is) (here reached)))
     ]
 
     add : (IsTrue f.reachable → IsFine (with_points p more) g f (shape term)) → Gives old f (with_point id site f term old)
@@ -139,7 +144,7 @@ module _ (p : Program) (g : Function) (id : FunctionId) where
     }
 
   -- another term at a point whose facts lead on from it
-  module _ (old : List Point) (all : AllFine (with_points p old) g) (at : PointId) (term : Term) (inside : at.0 < length old) where
+  module _ (old : List Point) (all : AllFine (with_points p old)) (at : PointId) (term : Term) (inside : at.0 < length old) where
     abbrev told : List Point
     told = with_term old at term
 
@@ -162,17 +167,21 @@ module _ (p : Program) (g : Function) (id : FunctionId) where
         | inl same ↦ subst (λ (i : ℕ). (get_or told i no_point).facts ≡ (get_or old i no_point).facts) (sym same) (ap (λ (q : Point). q.facts) told_here)
         | inr ne ↦ ap (λ (q : Point). q.facts) (told_other k ne)
       ];
+      functions = λ k lt. elim (cases_eq k at.0) [
+        | inl same ↦ subst (λ (i : ℕ). (get_or told i no_point).function ≡ (get_or old i no_point).function) (sym same) (ap (λ (q : Point). q.function) told_here)
+        | inr ne ↦ ap (λ (q : Point). q.function) (told_other k ne)
+      ];
     }
 
     abbrev FineAfter : Point → Type 0
-    FineAfter q = IsTrue q.facts.reachable → IsFine (with_points p told) g q.facts (shape q.term)
+    FineAfter q = IsTrue q.facts.reachable → IsFine (with_points p told) (function_at p q.function.0) q.facts (shape q.term)
 
     fine_told : FineAfter told_point → (k : ℕ) → k < length told → FineAfter (get_or told k no_point)
     fine_told here k lt = elim (cases_eq k at.0) [
       | inl same ↦ subst FineAfter (sym (ap (λ (i : ℕ). get_or told i no_point) same ∙ told_here)) here
       | inr ne ↦
           subst FineAfter (sym (told_other k ne))
-          (λ reached. fine_kept old told (get_or old k no_point).facts (shape (get_or old k no_point).term) told_kept (all.each k (let n = told_length in omega arith) reached))
+          (λ reached. fine_kept p (function_at p (get_or old k no_point).function.0) old told (get_or old k no_point).facts (shape (get_or old k no_point).term) told_kept (all.each k (let n = told_length in omega arith) reached))
     ]
 
   -- an end asks for nothing
@@ -185,7 +194,7 @@ module _ (p : Program) (g : Function) (id : FunctionId) where
   }
 
   -- the points of code that passes are fine, and the first has what is known before
-  pub emits : (code : Code) (after : PointFacts) (next : PointId) (old : List Point) → Passes p.rows g code after → AllFine (with_points p old) g → next.0 < length old → (get_or old next.0 no_point).facts ≡ after → Gives old (known_first code after) (emit id code next old)
+  pub emits : (code : Code) (after : PointFacts) (next : PointId) (old : List Point) → Passes p.rows g code after → AllFine (with_points p old) → next.0 < length old → (get_or old next.0 no_point).facts ≡ after → Gives old (known_first code after) (emit id code next old)
   emits nothing after next old pass all inside is = record { kept = kept_self old; fine = all; entry_in = inside; entry_facts = is }
   emits (leaf site facts step) after next old pass all inside is =
       add old all site facts (step_to step next)
@@ -233,10 +242,15 @@ module _ (p : Program) (g : Function) (id : FunctionId) where
       let keeps_told = told_kept asks.points c.fine start.entry (Goto asks.entry) at_in in
       let told_n = told_length asks.points c.fine start.entry (Goto asks.entry) at_in in
       let head_fine = subst (λ (f : PointFacts). IsTrue f.reachable → IsFine (with_points p (told asks.points c.fine start.entry (Goto asks.entry) at_in)) g f (shape (Goto asks.entry))) (sym head_is)
-      (λ reached. pass.0 reached (with_points p (told asks.points c.fine start.entry (Goto asks.entry) at_in)) asks.entry refl (keeps_told.facts asks.entry.0 c.entry_in ∙ c.entry_facts)) in
+      (λ reached. pass.0 reached (with_points p (told asks.points c.fine start.entry (Goto asks.entry) at_in)) asks.entry (refl {a = p.rows}) (keeps_told.facts asks.entry.0 c.entry_in ∙ c.entry_facts)) in
+      let start_own : (get_or start.points start.entry.0 no_point).function ≡ id = ap (λ (q : Point). q.function) (more_last old all site head End) in
+      let head_own : function_at p (get_or asks.points start.entry.0 no_point).function.0 ≡ g =
+      ap (λ (f : FunctionId). function_at p f.0) (c.kept.functions start.entry.0 (omega arith) ∙ t.kept.functions start.entry.0 (omega arith) ∙ b.kept.functions start.entry.0 s_in ∙ start_own) ∙ function_is in
+      let own_fine : FineAfter asks.points c.fine start.entry (Goto asks.entry) at_in (told_point asks.points c.fine start.entry (Goto asks.entry) at_in) =
+      λ reached. subst (λ (h : Function). IsFine (with_points p (told asks.points c.fine start.entry (Goto asks.entry) at_in)) h (get_or asks.points start.entry.0 no_point).facts (shape (Goto asks.entry))) (sym head_own) (head_fine reached) in
       record {
         kept = kept_trans old asks.points _ (kept_trans old start.points asks.points s.kept (kept_trans start.points passes.points asks.points b.kept (kept_trans passes.points tests.points asks.points t.kept c.kept))) keeps_told;
-        fine = record { each = fine_told asks.points c.fine start.entry (Goto asks.entry) at_in head_fine };
+        fine = record { each = fine_told asks.points c.fine start.entry (Goto asks.entry) at_in own_fine };
         entry_in = omega arith;
         entry_facts = keeps_told.facts start.entry.0 at_in ∙ head_is;
       }

@@ -1,3 +1,4 @@
 pub mod Emits
 pub mod Formed
+pub mod Parts
 pub mod Sizes

@@ -11,15 +11,22 @@ use Rattle.core_ir.specs.declared.points.Span.{Span}
 use Rattle.core_ir.specs.declared.points.Term.{Term}
 use Rattle.core_ir.specs.declared.points.Term.TheVariants.{Goto, End}
 use Rattle.core_check.specs.Accepted.{IsFine}
-use Rattle.core_check.specs.Known.{no_point, facts_at, function_at, point_at}
+use Rattle.core_check.specs.Known.{no_point, facts_at, function_at, function_of, point_at}
 use Rattle.core_check.specs.Shapes.{shape}
 use Rattle.core_check.specs.WellFormed.{IsSlot, IsPointOf}
-use Rattle.core_emit.specs.Code.{Code, Step, Test, goes_on, nothing, leaf, sequence, choice, loop, step_to, test_to}
+use Rattle.core_emit.specs.Code.{Code, nothing, leaf, sequence, choice, loop, step_to, test_to}
+use Rattle.core_emit.specs.declared.steps.Step.{Step}
+use Rattle.core_emit.specs.declared.steps.Step.TheVariants as step
+use Rattle.core_emit.specs.declared.steps.Test.{Test}
 
 -- points, and the one among them at which the code that was made last begins
 pub record Made : Type 0 where
   pub points : List Point
   pub entry : PointId
+
+-- points, and the one among them at which code begins
+abbrev pub made : List Point → PointId → Made
+made points entry = record { points = points; entry = entry }
 
 -- the number of the next point
 abbrev pub after_last : List Point → PointId
@@ -78,25 +85,26 @@ Passes rows g (sequence first second) after = Passes rows g first (known_first s
 Passes rows g (choice site facts test first second) after =
     (IsTrue facts.reachable → TestLeads rows g facts test (known_first first after) (known_first second after)) × (Passes rows g first after × Passes rows g second after)
 Passes rows g (loop site head facts condition test body) after =
-    (IsTrue head.reachable → StepLeads rows g head goes_on (known_first condition facts))
+    (IsTrue head.reachable → StepLeads rows g head step.GoOn (known_first condition facts))
     × ((IsTrue facts.reachable → TestLeads rows g facts test (known_first body head) after)
     × (Passes rows g condition facts × Passes rows g body head))
 
--- no clause fails at any of the points that a run may come to
-pub record AllFine (p : Program) (g : Function) : Type 0 where
-  pub each : (k : ℕ) → k < length p.points → IsTrue (facts_at p k).reachable → IsFine p g (facts_at p k) (shape (slice_index_or p.points k no_point).term)
+-- no clause fails at any of the points that a run may come to, each by its own function
+pub record AllFine (p : Program) : Type 0 where
+  pub each : (k : ℕ) → k < length p.points → IsTrue (facts_at p k).reachable → IsFine p (function_of p k) (facts_at p k) (shape (point_at p k).term)
 
--- code that passes, from points that are fine, is made into points that are fine: the first of them has what is known before, and the points that there were keep their facts
-pub record IsEmitted (p : Program) (g : Function) (old : List Point) (before : PointFacts) (made : Made) : Type 0 where
-  pub fine : AllFine (with_points p made.points) g
+-- the points that are made are fine, beside those that there were: the first of them has what is known before, and the points that there were keep their facts
+pub record IsEmitted (p : Program) (old : List Point) (before : PointFacts) (made : Made) : Type 0 where
+  pub fine : AllFine (with_points p made.points)
   pub entry_in : made.entry.0 < length made.points
   pub entry_facts : facts_at (with_points p made.points) made.entry.0 ≡ before
   pub kept : (k : ℕ) → k < length old → facts_at (with_points p made.points) k ≡ facts_at (with_points p old) k
 
+-- code of a function that passes, and goes on where this is known, is made into such points, behind points of any functions that are fine
 abbrev pub EmitsFinePoints : Program → Function → FunctionId → Code → PointFacts → PointId → List Point → Type 0
 EmitsFinePoints p g id code after next old =
-    Passes p.rows g code after → AllFine (with_points p old) g → next.0 < length old → facts_at (with_points p old) next.0 ≡ after
-    → IsEmitted p g old (known_first code after) (emit id code next old)
+    function_at p id.0 ≡ g → Passes p.rows g code after → AllFine (with_points p old) → next.0 < length old → facts_at (with_points p old) next.0 ≡ after
+    → IsEmitted p old (known_first code after) (emit id code next old)
 
 -- Slots and numbers.
 
@@ -120,16 +128,26 @@ IsCodeOf g (sequence first second) = IsCodeOf g first × IsCodeOf g second
 IsCodeOf g (choice site facts test first second) = (AreFactsOf g facts × IsTestOf g test) × (IsCodeOf g first × IsCodeOf g second)
 IsCodeOf g (loop site head facts condition test body) = (AreFactsOf g head × (AreFactsOf g facts × IsTestOf g test)) × (IsCodeOf g condition × IsCodeOf g body)
 
--- all points are of the function with the number n, and well formed
-pub record AllFormed (p : Program) (n : ℕ) : Type 0 where
+-- all points are well formed, each one of a function of the program
+pub record AllFormed (p : Program) : Type 0 where
   pub points_in : (k : ℕ) (point : Point) → slice_get p.points k ≡ Some point → IsPointOf p k point
-  pub own : (k : ℕ) → k < length p.points → (point_at p k).function.0 ≡ n
 
--- code that names what its function has, from points that are well formed, is made into points that are
+-- a point that there is, of this function
+pub record IsOwn (points : List Point) (id : FunctionId) (point : PointId) : Type 0 where
+  pub inside : point.0 < length points
+  pub own : (slice_index_or points point.0 no_point).function ≡ id
+
+-- the points that are made are well formed, beside those that there were: the code begins at a point of its function, and the points that there were stay those of theirs
+pub record AreFormed (p : Program) (id : FunctionId) (old : List Point) (made : Made) : Type 0 where
+  pub formed : AllFormed (with_points p made.points)
+  pub entry_own : IsOwn made.points id made.entry
+  pub kept : (k : ℕ) → k < length old → (point_at (with_points p made.points) k).function ≡ (point_at (with_points p old) k).function
+
+-- code that names what its function has, and goes on at a point of it, is made into such points, behind points of any functions that are well formed
 abbrev pub EmitsFormedPoints : Program → Function → FunctionId → Code → PointId → List Point → Type 0
 EmitsFormedPoints p g id code next old =
-    id.0 < length p.functions → function_at p id.0 ≡ g → IsCodeOf g code → AllFormed (with_points p old) id.0 → next.0 < length old
-    → AllFormed (with_points p (emit id code next old).points) id.0
+    id.0 < length p.functions → function_at p id.0 ≡ g → IsCodeOf g code → AllFormed (with_points p old) → IsOwn old id next
+    → AreFormed p id old (emit id code next old)
 
 -- how many points code has
 abbrev pub size_of : Code → ℕ

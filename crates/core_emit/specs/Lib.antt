@@ -1,2 +1,5 @@
 pub mod Code
 pub mod Emitted
+pub mod Node
+pub mod NodeFalls
+pub mod StoredCode
