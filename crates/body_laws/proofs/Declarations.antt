@@ -13,7 +13,7 @@ use Rattle.dart_tokens.specs.declared.grouped_token.GroupedToken.{GroupedToken a
 use Rattle.grammar.specs.declared.level.Sign.{Sign}
 use Rattle.grammar.specs.declared.level.Sign.TheVariants as sign
 use Rattle.grammar.specs.declared.level.Setting.TheVariants as setting
-use Rattle.grammar.specs.Tokens.{is, is_name, heads, heads_name}
+use Rattle.grammar.specs.Tokens.{is, is_name, heads, heads_name, past}
 use Rattle.grammar.specs.Operators.{table, heads_sign}
 use Rattle.grammar.specs.Statements.{segment, error_of}
 use Rattle.grammar.specs.Declarations.{is_class, constructor_name_of, field_initializer_of, super_of, redirection_of, Member, constructed, made_by_factory, method, fields, operated_by, constructor_of, factory_of, declared_operator, operator_name, is_declared, declared_sign, tilde_of, index_of, operator_member_of, heads_static, method_of, fields_of, behind_word, member_with, member_of, Declaration, of_class, of_mixin, of_type, of_function, of_variables, class_of, word_at, class_word, mixin_of, alias_of, declared_function_of, declared_variables_of, heads_class, heads_word, declaration_with, declaration_of, listed, library_of, show_of, hide_of, import_of, export_of, part_directive_of, part_of_uri_of, part_of_library_of}
@@ -233,7 +233,7 @@ members_there r needs closed in_core class other e l a = record { each = follow 
     follow p q (t ∷ ts) [] s = other_empty r p t ts s
     follow p q (t ∷ ts) (u ∷ us) s =
         if_known (Found r true false p (Pair (Twins r.moves) (Alls (MemberHides r.moves))) (t ∷ ts) (u ∷ us)) (is kind.OpenBrace t) (is kind.OpenBrace u)
-        (Some ((t, all_items (take_member in_core class l) segment error_of (take t.width ts)), drop t.past ts)) None (Some ((u, all_items (take_member in_core other l) segment error_of (take u.width us)), drop u.past us)) None
+        (Some ((t, all_items (take_member in_core class l) segment error_of (take t.width ts)), drop (past t) ts)) None (Some ((u, all_items (take_member in_core other l) segment error_of (take u.width us)), drop (past u) us)) None
         (kind_blind r.moves kind.OpenBrace t u (first_twins r p t u ts us s))
         (λ d.
         let held : Like (braces r) false (take t.width ts) (take u.width us) =

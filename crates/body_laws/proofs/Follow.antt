@@ -41,10 +41,10 @@ first_twins r p t u ts us a = by a.steps a.alike
     by zero k = absurd k
     by (suc n) k = k.0
 
-pub groups_end : (r : Kin) (p : Bool) (t u : Token) (ts us : List Token) → Like r p (t ∷ ts) (u ∷ us) → last_end (u ∷ take u.past us) ≡ r.moves.ends (last_end (t ∷ take t.past ts))
+pub groups_end : (r : Kin) (p : Bool) (t u : Token) (ts us : List Token) → Like r p (t ∷ ts) (u ∷ us) → last_end (u ∷ take (past u) us) ≡ r.moves.ends (last_end (t ∷ take (past t) ts))
 groups_end r p t u ts us a = by a.steps a.alike
   where
-    by : (n : ℕ) → Alike r.moves r.freedom n p (t ∷ ts) (u ∷ us) → last_end (u ∷ take u.past us) ≡ r.moves.ends (last_end (t ∷ take t.past ts))
+    by : (n : ℕ) → Alike r.moves r.freedom n p (t ∷ ts) (u ∷ us) → last_end (u ∷ take (past u) us) ≡ r.moves.ends (last_end (t ∷ take (past t) ts))
     by zero k = absurd k
     by (suc n) k = k.1
 
@@ -55,10 +55,10 @@ adjoin_alike r p t u ts us a = by a.steps a.alike
     by zero k = absurd k
     by (suc n) k = k.2
 
-pub behind_group : (r : Kin) (p : Bool) (t u : Token) (ts us : List Token) → Like r p (t ∷ ts) (u ∷ us) → Like r (is kind.OpenParenthesis t) (drop t.past ts) (drop u.past us)
+pub behind_group : (r : Kin) (p : Bool) (t u : Token) (ts us : List Token) → Like r p (t ∷ ts) (u ∷ us) → Like r (is kind.OpenParenthesis t) (drop (past t) ts) (drop (past u) us)
 behind_group r p t u ts us a = by a.steps a.alike
   where
-    by : (n : ℕ) → Alike r.moves r.freedom n p (t ∷ ts) (u ∷ us) → Like r (is kind.OpenParenthesis t) (drop t.past ts) (drop u.past us)
+    by : (n : ℕ) → Alike r.moves r.freedom n p (t ∷ ts) (u ∷ us) → Like r (is kind.OpenParenthesis t) (drop (past t) ts) (drop (past u) us)
     by zero k = absurd k
     by (suc n) k = record { steps = n; alike = k.3 }
 
@@ -659,14 +659,14 @@ follows_levels most room join tries each fit step a (l ∷ ls) = follows_chain (
 
 -- Groups.
 
-pub went_group : (r : Kin) (p : Bool) (t u : Token) (ts us : List Token) → Like r p (t ∷ ts) (u ∷ us) → Went r true false p (t ∷ ts) (u ∷ us) (drop t.past ts) (drop u.past us)
+pub went_group : (r : Kin) (p : Bool) (t u : Token) (ts us : List Token) → Like r p (t ∷ ts) (u ∷ us) → Went r true false p (t ∷ ts) (u ∷ us) (drop (past t) ts) (drop (past u) us)
 went_group r p t u ts us a = record {
-  read = t ∷ take t.past ts;
-  other = u ∷ take u.past us;
-  left = ap (λ (zs : List Token). t ∷ zs) (sym (take-append-drop t.past ts));
-  right = ap (λ (zs : List Token). u ∷ zs) (sym (take-append-drop u.past us));
+  read = t ∷ take (past t) ts;
+  other = u ∷ take (past u) us;
+  left = ap (λ (zs : List Token). t ∷ zs) (sym (take-append-drop (past t) ts));
+  right = ap (λ (zs : List Token). u ∷ zs) (sym (take-append-drop (past u) us));
   stand = ((first_twins r p t u ts us a).start, groups_end r p t u ts us a);
-  like = behind_any r (is kind.OpenParenthesis t) (drop t.past ts) (drop u.past us) (behind_group r p t u ts us a);
+  like = behind_any r (is kind.OpenParenthesis t) (drop (past t) ts) (drop (past u) us) (behind_group r p t u ts us a);
 }
 
 whole_found : {A : Type 0} (r : Kin) (p : Bool) (R : A → A → Type 0) (a b : A) (ts us : List Token) → Like r p ts us → R a b → Both R (whole_or a ts None) (whole_or b us None)
@@ -699,9 +699,9 @@ pub record Unseen {A : Type 0} (R : A → A → Type 0) (g : Descent Token A) : 
   pub each : (ts us : List Token) → Both R (complete (g ts)) (complete (g us))
 
 inside_found : {A : Type 0} (r : Kin) (p : Bool) (R : A → A → Type 0) (g : Descent Token A) (t u : Token) (ts us : List Token) → Like r p (t ∷ ts) (u ∷ us) → Both R (complete (g (take t.width ts))) (complete (g (take u.width us))) →
-    Both (Found r true false p (Pair (Twins r.moves) R) (t ∷ ts) (u ∷ us)) (option_map (λ a. ((t, a), drop t.past ts)) (complete (g (take t.width ts)))) (option_map (λ a. ((u, a), drop u.past us)) (complete (g (take u.width us))))
+    Both (Found r true false p (Pair (Twins r.moves) R) (t ∷ ts) (u ∷ us)) (option_map (λ a. ((t, a), drop (past t) ts)) (complete (g (take t.width ts)))) (option_map (λ a. ((u, a), drop (past u) us)) (complete (g (take u.width us))))
 inside_found r p R g t u ts us k b =
-    option_found R (Found r true false p (Pair (Twins r.moves) R) (t ∷ ts) (u ∷ us)) (λ a. ((t, a), drop t.past ts)) (λ a. ((u, a), drop u.past us)) (complete (g (take t.width ts))) (complete (g (take u.width us)))
+    option_found R (Found r true false p (Pair (Twins r.moves) R) (t ∷ ts) (u ∷ us)) (λ a. ((t, a), drop (past t) ts)) (λ a. ((u, a), drop (past u) us)) (complete (g (take t.width ts))) (complete (g (take u.width us)))
     (λ x y q. ((first_twins r p t u ts us k, q), went_group r p t u ts us k)) b
 
 pub kind_blind : (m : Moves) (k : Kind) (t u : Token) → Twins m t u → is k t ≡ is k u
@@ -721,8 +721,8 @@ group_found {A = A} r n R k g h = record { each = follow }
     follow p q [] (u ∷ us) a = one_empty r p u us a
     follow p q (t ∷ ts) [] a = other_empty r p t ts a
     follow p q (t ∷ ts) (u ∷ us) a =
-        if_known (Found r true false p (Pair (Twins r.moves) R) (t ∷ ts) (u ∷ us)) (is k t) (is k u) (option_map (λ a. ((t, a), drop t.past ts)) (complete (g (take t.width ts)))) None
-        (option_map (λ a. ((u, a), drop u.past us)) (complete (g (take u.width us)))) None (kind_blind r.moves k t u (first_twins r p t u ts us a)) (λ e. inside_found r p R g t u ts us a (h p q t u ts us e a)) tt
+        if_known (Found r true false p (Pair (Twins r.moves) R) (t ∷ ts) (u ∷ us)) (is k t) (is k u) (option_map (λ a. ((t, a), drop (past t) ts)) (complete (g (take t.width ts)))) None
+        (option_map (λ a. ((u, a), drop (past u) us)) (complete (g (take u.width us)))) None (kind_blind r.moves k t u (first_twins r p t u ts us a)) (λ e. inside_found r p R g t u ts us a (h p q t u ts us e a)) tt
 
 -- in a group other than braces no body differs
 pub follows_inside : {A : Type 0} {r : Kin} {R : A → A → Type 0} {g : Descent Token A} (k : Kind) → sameb kinds.the_type k kind.OpenBrace ≡ false → Contents (inner r) R g → Follows r false true false (Pair (Twins r.moves) R) (take_inside (is k) width past g)

@@ -4,7 +4,7 @@ use Rattle.dart_tokens.specs.declared.token.Kind.TheVariants as kind
 use Rattle.readings.specs.Readings.{Reading, made, behind, first_behind, item_or_error}
 use Rattle.readings.specs.Descent.{Descent, bind, or_else, ◌▸◌, take_turn, take_maybe, take_at_most_elements, take_elements, take_items_at, all_items}
 use Rattle.dart_tokens.specs.declared.grouped_token.GroupedToken.{GroupedToken as Token}
-use Rattle.grammar.specs.Tokens.{is}
+use Rattle.grammar.specs.Tokens.{is, past}
 use Rattle.grammar.specs.Statements.{segment_at, segment}
 use Rattle.body_laws.specs.Bodies.{Moves}
 use Rattle.body_laws.proofs.Follow.{Kin, Like, first_twins, one_empty, other_empty, both_empty, behind_group, behind_any, state, Went, went_after, went_nowhere, went_weak, went_token, went_group, some_fewer, no_more_than, Both, Pair, Alls, Found, Follows, Marks, both_more, or_found, Tries, fewer_tries, no_left, no_right, nothing_found, seq_meets, turn_meets, clear_behind, and_none, first_found}
@@ -73,7 +73,7 @@ semicolon : (m : Moves) → Marks m (is kind.Semicolon)
 semicolon m = record { blind = λ t u w. rw w.kind refl; parenthesis = λ t e. rw e refl; bracket = λ t e. rw e refl; question = λ t e. rw e refl; brace = λ t e. rw e refl; interpolation = λ t e. rw e refl }
 
 abbrev Behind : (n : ℕ) → Token → List Token → ℕ
-Behind n t ts = suc t.past + segment_at n (drop t.past ts)
+Behind n t ts = suc (past t) + segment_at n (drop (past t) ts)
 
 went_segment : (r : Kin) (n m : ℕ) (p : Bool) (ts us : List Token) → length ts ≤ n → length us ≤ m → Like r p ts us → Went r false false p ts us (drop (segment_at n ts) ts) (drop (segment_at m us) us)
 went_segment r n m p [] [] l k a = rw (none n, none m) (went_nowhere r false p [] [] a)
@@ -88,27 +88,27 @@ went_segment r (suc n) zero p (t ∷ ts) (u ∷ us) l k a = absurd (omega (arith
 went_segment r (suc n) (suc m) p (t ∷ ts) (u ∷ us) l k a =
     let w = first_twins r p t u ts us a in
     let whole = went_group r p t u ts us a in
-    let further = went_segment r n m true (drop t.past ts) (drop u.past us) (omega (arith, l, drop_fewer t.past ts)) (omega (arith, k, drop_fewer u.past us)) (behind_any r (is kind.OpenParenthesis t) (drop t.past ts) (drop u.past us) (behind_group r p t u ts us a)) in
-    let both = went_after r false false p (t ∷ ts) (u ∷ us) (drop t.past ts) (drop u.past us) (drop (segment_at n (drop t.past ts)) (drop t.past ts)) (drop (segment_at m (drop u.past us)) (drop u.past us)) whole further in
+    let further = went_segment r n m true (drop (past t) ts) (drop (past u) us) (omega (arith, l, drop_fewer (past t) ts)) (omega (arith, k, drop_fewer (past u) us)) (behind_any r (is kind.OpenParenthesis t) (drop (past t) ts) (drop (past u) us) (behind_group r p t u ts us a)) in
+    let both = went_after r false false p (t ∷ ts) (u ∷ us) (drop (past t) ts) (drop (past u) us) (drop (segment_at n (drop (past t) ts)) (drop (past t) ts)) (drop (segment_at m (drop (past u) us)) (drop (past u) us)) whole further in
     by (is kind.Semicolon t) (is kind.Semicolon u) (is kind.OpenBrace t) (is kind.OpenBrace u) refl (rw w.kind refl) (rw w.kind refl) both
   where
-    by : (b c d e : Bool) → is kind.Semicolon t ≡ b → b ≡ c → d ≡ e → Went r true false p (t ∷ ts) (u ∷ us) (drop (segment_at n (drop t.past ts)) (drop t.past ts)) (drop (segment_at m (drop u.past us)) (drop u.past us)) →
-        Went r false false p (t ∷ ts) (u ∷ us) (drop (if b then 1 else if d then suc t.past else Behind n t ts) (t ∷ ts)) (drop (if c then 1 else if e then suc u.past else Behind m u us) (u ∷ us))
+    by : (b c d e : Bool) → is kind.Semicolon t ≡ b → b ≡ c → d ≡ e → Went r true false p (t ∷ ts) (u ∷ us) (drop (segment_at n (drop (past t) ts)) (drop (past t) ts)) (drop (segment_at m (drop (past u) us)) (drop (past u) us)) →
+        Went r false false p (t ∷ ts) (u ∷ us) (drop (if b then 1 else if d then suc (past t) else Behind n t ts) (t ∷ ts)) (drop (if c then 1 else if e then suc (past u) else Behind m u us) (u ∷ us))
     by true true d e s f g both = went_weak r true true p (t ∷ ts) (u ∷ us) ts us (went_token r p (is kind.Semicolon) (semicolon r.moves) t u ts us s a)
     by true false d e s f g both = absurd (cc)
     by false true d e s f g both = absurd (cc)
-    by false false true true s f g both = went_weak r true false p (t ∷ ts) (u ∷ us) (drop t.past ts) (drop u.past us) (went_group r p t u ts us a)
+    by false false true true s f g both = went_weak r true false p (t ∷ ts) (u ∷ us) (drop (past t) ts) (drop (past u) us) (went_group r p t u ts us a)
     by false false true false s f g both = absurd (cc)
     by false false false true s f g both = absurd (cc)
     by false false false false s f g both =
-        rw (drop_both (suc t.past) (segment_at n (drop t.past ts)) (t ∷ ts), drop_both (suc u.past) (segment_at m (drop u.past us)) (u ∷ us))
-        (went_weak r true false p (t ∷ ts) (u ∷ us) (drop (segment_at n (drop t.past ts)) (drop t.past ts)) (drop (segment_at m (drop u.past us)) (drop u.past us)) both)
+        rw (drop_both (suc (past t)) (segment_at n (drop (past t) ts)) (t ∷ ts), drop_both (suc (past u)) (segment_at m (drop (past u) us)) (u ∷ us))
+        (went_weak r true false p (t ∷ ts) (u ∷ us) (drop (segment_at n (drop (past t) ts)) (drop (past t) ts)) (drop (segment_at m (drop (past u) us)) (drop (past u) us)) both)
 
 -- a segment has a token
 segment_some : (t : Token) (ts : List Token) → suc (segment (t ∷ ts)) ≡ segment_at (length (t ∷ ts)) (t ∷ ts)
 segment_some t ts = by (is kind.Semicolon t) (is kind.OpenBrace t)
   where
-    by : (b c : Bool) → suc ((if b then 1 else if c then suc t.past else Behind (length ts) t ts) - 1) ≡ (if b then 1 else if c then suc t.past else Behind (length ts) t ts)
+    by : (b c : Bool) → suc ((if b then 1 else if c then suc (past t) else Behind (length ts) t ts) - 1) ≡ (if b then 1 else if c then suc (past t) else Behind (length ts) t ts)
     by true c = refl
     by false true = omega arith
     by false false = omega arith

@@ -117,7 +117,7 @@ pub blind_group : (r : Kin) (f : Token → Bool) (c : Test Token) → BlindTo r.
 blind_group r f c b d p [] [] a = refl
 blind_group r f c b d p [] (u ∷ us) a = one_empty r p u us a
 blind_group r f c b d p (t ∷ ts) [] a = other_empty r p t ts a
-blind_group r f c b d p (t ∷ ts) (u ∷ us) a = rw (b t u (first_twins r p t u ts us a), d (is kind.OpenParenthesis t) (drop t.past ts) (drop u.past us) (behind_group r p t u ts us a)) refl
+blind_group r f c b d p (t ∷ ts) (u ∷ us) a = rw (b t u (first_twins r p t u ts us a), d (is kind.OpenParenthesis t) (drop (past t) ts) (drop (past u) us) (behind_group r p t u ts us a)) refl
 
 pub blind_or : (r : Kin) (c d : Test Token) → Blind r c → Blind r d → Blind r (λ ts. c ts || d ts)
 blind_or r c d b e p ts us a = rw (b p ts us a, e p ts us a) refl
@@ -409,7 +409,7 @@ way_group r = record { each = follow }
     follow p (t ∷ ts) [] a = other_empty r p t ts a
     follow p (t ∷ ts) (u ∷ us) a =
         if_known (Onward r true (t ∷ ts) (u ∷ us)) (is kind.OpenParenthesis t) (is kind.OpenParenthesis u) (Some (drop (past t) ts)) None (Some (drop (past u) us)) None (ap (λ (k : Kind). sameb kinds.the_type k kind.OpenParenthesis) (first_twins r p t u ts us a).kind)
-        (λ e. record { like = behind_any r (is kind.OpenParenthesis t) (drop t.past ts) (drop u.past us) (behind_group r p t u ts us a); left = omega (arith, drop_fewer t.past ts); right = omega (arith, drop_fewer u.past us) }) tt
+        (λ e. record { like = behind_any r (is kind.OpenParenthesis t) (drop (past t) ts) (drop (past u) us) (behind_group r p t u ts us a); left = omega (arith, drop_fewer (past t) ts); right = omega (arith, drop_fewer (past u) us) }) tt
 
 way_where : (r : Kin) (c : Test Token) (v w : Way) → Blind r c → Goes r true v → Goes r true w → Goes r true (λ ts. if c ts then v ts else w ts)
 way_where r c v w b g h = record { each = λ p ts us k. if_known (Onward r true ts us) (c ts) (c us) (v ts) (w ts) (v us) (w us) (b p ts us k) (λ e. g.each p ts us k) (h.each p ts us k) }

@@ -2,7 +2,7 @@
 use Rattle.std.specs.Prelude.{◌≡◌, ℕ, zero, suc, Bool, true, false, ◌&&◌, ◌||◌, List, [], ◌∷◌, take, drop, if◌then◌else◌}
 use Rattle.dart_tokens.specs.declared.token.Kind.TheVariants as kind
 use Rattle.dart_tokens.specs.declared.grouped_token.GroupedToken.{GroupedToken as Token}
-use Rattle.grammar.specs.Tokens.{is, adjoins, last_end}
+use Rattle.grammar.specs.Tokens.{is, adjoins, last_end, past}
 use Rattle.interface_part.specs.declared.hidden.Hidden.{Hidden}
 
 -- where the tokens of a text stand in another, and what numbers their words have there: words that differ have numbers that differ
@@ -80,9 +80,9 @@ Alike m f (suc n) behind [] [] = Unit {0}
 Alike m f (suc n) behind [] (u ∷ us) = ⊥
 Alike m f (suc n) behind (t ∷ ts) [] = ⊥
 Alike m f (suc n) behind (t ∷ ts) (u ∷ us) =
-    Twins m t u × (last_end (u ∷ take u.past us) ≡ m.ends (last_end (t ∷ take t.past ts)))
+    Twins m t u × (last_end (u ∷ take (past u) us) ≡ m.ends (last_end (t ∷ take (past t) ts)))
     × (is kind.Greater t ≡ true → adjoins_next t ts ≡ adjoins_next u us)
-    × Alike m f n (is kind.OpenParenthesis t) (drop t.past ts) (drop u.past us)
+    × Alike m f n (is kind.OpenParenthesis t) (drop (past t) ts) (drop (past u) us)
     × (opens_body f behind t ≡ false → Alike m (in_group f t) n false (take t.width ts) (take u.width us))
     × (opens_group t ≡ false → Alike m f n false ts us)
     × (is_plain f ≡ true → is kind.Function t ≡ false)

@@ -4,7 +4,7 @@ ghost use Rattle.std.specs.Prelude.{◌≡◌, ◌<◌, ◌^◌, length, map, If
 ghost use Rattle.std.specs.List.Sorted.{IsNonDecreasingBy};
 ghost use Rattle.dart_scan.specs.Scanned.{tokens_of};
 ghost use Rattle.grammar.specs.Tokens.{grammar_tokens};
-ghost use Rattle.segment_faults.specs.Nesting.{AreDepths};
+ghost use Rattle.segment_faults.specs.Nesting.{AreDeep};
 ghost use Rattle.dart_parse.specs.Faults.{fault_over, tree_faults};
 
 use crate::unit::read_tokens;
@@ -13,7 +13,7 @@ use dart_tree::{Place, Span, Unit};
 use error_nodes::error_nodes;
 use grammar::Token;
 use parse_expr::{starts_before, tokens_over};
-use segment_faults::{SegmentFault, group_depths, segment_fault};
+use segment_faults::{SegmentFault, deep_tokens, segment_fault};
 use std::alloc::{AllocError, Global};
 
 /// A segment of a text that derives nothing, and what is wrong with it.
@@ -26,16 +26,16 @@ pub struct TreeFault {
 }
 
 /// What is wrong with the segment over which an error stands.
-fn fault_over(text: &[Token], depths: &[u32], at: Place) -> TreeFault
+fn fault_over(text: &[Token], deep: &[bool], at: Place) -> TreeFault
     requires ordered { IsNonDecreasingBy (λ t. t.start) text.now }
-    requires depths { AreDepths text.now depths.now }
+    requires deep { AreDeep text.now deep.now }
     ensures { result ≡ fault_over text.now at }
 {
     let first = starts_before(text, at.span.start);
     let count = tokens_over(text, &at).len();
     TreeFault {
         span: at.span,
-        fault: segment_fault(text, depths, first, count),
+        fault: segment_fault(text, deep, first, count),
     }
 }
 
@@ -49,10 +49,10 @@ fn faults_over(
     requires ordered { IsNonDecreasingBy (λ t. t.start) text.now }
     ensures { IfOk result (λ faults. faults.items ≡ map (fault_over text.now) errors.now) }
 {
-    let depths = group_depths(alloc, text)?;
+    let deep = deep_tokens(alloc, text)?;
     let mut faults = Vec::new(alloc);
     for at in errors {
-        faults.push(fault_over(text, &depths, *at))?;
+        faults.push(fault_over(text, &deep, *at))?;
     }
     Ok(faults)
 }

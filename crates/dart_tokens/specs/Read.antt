@@ -8,6 +8,10 @@ use Rattle.dart_tokens.specs.declared.tokens.UnopenedBracket.{UnopenedBracket}
 use Rattle.dart_tokens.specs.Kinds.{opens, closes}
 use Rattle.dart_tokens.specs.Groups.{partners_of}
 
+-- how many tokens stand between one and what comes behind its group: those in the group, and the bracket that closes it, if one does
+unfoldable pub past : GroupedToken → ℕ
+past t = t.width + (if t.is_closed then 1 else 0)
+
 -- a token closes no group
 abbrev pub is_unopened : Kind → Option ℕ → Bool
 is_unopened k partner = is_some (closes k) && not (is_some partner)
@@ -31,16 +35,16 @@ abbrev pub grouped : List (Option ℕ) → (place end : ℕ) → Token → List 
 grouped all place end t ts ps =
     record {
       kind = t.kind;
+      is_closed = is_closed_by all end place;
       start = t.start;
       end = t.end;
       word = t.word;
       width = kept_before place end ts ps;
-      past = kept_before place end ts ps + (if is_closed_by all end place then 1 else 0);
     }
 
 -- any other token
 abbrev pub ungrouped : Token → GroupedToken
-ungrouped t = record { kind = t.kind; start = t.start; end = t.end; word = t.word; width = 0; past = 0 }
+ungrouped t = record { kind = t.kind; is_closed = false; start = t.start; end = t.end; word = t.word; width = 0 }
 
 -- a token of a text, by its partner
 abbrev pub token_of : List (Option ℕ) → (place : ℕ) → Option ℕ → Token → List Token → List (Option ℕ) → GroupedToken

@@ -76,7 +76,10 @@ pub struct Level {
     pub closable: Kinds,
 }
 
-/// Open groups, one in another.
+/// Memory for so many groups is kept, however few are open.
+const KEPT: usize = 1024;
+
+/// Open groups, one in another. Much memory is given back as they end.
 #[derive(Debug, Drop)]
 pub struct OpenGroups {
     levels: Vec<Level>,
@@ -122,7 +125,18 @@ impl OpenGroups {
         ensures { MatchOption result ((self.old ≡ []) × (self.new ≡ [])) (λ group. self.old ≡ open_of group ∷ self.new) }
     {
         let level = self.levels.pop()?;
+        self.give_back();
         Some(level.group)
+    }
+
+    /// Gives memory back where no more than half of it is used.
+    fn give_back(&mut self)
+        ensures { self.new ≡ self.old }
+    {
+        let room = self.levels.capacity();
+        if room > KEPT && self.levels.len() <= room / 2 {
+            self.levels.shrink_to(room / 4 * 3);
+        }
     }
 
     /// Whether a closing bracket of the kind closes a group.

@@ -15,7 +15,7 @@ use Rattle.grammar.specs.Expressions.{heads_label, heads_closure, one_time}
 abbrev pub segment_at : ℕ → List Token → ℕ
 segment_at zero ts = 0
 segment_at (suc n) [] = 0
-segment_at (suc n) (t ∷ ts) = if is kind.Semicolon t then 1 else if is kind.OpenBrace t then suc t.past else suc t.past + segment_at n (drop t.past ts)
+segment_at (suc n) (t ∷ ts) = if is kind.Semicolon t then 1 else if is kind.OpenBrace t then suc (past t) else suc (past t) + segment_at n (drop (past t) ts)
 
 -- how many tokens a segment has behind its first
 abbrev pub segment : List Token → ℕ
@@ -259,7 +259,7 @@ is_case t = is_either kind.Case kind.Default t
 abbrev pub case_size_at : ℕ → List Token → ℕ
 case_size_at zero ts = 0
 case_size_at (suc n) [] = 0
-case_size_at (suc n) (t ∷ ts) = if is_case t then 0 else suc t.past + case_size_at n (drop t.past ts)
+case_size_at (suc n) (t ∷ ts) = if is_case t then 0 else suc (past t) + case_size_at n (drop (past t) ts)
 
 -- how many tokens the statements of a case have
 abbrev pub case_size : List Token → ℕ

@@ -6,7 +6,7 @@ use Rattle.readings.specs.Readings.{Test, next}
 use Rattle.dart_tokens.specs.declared.token.Kind.{Kind}
 use Rattle.dart_tokens.specs.contracts.token.Kind as kinds
 use Rattle.dart_tokens.specs.Kinds.{is_identifier, may_name_a_type}
-pub use Rattle.dart_tokens.specs.Read.{is_unopened, kept, kept_before, is_closed_by, grouped, ungrouped, token_of, tokens_from, grammar_tokens}
+pub use Rattle.dart_tokens.specs.Read.{past, is_unopened, kept, kept_before, is_closed_by, grouped, ungrouped, token_of, tokens_from, grammar_tokens}
 use Rattle.dart_tree.specs.declared.places.Span.{Span}
 use Rattle.dart_tree.specs.declared.places.Place.{Place}
 use Rattle.dart_tree.specs.declared.names.Name.{Name}
@@ -47,7 +47,7 @@ first_then f c (t ∷ ts) = f t && c ts
 -- the next token opens a group of the kind, and what comes behind the group passes
 abbrev pub group_then : (Token → Bool) → Test Token → Test Token
 group_then f c [] = false
-group_then f c (t ∷ ts) = f t && c (drop t.past ts)
+group_then f c (t ∷ ts) = f t && c (drop (past t) ts)
 
 -- whatever comes next
 abbrev pub anything : Test Token
@@ -56,10 +56,6 @@ anything ts = true
 -- how many tokens stand in the group that a token opens
 abbrev pub width : Token → ℕ
 width t = t.width
-
--- how many tokens stand between a token and what comes behind its group
-abbrev pub past : Token → ℕ
-past t = t.past
 
 -- the first token begins where the other ends
 abbrev pub adjoins : Token → Token → Bool

@@ -1,6 +1,5 @@
 -- What is wrong with groups shows in the tokens that the grammar reads and the brackets between them.
-use Rattle.std.proofs.Common.{◌≡◌, ℕ, suc, ◌+◌, ◌-◌, ◌==◌, Bool, true, false, List, [], ◌∷◌, ◌++◌, take, length, if◌then◌else◌, is_some, refl, sym, ap, ◌∙◌, arith, append_assoc}
-use Rattle.std.proofs.lemmas.Bool.{eq-eqb, ne_eqb}
+use Rattle.std.proofs.Common.{◌≡◌, ℕ, suc, ◌+◌, ◌-◌, Bool, not, true, false, List, [], ◌∷◌, ◌++◌, take, length, if◌then◌else◌, is_some, refl, sym, ap, ◌∙◌, arith, append_assoc}
 use Rattle.dart_tokens.specs.declared.token.Kind.{Kind}
 use Rattle.dart_tokens.specs.declared.token.Token.{Token}
 use Rattle.dart_tokens.specs.declared.grouped_token.GroupedToken.{GroupedToken}
@@ -10,7 +9,7 @@ use Rattle.dart_tokens.specs.declared.groups.GroupFaultKind.TheVariants.{Unclose
 use Rattle.dart_tokens.specs.Groups.{Bracket, Open, GroupEnd, opens, closes, after_token, end_of, partner_of, fault_at, faults_of_token, faults_from, faults_of}
 use Rattle.dart_tokens.specs.Stack.{BeganBefore}
 use Rattle.dart_tokens.specs.Read.{is_unopened}
-use Rattle.grouping.specs.Ahead.{kinds_of, kinds_after, width_ahead, is_closed_ahead, closes_none, is_left_out, sized_token, read_ahead, unopened_ahead}
+use Rattle.grouping.specs.Ahead.{kinds_of, kinds_after, is_closed_ahead, closes_none, is_left_out, sized_token, read_ahead, unopened_ahead}
 use Rattle.grouping.specs.Faults.{fault_of_read, faults_between}
 use Rattle.grouping.proofs.KindLemmas.{kinds_token, length-kinds, unopened_kinds}
 use Rattle.grouping.proofs.EndLemmas.{BeganBefore-token}
@@ -49,13 +48,9 @@ fault_kept : (place : ℕ) (t : Token) (around : List Open) (ts : List Token) �
     fault_of_read place (sized_token t (kinds_of around) ts) ≡ faults_of_token place t.kind around ts
 fault_kept place t around ts began kept = by (is_some (opens t.kind)) refl
   where
-    width : ℕ
-    width = width_ahead (length (kinds_of around)) (kinds_after t.kind (kinds_of around)) ts
-
-    closing : (closed : Bool) →
-        (if width == (width + (if closed then 1 else 0)) then fault_at place UnclosedGroup ∷ [] else []) ≡ (if closed then [] else fault_at place UnclosedGroup ∷ [])
-    closing true = let e : (width == (width + 1)) ≡ false = ne_eqb width (width + 1) (λ (h : width ≡ width + 1). omega (arith, h)) in rw e refl
-    closing false = let e : (width == (width + 0)) ≡ true = eq-eqb width (width + 0) (omega arith) in rw e refl
+    closing : (closed : Bool) → (if not closed then fault_at place UnclosedGroup ∷ [] else []) ≡ (if closed then [] else fault_at place UnclosedGroup ∷ [])
+    closing true = refl
+    closing false = refl
 
     by : (b : Bool) → is_some (opens t.kind) ≡ b → fault_of_read place (sized_token t (kinds_of around) ts) ≡ faults_of_token place t.kind around ts
     by true e =

@@ -92,16 +92,10 @@ ended_ahead end kinds (group ∷ outer) read =
     let e : end - suc group.place + 0 ≡ end - suc group.place = omega arith in
     ap (λ (n : ℕ). sized_ahead end kinds [] outer (sized_at group.place n false read)) e ∙ ended_ahead end kinds outer (sized_at group.place (end - suc group.place) false read)
 
-set_past : (closed : Bool) (width past : ℕ) → past ≡ (if closed then width + 1 else width) → past ≡ width + (if closed then 1 else 0)
-set_past true width past e = e
-set_past false width past e = omega (arith, e)
-
-pub set_shown : (items : List GroupedToken) (place end width past : ℕ) (closed : Bool) (d : GroupedToken) → place < length items → d ≡ get_or items place d → width ≡ end - suc place →
-    past ≡ (if closed then width + 1 else width) →
-    set items place (record { kind = d.kind; start = d.start; end = d.end; word = d.word; width = width; past = past }) ≡ sized_at place (end - suc place) closed items
-set_shown items place end width past closed d within is_d is_width is_past =
+pub set_shown : (items : List GroupedToken) (place end width : ℕ) (closed : Bool) (d : GroupedToken) → place < length items → d ≡ get_or items place d → width ≡ end - suc place →
+    set items place (record { kind = d.kind; is_closed = closed; start = d.start; end = d.end; word = d.word; width = width }) ≡ sized_at place (end - suc place) closed items
+set_shown items place end width closed d within is_d is_width =
     let at : get_or items place d ≡ d = sym is_d in
     let shown : sized_at place (end - suc place) closed items ≡ set items place (sized d (end - suc place) closed)
     = sized_at-set place (end - suc place) closed items d within ∙ ap (λ (x : GroupedToken). set items place (sized x (end - suc place) closed)) at in
-    let p : past ≡ end - suc place + (if closed then 1 else 0) = set_past closed width past is_past ∙ ap (λ (n : ℕ). n + (if closed then 1 else 0)) is_width in
-    rw (is_width, p) (sym shown)
+    rw is_width (sym shown)

@@ -1,5 +1,5 @@
 -- What becomes of open groups in the tokens ahead: told without places, by the kinds of the groups, innermost first.
-use Rattle.std.specs.Prelude.{ℕ, suc, ◌+◌, ◌==◌, Bool, false, not, nat_lt, List, [], ◌∷◌, map, length, if◌then◌else◌, Option, None, Some, is_some, unwrap_or}
+use Rattle.std.specs.Prelude.{ℕ, suc, ◌==◌, Bool, false, not, nat_lt, List, [], ◌∷◌, map, length, if◌then◌else◌, Option, None, Some, is_some, unwrap_or}
 use Rattle.std.specs.Option.{option_map_or}
 use Rattle.dart_tokens.specs.declared.token.Kind.{Kind}
 use Rattle.dart_tokens.specs.declared.token.Token.{Token}
@@ -57,7 +57,7 @@ is_closed_ahead depth around (t ∷ ts) =
 
 -- a token with the size of its group
 abbrev pub sized : GroupedToken → (width : ℕ) → (closed : Bool) → GroupedToken
-sized t width closed = record t { width = width; past = width + (if closed then 1 else 0) }
+sized t width closed = record t { is_closed = closed; width = width }
 
 -- a token that opens a group, or doesn't, with the size that its group has in the tokens ahead
 abbrev pub sized_token : Token → List Bracket → List Token → GroupedToken

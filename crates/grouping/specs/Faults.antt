@@ -1,5 +1,5 @@
 -- What is wrong with groups, by the tokens that the grammar reads and the brackets between them.
-use Rattle.std.specs.Prelude.{ℕ, ◌+◌, ◌-◌, ◌==◌, ◌&&◌, List, [], ◌∷◌, ◌++◌, take, drop, length, if◌then◌else◌, is_some}
+use Rattle.std.specs.Prelude.{ℕ, ◌+◌, ◌-◌, not, ◌&&◌, List, [], ◌∷◌, ◌++◌, take, drop, length, if◌then◌else◌, is_some}
 use Rattle.dart_tokens.specs.declared.grouped_token.GroupedToken.{GroupedToken}
 use Rattle.dart_tokens.specs.declared.tokens.UnopenedBracket.{UnopenedBracket}
 use Rattle.dart_tokens.specs.declared.groups.GroupFault.{GroupFault}
@@ -8,7 +8,7 @@ use Rattle.dart_tokens.specs.Groups.{opens, fault_at}
 
 -- what is wrong with a token at a place: it opens a group that no token closes
 abbrev pub fault_of_read : (place : ℕ) → GroupedToken → List GroupFault
-fault_of_read place t = if is_some (opens t.kind) && (t.width == t.past) then fault_at place UnclosedGroup ∷ [] else []
+fault_of_read place t = if is_some (opens t.kind) && not t.is_closed then fault_at place UnclosedGroup ∷ [] else []
 
 -- of tokens one behind another, of which the first has this place
 abbrev pub faults_of_read : (place : ℕ) → List GroupedToken → List GroupFault

@@ -14,7 +14,7 @@ fn add_fault(
 ) -> Result<(), AllocError>
     ensures { OnOk result (faults.new.items ≡ faults.old.items ++ fault_of_read place token) }
 {
-    if opens(token.kind).is_some() && token.width == token.past {
+    if opens(token.kind).is_some() && !token.is_closed {
         faults.push(GroupFault {
             kind: GroupFaultKind::UnclosedGroup,
             token: place,

@@ -50,11 +50,11 @@ fn add(read: &mut Vec<GroupedToken>, token: Token) -> Result<(), AllocError>
 {
     read.push(GroupedToken {
         kind: token.kind,
+        is_closed: false,
         start: token.start,
         end: token.end,
         word: token.word,
         width: 0,
-        past: 0,
     })?;
     Ok(())
 }

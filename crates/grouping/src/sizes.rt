@@ -14,10 +14,9 @@ fn set_size(read: &mut Vec<GroupedToken>, place: u32, end: u32, closed: bool)
     ensures count { vec_len read.new ≡ vec_len read.old }
 {
     let width = end.saturating_sub(place).saturating_sub(1);
-    let past = if closed { width + 1 } else { width };
     let mut token = read[place as usize];
     token.width = width;
-    token.past = past;
+    token.is_closed = closed;
     read[place as usize] = token;
 }
 

@@ -7,6 +7,7 @@ use Rattle.dart_tokens.specs.declared.token.Token.{Token as TextToken}
 use Rattle.dart_tokens.specs.Kinds.{opens}
 use Rattle.dart_tokens.specs.Groups.{partners_of}
 use Rattle.dart_tokens.specs.declared.grouped_token.GroupedToken.{GroupedToken as Token}
+use Rattle.dart_tokens.specs.Read.{past}
 use Rattle.grammar.specs.Tokens.{is_unopened, grouped, ungrouped, token_of, tokens_from, grammar_tokens}
 use Rattle.node_counts.specs.Rising.{Rise, HoldGroups, TextRises}
 
@@ -33,13 +34,14 @@ rise_in_turn (t ∷ ts) h a =
 
 -- a token stands where it did, and its group lies in what is passed to come behind it
 abbrev Stands : TextToken → Token → Type 0
-Stands t u = (u.start ≡ t.start) × ((u.end ≡ t.end) × (u.width ≤ u.past))
+Stands t u = (u.start ≡ t.start) × ((u.end ≡ t.end) × (u.width ≤ past u))
 
 stands_if : (t : TextToken) (u v : Token) (b : Bool) → Stands t u → Stands t v → Stands t (if b then u else v)
 stands_if t u v true h k = h
 stands_if t u v false h k = k
 
 stands : (all : List (Option ℕ)) (place : ℕ) (p : Option ℕ) (t : TextToken) (ts : List TextToken) (ps : List (Option ℕ)) → Stands t (token_of all place p t ts ps)
+unfolding past
 stands all place None t ts ps = (refl, (refl, omega arith))
 stands all place (Some partner) t ts ps = stands_if t (grouped all place partner t ts ps) (ungrouped t) (is_some (opens t.kind)) (refl, (refl, omega arith)) (refl, (refl, omega arith))
 

@@ -3,6 +3,7 @@ use Rattle.std.specs.Prelude.{◌≡◌, ◌<◌, ◌≤◌, ℕ, List, [], ◌�
 use Rattle.readings.specs.Leading.{Each}
 use Rattle.dart_tokens.specs.declared.token.Token.{Token as TextToken}
 use Rattle.dart_tokens.specs.declared.grouped_token.GroupedToken.{GroupedToken as Token}
+use Rattle.dart_tokens.specs.Read.{past}
 
 -- each takes a code unit at least, and ends before any later one begins, or right there
 abbrev pub Rise : List Token → Type 0
@@ -11,7 +12,7 @@ Rise (t ∷ ts) = (t.start < t.end) × (Each (λ u. t.end ≤ u.start) ts × Ris
 
 -- a group lies in what is passed to come behind it
 abbrev pub HoldGroups : List Token → Type 0
-HoldGroups ts = Each (λ t. t.width ≤ t.past) ts
+HoldGroups ts = Each (λ t. t.width ≤ past t) ts
 
 -- so of the tokens of a text
 abbrev pub TextRises : List TextToken → Type 0

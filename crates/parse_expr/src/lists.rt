@@ -37,7 +37,7 @@ pub fn behind_segment(tokens: &[Token]) -> &[Token]
         if first.kind == Kind::Semicolon {
             return behind;
         }
-        let after = tokens_behind(behind, first.past as usize);
+        let after = tokens_behind(behind, first.past());
         if first.kind == Kind::OpenBrace {
             return after;
         }

@@ -5,7 +5,7 @@ use Rattle.dart_tokens.specs.declared.token.Kind.{Kind}
 use Rattle.dart_tree.specs.Tree.{Tree, trees_of}
 use Rattle.dart_tokens.specs.declared.grouped_token.GroupedToken.{GroupedToken as Token}
 use Rattle.dart_tree.specs.Heights.{height, heights}
-use Rattle.grammar.specs.Tokens.{is}
+use Rattle.grammar.specs.Tokens.{is, past}
 use Rattle.parse_leaves.specs.declared.miss.Miss.{Miss}
 use Rattle.parse_leaves.specs.declared.miss.Miss.TheVariants.{NoReading, Memory}
 
@@ -27,7 +27,7 @@ Finds view None found = found ≡ None
 -- the group that comes next: its opening bracket, what stands in it, and what comes behind it
 abbrev pub group : Kind → List Token → Option (Token × (List Token × List Token))
 group k [] = None
-group k (t ∷ ts) = if is k t then Some (t, (take t.width ts, drop t.past ts)) else None
+group k (t ∷ ts) = if is k t then Some (t, (take t.width ts, drop (past t) ts)) else None
 
 -- the node's height is known, and it is within the room
 abbrev pub IsDeep : ℕ → Tree → ℕ → Type 0

@@ -189,7 +189,7 @@ fn heads_braced_rest(tokens: &[Token]) -> bool
 {
     match tokens.split_first() {
         Some((first, rest)) => {
-            first.kind == Kind::OpenBrace && heads_rest(tokens_behind(rest, first.past as usize))
+            first.kind == Kind::OpenBrace && heads_rest(tokens_behind(rest, first.past()))
         }
         None => false,
     }
@@ -221,7 +221,7 @@ pub fn heads_closure(setting: Setting, tokens: &[Token]) -> bool
     match tokens.split_first() {
         Some((first, rest)) => {
             first.kind == Kind::OpenParenthesis
-                && heads_body(setting, tokens_behind(rest, first.past as usize))
+                && heads_body(setting, tokens_behind(rest, first.past()))
         }
         None => false,
     }

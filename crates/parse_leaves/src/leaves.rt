@@ -80,7 +80,7 @@ pub fn group(tokens: &[Token], kind: Kind) -> Option<(Token, &[Token], &[Token])
     match tokens.split_first() {
         Some((first, rest)) if first.kind == kind => {
             let inside = first_tokens(rest, first.width as usize);
-            let behind = tokens_behind(rest, first.past as usize);
+            let behind = tokens_behind(rest, first.past());
             Some((*first, inside, behind))
         }
         _ => None,

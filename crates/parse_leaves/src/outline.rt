@@ -49,7 +49,7 @@ fn over_group(tokens: &[Token]) -> Option<&[Token]>
 {
     match tokens.split_first() {
         Some((first, rest)) if first.kind == Kind::OpenParenthesis => {
-            Some(tokens_behind(rest, first.past as usize))
+            Some(tokens_behind(rest, first.past()))
         }
         _ => None,
     }
@@ -292,7 +292,7 @@ fn heads_called(setting: Setting, tokens: &[Token]) -> bool
     match tokens.split_first() {
         Some((first, rest)) => {
             first.kind == Kind::OpenParenthesis
-                && behind_call(setting, tokens_behind(rest, first.past as usize))
+                && behind_call(setting, tokens_behind(rest, first.past()))
         }
         None => false,
     }

@@ -4,6 +4,7 @@ use Rattle.std.proofs.lemmas.List.{drop-drop}
 use Rattle.dart_tree.specs.Tree.{Tree, trees_of}
 use Rattle.dart_tree.specs.Heights.{higher, height, heights}
 use Rattle.dart_tokens.specs.declared.grouped_token.GroupedToken.{GroupedToken as Token}
+use Rattle.dart_tokens.specs.Read.{past}
 use Rattle.grammar.specs.Statements.{is_case, case_size_at, ends_with_default}
 use Rattle.parse_leaves.specs.Sizes.{higher_zero, zero_higher, higher_twice}
 
@@ -30,16 +31,16 @@ dropped_one : (m n : ℕ) (t : Token) (ts : List Token) → drop (suc m + n) (t 
 dropped_one m n t ts = let e : suc m + n ≡ suc (m + n) = omega arith in ap (λ k. drop k (t ∷ ts)) e
 
 -- a token or group before it
-sized_step : (n : ℕ) (t : Token) (ts : List Token) → is_case t ≡ false → drop (case_size_at (suc n) (t ∷ ts)) (t ∷ ts) ≡ drop (case_size_at n (drop t.past ts)) (drop t.past ts)
+sized_step : (n : ℕ) (t : Token) (ts : List Token) → is_case t ≡ false → drop (case_size_at (suc n) (t ∷ ts)) (t ∷ ts) ≡ drop (case_size_at n (drop (past t) ts)) (drop (past t) ts)
 sized_step n t ts e =
-    let size : ℕ = case_size_at n (drop t.past ts) in
-    rw e (dropped_one t.past size t ts ∙ sym (drop-drop size t.past ts))
+    let size : ℕ = case_size_at n (drop (past t) ts) in
+    rw e (dropped_one (past t) size t ts ∙ sym (drop-drop size (past t) ts))
 
-pub sized_goes : (all : List Token) (n m : ℕ) (t : Token) (rest ts us : List Token) → all ≡ drop (case_size_at n rest) rest → 0 < n → rest ≡ t ∷ ts → is_case t ≡ false → us ≡ drop t.past ts → m ≡ n - 1 → all ≡ drop (case_size_at m us) us
-sized_goes all zero m t rest ts us so some is e at less = absurd (omega (arith, some))
-sized_goes all (suc n) m t rest ts us so some is e at less =
+pub sized_goes : (all : List Token) (n m k : ℕ) (t : Token) (rest ts us : List Token) → all ≡ drop (case_size_at n rest) rest → 0 < n → rest ≡ t ∷ ts → is_case t ≡ false → k ≡ past t → us ≡ drop k ts → m ≡ n - 1 → all ≡ drop (case_size_at m us) us
+sized_goes all zero m k t rest ts us so some is e over at less = absurd (omega (arith, some))
+sized_goes all (suc n) m k t rest ts us so some is e over at less =
     let same : suc n - 1 ≡ n = omega arith in
-    so ∙ ap (λ vs. drop (case_size_at (suc n) vs) vs) is ∙ sized_step n t ts e ∙ ap (λ vs. drop (case_size_at n vs) vs) (sym at) ∙ ap (λ k. drop (case_size_at k us) us) (sym (less ∙ same))
+    so ∙ ap (λ vs. drop (case_size_at (suc n) vs) vs) is ∙ sized_step n t ts e ∙ ap (λ vs. drop (case_size_at n vs) vs) (ap (λ j. drop j ts) (sym over) ∙ sym at) ∙ ap (λ j. drop (case_size_at j us) us) (sym (less ∙ same))
 
 -- Whether only the last case is the default.
 

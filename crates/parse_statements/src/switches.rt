@@ -39,7 +39,7 @@ fn behind_case(tokens: &[Token]) -> &[Token]
         if is_case(*first) {
             return rest;
         }
-        rest = tokens_behind(behind, first.past as usize);
+        rest = tokens_behind(behind, first.past());
         more -= 1;
     }
     rest

@@ -11,7 +11,7 @@ use Rattle.readings.specs.Leading.{Each}
 use Rattle.readings.specs.Lists.{each_implies}
 use Rattle.dart_tree.specs.declared.places.Place.{Place}
 use Rattle.dart_tokens.specs.declared.grouped_token.GroupedToken.{GroupedToken as Token}
-use Rattle.grammar.specs.Tokens.{last_end, place_over}
+use Rattle.grammar.specs.Tokens.{last_end, place_over, past}
 use Rattle.grammar.specs.Whole.{begins_within, tokens_over}
 use Rattle.node_counts.specs.Rising.{Rise, HoldGroups}
 
@@ -109,7 +109,7 @@ part_rise text ts r p = rise_front ts p.back (rise_back p.front (ts ++ p.back) (
 
 pub part_hold : (text ts : List Token) → HoldGroups text → PartOf text ts → HoldGroups ts
 part_hold text ts h p =
-    each_front (λ t. t.width ≤ t.past) ts p.back (each_back (λ t. t.width ≤ t.past) p.front (ts ++ p.back) (subst HoldGroups p.is h))
+    each_front (λ t. t.width ≤ past t) ts p.back (each_back (λ t. t.width ≤ past t) p.front (ts ++ p.back) (subst HoldGroups p.is h))
 
 -- what was read
 pub taken : (ts read rest : List Token) → ts ≡ read ++ rest → tokens_read ts rest ≡ read

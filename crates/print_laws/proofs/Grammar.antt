@@ -6,6 +6,7 @@ use Rattle.dart_tokens.specs.declared.token.Token.{Token as TextToken}
 use Rattle.dart_tokens.specs.Kinds.{opens}
 use Rattle.dart_tokens.specs.Groups.{partners_of}
 use Rattle.dart_tokens.specs.declared.grouped_token.GroupedToken.{GroupedToken as Token}
+use Rattle.dart_tokens.specs.Read.{past}
 use Rattle.grammar.specs.Tokens.{is_unopened, kept_before, is_closed_by, grouped, ungrouped, token_of, tokens_from, grammar_tokens}
 use Rattle.tree_print.specs.Printed.{adjoins}
 use Rattle.range_laws.specs.Agreeing.{Twins, Agree, adjoins_next, AdjoinAlike}
@@ -16,6 +17,7 @@ use Rattle.print_laws.proofs.Groups.{partners-same, size-same}
 -- The same tokens are read.
 
 ungrouped_same : (t u : TextToken) → t.kind ≡ u.kind → t.word ≡ u.word → Twins (ungrouped t) (ungrouped u)
+unfolding past
 ungrouped_same t u k w = record { kind = k; word = w; width = refl; past = refl }
 
 twins_if : (b c : Bool) (x y v w : Token) → b ≡ c → Twins x y → Twins v w → Twins (if b then x else v) (if c then y else w)
@@ -25,6 +27,7 @@ twins_if false true x y v w e h k = absurd (cc)
 twins_if false false x y v w e h k = k
 
 token_same : (all : List (Option ℕ)) (place : ℕ) (p : Option ℕ) (t u : TextToken) (ts us : List TextToken) (ps : List (Option ℕ)) → t.kind ≡ u.kind → t.word ≡ u.word → OfKinds ts us → Twins (token_of all place p t ts ps) (token_of all place p u us ps)
+unfolding past
 token_same all place None t u ts us ps k w s = ungrouped_same t u k w
 token_same all place (Some end) t u ts us ps k w s =
     let size : kept_before place end ts ps ≡ kept_before place end us ps = size-same place end ts us ps s in

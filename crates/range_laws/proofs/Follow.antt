@@ -284,11 +284,11 @@ inside_at r R g a t u same n m ts us s =
     (complete_found r R (g (take n ts)) (g (take n us)) (a.each (take n ts) (take n us) (alike_take r n ts us s)))
 
 inside_found : {A : Type 0} (r : Readers) (R : A → A → Type 0) (g : Descent Token A) → Follows r R g → (t u : Token) → Twins t u → (ts us : List Token) → Alike r ts us →
-    Both (Found r (Pair Twins R)) (option_map (λ a. ((t, a), drop t.past ts)) (complete (g (take t.width ts)))) (option_map (λ a. ((u, a), drop u.past us)) (complete (g (take u.width us))))
+    Both (Found r (Pair Twins R)) (option_map (λ a. ((t, a), drop (past t) ts)) (complete (g (take t.width ts)))) (option_map (λ a. ((u, a), drop (past u) us)) (complete (g (take u.width us))))
 inside_found r R g a t u same ts us s =
-    subst (λ (n : ℕ). Both (Found r (Pair Twins R)) (option_map (λ a. ((t, a), drop t.past ts)) (complete (g (take t.width ts)))) (option_map (λ a. ((u, a), drop u.past us)) (complete (g (take n us))))) same.width
-    (subst (λ (m : ℕ). Both (Found r (Pair Twins R)) (option_map (λ a. ((t, a), drop t.past ts)) (complete (g (take t.width ts)))) (option_map (λ a. ((u, a), drop m us)) (complete (g (take t.width us))))) same.past
-    (inside_at r R g a t u same t.width t.past ts us s))
+    subst (λ (n : ℕ). Both (Found r (Pair Twins R)) (option_map (λ a. ((t, a), drop (past t) ts)) (complete (g (take t.width ts)))) (option_map (λ a. ((u, a), drop (past u) us)) (complete (g (take n us))))) same.width
+    (subst (λ (m : ℕ). Both (Found r (Pair Twins R)) (option_map (λ a. ((t, a), drop (past t) ts)) (complete (g (take t.width ts)))) (option_map (λ a. ((u, a), drop m us)) (complete (g (take t.width us))))) same.past
+    (inside_at r R g a t u same t.width (past t) ts us s))
 
 pub follows_inside : {A : Type 0} {r : Readers} {R : A → A → Type 0} {g : Descent Token A} (opens : Token → Bool) → BlindTo opens → Follows r R g → Follows r (Pair Twins R) (take_inside opens width past g)
 follows_inside {A = A} {r = r} {R = R} {g = g} opens blind a = record { each = follow } where
@@ -297,7 +297,7 @@ follows_inside {A = A} {r = r} {R = R} {g = g} opens blind a = record { each = f
   follow [] (u ∷ us) s = absurd s.agree
   follow (t ∷ ts) [] s = absurd s.agree
   follow (t ∷ ts) (u ∷ us) s =
-      if_found (Found r (Pair Twins R)) (opens t) (opens u) (option_map (λ a. ((t, a), drop t.past ts)) (complete (g (take t.width ts)))) None (option_map (λ a. ((u, a), drop u.past us)) (complete (g (take u.width us)))) None
+      if_found (Found r (Pair Twins R)) (opens t) (opens u) (option_map (λ a. ((t, a), drop (past t) ts)) (complete (g (take t.width ts)))) None (option_map (λ a. ((u, a), drop (past u) us)) (complete (g (take u.width us)))) None
       (blind t u s.agree.0) (inside_found r R g a t u s.agree.0 ts us (alike_behind r t u ts us s)) tt
 
 pub follows_before : {A : Type 0} {r : Readers} {R : A → A → Type 0} {g : Descent Token A} (c : Test Token) → Blind r c → Follows r R g → Follows r R (take_before c g)

@@ -72,7 +72,7 @@ pub blind_group : (r : Readers) (f : Token → Bool) (c : Test Token) → BlindT
 blind_group r f c b d [] [] a = refl
 blind_group r f c b d [] (u ∷ us) a = absurd a.agree
 blind_group r f c b d (t ∷ ts) [] a = absurd a.agree
-blind_group r f c b d (t ∷ ts) (u ∷ us) a = rw (b t u a.agree.0, a.agree.0.past, d (drop u.past ts) (drop u.past us) (alike_drop r u.past ts us (alike_behind r t u ts us a))) refl
+blind_group r f c b d (t ∷ ts) (u ∷ us) a = rw (b t u a.agree.0, a.agree.0.past, d (drop (past u) ts) (drop (past u) us) (alike_drop r (past u) ts us (alike_behind r t u ts us a))) refl
 
 pub blind_or : (r : Readers) (c d : Test Token) → Blind r c → Blind r d → Blind r (λ ts. c ts || d ts)
 blind_or r c d b e ts us a = rw (b ts us a, e ts us a) refl
@@ -231,7 +231,7 @@ group_goes r [] (u ∷ us) a = absurd a.agree
 group_goes r (t ∷ ts) [] a = absurd a.agree
 group_goes r (t ∷ ts) (u ∷ us) a =
     if_goes r (is kind.OpenParenthesis t) (is kind.OpenParenthesis u) (Some (drop (past t) ts)) None (Some (drop (past u) us)) None (blind_is kind.OpenParenthesis t u a.agree.0)
-    (subst (λ (n : ℕ). Alike r (drop (past t) ts) (drop n us)) a.agree.0.past (alike_drop r t.past ts us (alike_behind r t u ts us a))) tt
+    (subst (λ (n : ℕ). Alike r (drop (past t) ts) (drop n us)) a.agree.0.past (alike_drop r (past t) ts us (alike_behind r t u ts us a))) tt
 
 name_goes : (r : Readers) → Goes r over_name
 name_goes r ts us a =
@@ -337,7 +337,7 @@ segments_same r (suc n) [] [] a = refl
 segments_same r (suc n) [] (u ∷ us) a = absurd a.agree
 segments_same r (suc n) (t ∷ ts) [] a = absurd a.agree
 segments_same r (suc n) (t ∷ ts) (u ∷ us) a =
-    rw (a.agree.0.kind, a.agree.0.past, segments_same r n (drop u.past ts) (drop u.past us) (alike_drop r u.past ts us (alike_behind r t u ts us a))) refl
+    rw (a.agree.0.past, a.agree.0.kind, segments_same r n (drop (past u) ts) (drop (past u) us) (alike_drop r (past u) ts us (alike_behind r t u ts us a))) refl
 
 pub same_segment : (r : Readers) (ts us : List Token) → Alike r ts us → segment ts ≡ segment us
 same_segment r ts us a = rw (agree_length ts us a.agree, segments_same r (length us) ts us a) refl
@@ -348,7 +348,7 @@ cases_same r (suc n) [] [] a = refl
 cases_same r (suc n) [] (u ∷ us) a = absurd a.agree
 cases_same r (suc n) (t ∷ ts) [] a = absurd a.agree
 cases_same r (suc n) (t ∷ ts) (u ∷ us) a =
-    rw (a.agree.0.kind, a.agree.0.past, cases_same r n (drop u.past ts) (drop u.past us) (alike_drop r u.past ts us (alike_behind r t u ts us a))) refl
+    rw (a.agree.0.past, a.agree.0.kind, cases_same r n (drop (past u) ts) (drop (past u) us) (alike_drop r (past u) ts us (alike_behind r t u ts us a))) refl
 
 pub same_case_size : (r : Readers) (ts us : List Token) → Alike r ts us → case_size ts ≡ case_size us
 same_case_size r ts us a = rw (agree_length ts us a.agree, cases_same r (length us) ts us a) refl

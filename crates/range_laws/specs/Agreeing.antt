@@ -2,14 +2,14 @@
 use Rattle.std.specs.Prelude.{◌≡◌, Bool, true, false, List, [], ◌∷◌}
 use Rattle.dart_tokens.specs.declared.token.Kind.TheVariants as kind
 use Rattle.dart_tokens.specs.declared.grouped_token.GroupedToken.{GroupedToken as Token}
-use Rattle.grammar.specs.Tokens.{is, adjoins}
+use Rattle.grammar.specs.Tokens.{is, adjoins, past}
 
 -- two tokens are the same, with their ranges aside
 pub record Twins (t u : Token) : Type 0 where
   pub kind : t.kind ≡ u.kind
   pub word : t.word ≡ u.word
   pub width : t.width ≡ u.width
-  pub past : t.past ≡ u.past
+  pub past : past t ≡ past u
 
 -- two lists have the same tokens
 abbrev pub Agree : List Token → List Token → Type 0

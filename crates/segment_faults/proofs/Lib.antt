@@ -1,5 +1,6 @@
 pub mod Around
 mod Examples
+pub mod Farthest
 pub mod Firsts
 pub mod Outsides
 pub mod Rows

@@ -1,6 +1,5 @@
 -- Segments with too many groups in one another, or with too many lexemes.
 use Rattle.std.specs.Prelude.{◌≡◌, ℕ, zero, suc, ◌+◌, ◌<◌, Bool, true, false, ◌||◌, nat_lt, List, [], ◌∷◌, length, take, drop, get_or, filter, if◌then◌else◌}
-use Rattle.dart_tokens.specs.declared.token.Kind.{Kind}
 use Rattle.dart_tokens.specs.Kinds.{Bracket, Round, Square, Curly, Interpolation, Sort, PlainName, GrammarName, AsynchronousName, BuiltInName, BuiltInType, ReservedWord, Number, StringPart, Opening, Closing, Mark, sort_of}
 use Rattle.dart_tokens.specs.declared.grouped_token.GroupedToken.{GroupedToken as Token}
 
@@ -12,10 +11,10 @@ groups_around zero text = 0
 groups_around (suc between) [] = 0
 groups_around (suc between) (t ∷ ts) = (if nat_lt between t.width then 1 else 0) + groups_around between ts
 
--- for each token of a text how many groups it lies in
-pub record AreDepths (text : List Token) (depths : List ℕ) : Type 0 where
-  pub size : length depths ≡ length text
-  pub each : (place : ℕ) → place < length text → get_or depths place 0 ≡ groups_around place text
+-- for each token of a text whether it lies in more than 100 groups
+pub record AreDeep (text : List Token) (deep : List Bool) : Type 0 where
+  pub size : length deep ≡ length text
+  pub each : (place : ℕ) → place < length text → get_or deep place false ≡ nat_lt 100 (groups_around place text)
 
 -- one of so many places passes, from a first one on
 abbrev pub any_place : (ℕ → Bool) → (first count : ℕ) → Bool

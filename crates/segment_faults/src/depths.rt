@@ -1,54 +1,117 @@
-//! How many groups each token of a text lies in.
+//! Which tokens of a text lie in too many groups.
 
-ghost use Rattle.std.specs.Prelude.{◌≡◌, ◌+◌, ◌-◌, ◌<◌, ◌^◌, IfOk, length, take, nat_lt, if◌then◌else◌};
-ghost use Rattle.segment_faults.specs.Nesting.{AreDepths};
-ghost use Rattle.segment_faults.specs.Ends.{AreEnds};
+ghost use Rattle.std.specs.Prelude.{◌≡◌, ◌<◌, ◌^◌, ◌∷◌, [], IfOk, MatchOption, OnOk, length};
+ghost use Rattle.segment_faults.specs.Ends.{ahead, farthest, inserted, nearest};
+ghost use Rattle.segment_faults.specs.Nesting.{AreDeep};
 
 use grammar::Token;
 use std::alloc::{AllocError, Global};
+use std::marker::Model;
 
-/// Counts the group of the token at a place among those that end with its last token. The entries
-/// behind the place count the groups that end with their tokens; the others stay as they are.
-fn end_group(tokens: &[Token], entries: &mut [u32], place: usize)
-    requires few { length tokens.now < 2 ^ 32 }
-    requires within { place < length tokens.now }
-    requires ends { AreEnds tokens.now place entries.old }
-    ensures ends { AreEnds tokens.now (place + 1) entries.new }
-    ensures front { take (place + 1) entries.new ≡ take (place + 1) entries.old }
-{
-    let width = tokens[place].width as usize;
-    if width > 0 && width < entries.len() - place {
-        entries[place + width] += 1;
+/// A token that lies in more groups than these lies in too many.
+const MOST: usize = 100;
+
+/// The places of the last tokens of groups: of those that reach farthest, one more than `MOST`.
+#[derive(Debug, Drop)]
+struct FarEnds {
+    /// The nearest is the last.
+    ends: Vec<usize>,
+}
+
+impl Model for FarEnds {
+    ghost use Rattle.std.specs.Prelude.{ℕ, List, reverse};
+
+    ghost Value = { List ℕ };
+
+    ghost view = { λ a. reverse a.ends.items };
+}
+
+impl FarEnds {
+    fn new(alloc: Global) -> FarEnds
+        ensures { result ≡ [] }
+    {
+        FarEnds {
+            ends: Vec::new(alloc),
+        }
+    }
+
+    fn len(&self) -> usize
+        ensures { result ≡ length self.now }
+    {
+        self.ends.len()
+    }
+
+    fn nearest(&self) -> Option<usize>
+        ensures { result ≡ nearest self.now }
+    {
+        self.ends.last().copied()
+    }
+
+    fn push(&mut self, end: usize) -> Result<(), AllocError>
+        ensures { OnOk result (self.new ≡ end ∷ self.old) }
+    {
+        self.ends.push(end)?;
+        Ok(())
+    }
+
+    fn pop(&mut self) -> Option<usize>
+        ensures { MatchOption result ((self.old ≡ []) × (self.new ≡ [])) (λ end. self.old ≡ end ∷ self.new) }
+    {
+        self.ends.pop()
+    }
+
+    /// The groups that end before a place are behind.
+    fn pass(&mut self, place: usize)
+        ensures { self.new ≡ ahead place self.old }
+    {
+        while let Some(end) = self.nearest() {
+            if end >= place {
+                return;
+            }
+            self.pop();
+        }
+    }
+
+    /// One end more, in its order.
+    fn insert(&mut self, end: usize) -> Result<(), AllocError>
+        ensures { OnOk result (self.new ≡ inserted end self.old) }
+    {
+        let Some(nearest) = self.pop() else {
+            return self.push(end);
+        };
+        if nearest < end {
+            self.insert(end)?;
+            return self.push(nearest);
+        }
+        self.push(nearest)?;
+        self.push(end)
+    }
+
+    /// A group more. The one that ends first goes where there are too many.
+    fn add(&mut self, end: usize) -> Result<(), AllocError>
+        ensures { OnOk result (self.new ≡ farthest (inserted end self.old)) }
+    {
+        self.insert(end)?;
+        if self.len() > MOST + 1 {
+            self.pop();
+        }
+        Ok(())
     }
 }
 
-/// How many groups the token behind one lies in: one more where that holds tokens in its group, and
-/// without those that end with it.
-fn depth_behind(depth: u32, width: u32, ended: u32) -> u32
-    requires { depth + 1 < 2 ^ 32 }
-    ensures { result ≡ depth + (if nat_lt 0 width then 1 else 0) - ended }
-{
-    if width > 0 {
-        (depth + 1).saturating_sub(ended)
-    } else {
-        depth.saturating_sub(ended)
-    }
-}
-
-/// For each token of a text how many of its groups the token lies in.
-pub fn group_depths(alloc: Global, tokens: &[Token]) -> Result<Vec<u32>, AllocError>
+/// For each token of a text whether it lies in more than 100 of its groups.
+pub fn deep_tokens(alloc: Global, tokens: &[Token]) -> Result<Vec<bool>, AllocError>
     requires few { length tokens.now < 2 ^ 32 }
-    ensures { IfOk result (λ depths. AreDepths tokens.now depths.items) }
+    ensures { IfOk result (λ deep. AreDeep tokens.now deep.items) }
 {
-    // The entries before `place` are depths; those from it on count the groups that end with their
-    // tokens, of those that the tokens before `place` open.
-    let mut depths = vec![in alloc; 0u32; tokens.len()]?;
-    let mut depth: u32 = 0;
-    for place in 0..tokens.len() {
-        end_group(tokens, &mut depths, place);
-        let ended = depths[place];
-        depths[place] = depth;
-        depth = depth_behind(depth, tokens[place].width, ended);
+    let mut deep = Vec::with_capacity(alloc, tokens.len())?;
+    let mut around = FarEnds::new(alloc);
+    for (place, token) in tokens.iter().enumerate() {
+        around.pass(place);
+        deep.push(around.len() > MOST)?;
+        if token.width > 0 {
+            around.add(place + token.width as usize)?;
+        }
     }
-    Ok(depths)
+    Ok(deep)
 }

@@ -1,7 +1,7 @@
 //! Segments with too many groups in one another, or with too many lexemes.
 
 ghost use Rattle.std.specs.Prelude.{◌≡◌, ◌+◌, ◌≤◌, length, take, drop};
-ghost use Rattle.segment_faults.specs.Nesting.{AreDepths, is_deep, is_long, is_nested, is_punctuation};
+ghost use Rattle.segment_faults.specs.Nesting.{AreDeep, is_deep, is_long, is_nested, is_punctuation};
 
 use dart_tokens::Kind;
 use grammar::Token;
@@ -47,13 +47,13 @@ fn is_long(segment: &[Token]) -> bool
 }
 
 /// A token of the segment lies in more than 100 groups of the text.
-fn is_deep(tokens: &[Token], depths: &[u32], first: usize, count: usize) -> bool
-    requires depths { AreDepths tokens.now depths.now }
+fn is_deep(tokens: &[Token], deep: &[bool], first: usize, count: usize) -> bool
+    requires deep { AreDeep tokens.now deep.now }
     requires within { first + count ≤ length tokens.now }
     ensures { result ≡ is_deep tokens.now first count }
 {
     for place in first..first + count {
-        if depths[place] > 100 {
+        if deep[place] {
             return true;
         }
     }
@@ -61,10 +61,10 @@ fn is_deep(tokens: &[Token], depths: &[u32], first: usize, count: usize) -> bool
 }
 
 /// The segment is nested too deep, or too long.
-pub fn is_nested(tokens: &[Token], depths: &[u32], first: usize, count: usize) -> bool
-    requires depths { AreDepths tokens.now depths.now }
+pub fn is_nested(tokens: &[Token], deep: &[bool], first: usize, count: usize) -> bool
+    requires deep { AreDeep tokens.now deep.now }
     requires within { first + count ≤ length tokens.now }
     ensures { result ≡ is_nested tokens.now first count }
 {
-    is_deep(tokens, depths, first, count) || is_long(&tokens[first..first + count])
+    is_deep(tokens, deep, first, count) || is_long(&tokens[first..first + count])
 }

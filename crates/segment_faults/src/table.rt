@@ -158,7 +158,7 @@ fn heads_parameters_equals(ahead: &[Token]) -> bool
     match ahead.split_first() {
         Some((first, rest)) => {
             first.kind == Kind::OpenParenthesis
-                && heads(tokens_behind(rest, first.past as usize), Kind::Equals)
+                && heads(tokens_behind(rest, first.past()), Kind::Equals)
         }
         None => false,
     }

@@ -8,6 +8,7 @@ use Rattle.dart_tokens.specs.declared.token.Kind.TheVariants as kind
 use Rattle.dart_tokens.specs.declared.token.Token.{Token as TextToken}
 use Rattle.dart_tokens.specs.Groups.{Bracket, Round, Curly, opens, is_same}
 use Rattle.dart_tokens.specs.declared.grouped_token.GroupedToken.{GroupedToken as Token}
+use Rattle.dart_tokens.specs.Read.{past}
 use Rattle.grammar.specs.Tokens.{is, last_end, grammar_tokens}
 use Rattle.body_laws.specs.Bodies.{Moves, Freedom, is_free, opens_body, opens_group, Alike}
 use Rattle.text_edits.specs.Brackets.{kinds_after, falls_below, freedom_within, all_may_stand, ends_group, is_body, may_differ, leads_to_body}
@@ -142,21 +143,22 @@ module _ (m : Moves) (f : Freedom) (left left_there right right_there : TextToke
       any_flag (t ∷ ts) b around h = h
 
   braces_level : (n : ℕ) (around : List Bracket) → suc (length behind_it) ≤ suc n → Fits true around → Alike m (freedom_within f around) (suc n) true (level around (left ∷ rest)) (level around (left_there ∷ other))
+  unfolding past
   braces_level n around le fit =
       let x : Token = read_by around (Some Curly) left rest in
       let y : Token = read_by around (Some Curly) left_there other in
       let one : List Token = window (length around) (Curly ∷ around) rest in
       let two : List Token = window (length around) (Curly ∷ around) other in
       let least : ℕ = suc (length around) in
-      let last : last_end (y ∷ take y.past two) ≡ m.ends (last_end (x ∷ take x.past one)) =
+      let last : last_end (y ∷ take (past y) two) ≡ m.ends (last_end (x ∷ take (past x) one)) =
       last_window (length around) least (Curly ∷ around) other y (omega arith) (omega arith) ∙ pass_ends left_there.end least (Curly ∷ around) instead right_there later fit.holds_too ∙ close_twins.end
       ∙ ap (λ (e : ℕ). m.ends e) (sym (last_window (length around) least (Curly ∷ around) rest x (omega arith) (omega arith) ∙ pass_ends left.end least (Curly ∷ around) inside right behind_it fit.holds)) in
-      let dropped : drop x.past one ≡ level around behind_it =
+      let dropped : drop (past x) one ≡ level around behind_it =
       drop_window around (Curly ∷ around) rest (over_braces around) (omega arith) ∙ ap (λ (o : Option (List TextToken)). level_behind around o) (pass_behind least (Curly ∷ around) inside right behind_it fit.holds) in
-      let dropped_too : drop y.past two ≡ level around later =
+      let dropped_too : drop (past y) two ≡ level around later =
       drop_window around (Curly ∷ around) other (over_braces around) (omega arith) ∙ ap (λ (o : Option (List TextToken)). level_behind around o) (pass_behind least (Curly ∷ around) instead right_there later fit.holds_too) in
-      let further : (b : Bool) → Alike m (freedom_within f around) n b (drop x.past one) (drop y.past two) =
-      λ b. subst (λ (ws : List Token). Alike m (freedom_within f around) n b ws (drop y.past two)) (sym dropped) (subst (λ (ws : List Token). Alike m (freedom_within f around) n b (level around behind_it) ws) (sym dropped_too) (plain_levels n b around fit.stand (omega (arith, le)))) in
+      let further : (b : Bool) → Alike m (freedom_within f around) n b (drop (past x) one) (drop (past y) two) =
+      λ b. subst (λ (ws : List Token). Alike m (freedom_within f around) n b ws (drop (past y) two)) (sym dropped) (subst (λ (ws : List Token). Alike m (freedom_within f around) n b (level around behind_it) ws) (sym dropped_too) (plain_levels n b around fit.stand (omega (arith, le)))) in
       let body : opens_body (freedom_within f around) true x ≡ true = opened (is_free (freedom_within f around)) left.kind fit.is_free_here brace in
       let made : Alike m (freedom_within f around) (suc n) true (x ∷ one) (y ∷ two) = (
         by_twins m around (Some Curly) (Some Curly) left left_there rest other open_twins,
@@ -184,7 +186,7 @@ module _ (m : Moves) (f : Freedom) (left left_there right right_there : TextToke
       no_function k e = rw e refl
 
       any_group : Kind → Bool
-      any_group k = opens_group (record { kind = k; start = 0; end = 0; word = 0; width = 0; past = 0 })
+      any_group k = opens_group (record { kind = k; is_closed = false; start = 0; end = 0; word = 0; width = 0 })
 
       no_group : (k : Kind) → k ≡ kind.OpenBrace → any_group k ≡ false → ⊥
       no_group k e g = let h : any_group kind.OpenBrace ≡ false = ap (λ (j : Kind). any_group j) (sym e) ∙ g in cc

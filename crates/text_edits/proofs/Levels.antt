@@ -9,6 +9,7 @@ use Rattle.dart_tokens.specs.declared.token.Kind.TheVariants as kind
 use Rattle.dart_tokens.specs.declared.token.Token.{Token as TextToken}
 use Rattle.dart_tokens.specs.Groups.{Bracket, Round, Square, Curly, Interpolation, opens, is_same}
 use Rattle.dart_tokens.specs.declared.grouped_token.GroupedToken.{GroupedToken as Token}
+use Rattle.dart_tokens.specs.Read.{past}
 use Rattle.grammar.specs.Tokens.{is, ungrouped, last_end}
 use Rattle.body_laws.specs.Bodies.{Moves, Twins, adjoins_next, Freedom, none, is_plain, in_braces, in_group, opens_body, Alike}
 use Rattle.text_edits.specs.Brackets.{kinds_closed, kinds_after, falls_below, closes_parameters, freedom_within, may_stand, all_may_stand}
@@ -103,6 +104,7 @@ ends_kind k e least around u us h = ap (λ (j : Kind). ends_by j e least around 
 
 plain_alike : (m : Moves) (f : Freedom) (n : ℕ) (b : Bool) (t u : TextToken) (ts us : List Token) → TextTwins m t u → HeadTwins m ts us → ((c : Bool) → Alike m f n c ts us) →
     (is_plain f ≡ true → sameb kinds.the_type t.kind kind.Function ≡ false) → Alike m f (suc n) b (ungrouped t ∷ ts) (ungrouped u ∷ us)
+unfolding past
 plain_alike m f n b t u ts us w h rest plain = (
   by_twins m [] None None t u [] [] w,
   w.end,
@@ -114,14 +116,14 @@ plain_alike m f n b t u ts us w h rest plain = (
 )
 
 group_alike : (m : Moves) (f : Freedom) (n : ℕ) (b : Bool) (x y : Token) (t u : TextToken) (ts us : List Token) → x.kind ≡ t.kind → x.end ≡ t.end → y.end ≡ u.end → Twins m x y → TextTwins m t u → HeadTwins m ts us → is_some (opens t.kind) ≡ true →
-    last_end (y ∷ take y.past us) ≡ m.ends (last_end (x ∷ take x.past ts)) → Alike m f n (sameb kinds.the_type t.kind kind.OpenParenthesis) (drop x.past ts) (drop y.past us) →
+    last_end (y ∷ take (past y) us) ≡ m.ends (last_end (x ∷ take (past x) ts)) → Alike m f n (sameb kinds.the_type t.kind kind.OpenParenthesis) (drop (past x) ts) (drop (past y) us) →
     (opens_body f b x ≡ false → Alike m (if sameb kinds.the_type t.kind kind.OpenBrace then in_braces f else none) n false (take x.width ts) (take y.width us)) → (is_plain f ≡ true → sameb kinds.the_type t.kind kind.Function ≡ false) →
     Alike m f (suc n) b (x ∷ ts) (y ∷ us)
 group_alike m f n b x y t u ts us k e d tw w h o last further inside plain = (
   tw,
   last,
   λ g. adjoin_alike m t u x y ts us w e d (ap (λ (j : Kind). sameb kinds.the_type j kind.Greater) (sym k) ∙ g) h,
-  subst (λ (j : Kind). Alike m f n (sameb kinds.the_type j kind.OpenParenthesis) (drop x.past ts) (drop y.past us)) (sym k) further,
+  subst (λ (j : Kind). Alike m f n (sameb kinds.the_type j kind.OpenParenthesis) (drop (past x) ts) (drop (past y) us)) (sym k) further,
   λ p. subst (λ (j : Kind). Alike m (if sameb kinds.the_type j kind.OpenBrace then in_braces f else none) n false (take x.width ts) (take y.width us)) (sym k) (inside p),
   λ g. absurd (never (is_some (opens t.kind)) o (sym ((known_opening t.kind).1.1) ∙ ap opens_any (sym k) ∙ g)),
   λ p. ap (λ (j : Kind). sameb kinds.the_type j kind.Function) k ∙ plain p,
@@ -263,6 +265,7 @@ module _ (m : Moves) (f : Freedom) (rest other : List TextToken) (cost : ℕ) (m
   no_parameters t around e = rw e refl
 
   step : (n : ℕ) → AlikeFor n → AlikeFor (suc n)
+  unfolding past
   step n ih b around [] [] a fit le = tails.levels (suc n) b around (omega (arith, le)) fit
   step n ih b around [] (u ∷ us) a fit le = absurd a
   step n ih b around (t ∷ ts) [] a fit le = absurd a
@@ -285,7 +288,7 @@ module _ (m : Moves) (f : Freedom) (rest other : List TextToken) (cost : ℕ) (m
           let two : List Token = window (length around) (g ∷ around) (us ++ other) in
           let after : kinds_after t.kind around ≡ g ∷ around = opener_after t.kind g around o in
           let fits : (c : Bool) → all_may_stand f may c (g ∷ around) ts ≡ true = λ c. fit_next c t around (g ∷ around) ts after (no_parameters t around e) fit_rest in
-          let last : last_end (y ∷ take y.past two) ≡ m.ends (last_end (x ∷ take x.past one)) =
+          let last : last_end (y ∷ take (past y) two) ≡ m.ends (last_end (x ∷ take (past x) one)) =
           last_window (length around) (suc (length around)) (g ∷ around) (us ++ other) y (omega arith) (omega arith)
           ∙ ends_twin t.end u.end (suc (length around)) false (g ∷ around) ts us a.1 a.0.end (omega arith) (fits false)
           ∙ ap (λ (e : ℕ). m.ends e) (sym (last_window (length around) (suc (length around)) (g ∷ around) (ts ++ rest) x (omega arith) (omega arith))) in
@@ -294,8 +297,8 @@ module _ (m : Moves) (f : Freedom) (rest other : List TextToken) (cost : ℕ) (m
           let is_brace : sameb kinds.the_type t.kind kind.OpenBrace ≡ is_same Curly g = (known_opening t.kind).0 ∙ ap (λ (p : Option Bracket). option_map_or (λ b. is_same Curly b) p false) o in
           let open_group = sameb kinds.the_type t.kind kind.OpenParenthesis in
           let tail = behinds_twin n ih open_group false g around (g ∷ around) ts us a.1 (fits false) (omega (arith, le)) over (over_itself (g ∷ around)) (omega arith) (λ r. is_round ∙ r) in
-          let further : Alike m (freedom_within f around) n open_group (drop x.past one) (drop y.past two) =
-          subst (λ (ws : List Token). Alike m (freedom_within f around) n open_group ws (drop y.past two)) (sym (drop_window around (g ∷ around) (ts ++ rest) over (omega arith)))
+          let further : Alike m (freedom_within f around) n open_group (drop (past x) one) (drop (past y) two) =
+          subst (λ (ws : List Token). Alike m (freedom_within f around) n open_group ws (drop (past y) two)) (sym (drop_window around (g ∷ around) (ts ++ rest) over (omega arith)))
           (subst (λ (ws : List Token). Alike m (freedom_within f around) n open_group (level_behind around (behind (suc (length around)) (g ∷ around) (ts ++ rest))) ws) (sym (drop_window around (g ∷ around) (us ++ other) over (omega arith))) tail) in
           let within = ih false (g ∷ around) ts us a.1 (fits false) (omega (arith, le)) in
           let inside : Alike m (if sameb kinds.the_type t.kind kind.OpenBrace then in_braces (freedom_within f around) else none) n false (take x.width one) (take y.width two) =

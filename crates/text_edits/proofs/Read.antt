@@ -10,7 +10,7 @@ use Rattle.dart_tokens.specs.Groups.{Bracket, Interpolation, Open, opens, closes
 use Rattle.dart_tokens.specs.declared.grouped_token.GroupedToken.{GroupedToken as Token}
 use Rattle.grammar.specs.Tokens.{is_unopened, kept, kept_before, is_closed_by, grouped, ungrouped, token_of, tokens_from, grammar_tokens}
 use Rattle.text_edits.specs.Brackets.{kinds_closed, kinds_after_closing, kinds_after_opening, kinds_after, falls_below}
-use Rattle.text_edits.proofs.Windows.{is_lost_by, is_lost, size, ended, read_by, read_in, window, level, above_is, below_is, is_above}
+use Rattle.text_edits.proofs.Windows.{is_lost_by, is_lost, size, is_ended, read_by, read_in, window, level, above_is, below_is, is_above}
 
 abbrev pub brackets : List Open → List Bracket
 brackets around = map (λ o. o.bracket) around
@@ -210,7 +210,7 @@ abbrev closes_at : List (Option ℕ) → (place steps : ℕ) → Bool
 closes_at partners place n = option_map_or (λ p. option_map_or (λ b. b == place) p false) (slice_get partners n) false
 
 closed_steps : (place least at : ℕ) (around : List Open) (ts : List TextToken) → place < at → least ≤ length around → Fits place least around →
-    (if closes_at (partners_from at around ts) place (steps least (brackets around) ts) then 1 else 0) ≡ ended least (brackets around) ts
+    closes_at (partners_from at around ts) place (steps least (brackets around) ts) ≡ is_ended least (brackets around) ts
 unfolding partners_from
 closed_steps place least at around [] h g f = refl
 closed_steps place least at around (t ∷ ts) h g f =
@@ -223,15 +223,15 @@ closed_steps place least at around (t ∷ ts) h g f =
     partners = partners_from (at + 1) (after_token at t.kind around) ts
 
     by : (e : Bool) → falls_below least t.kind (brackets around) ≡ e →
-        (least ≤ length (after_token at t.kind around) → (if closes_at partners place (steps least (brackets (after_token at t.kind around)) ts) then 1 else 0) ≡ ended least (brackets (after_token at t.kind around)) ts) →
-        (if closes_at (partner_of at t.kind around ts ∷ partners) place (steps least (brackets around) (t ∷ ts)) then 1 else 0) ≡ ended least (brackets around) (t ∷ ts)
+        (least ≤ length (after_token at t.kind around) → closes_at partners place (steps least (brackets (after_token at t.kind around)) ts) ≡ is_ended least (brackets (after_token at t.kind around)) ts) →
+        closes_at (partner_of at t.kind around ts ∷ partners) place (steps least (brackets around) (t ∷ ts)) ≡ is_ended least (brackets around) (t ∷ ts)
     by true e r =
         let test : option_map_or (λ p. p == place) (partner_of at t.kind around ts) false ≡ (suc (length after) == least) =
         end_test place least around (opens t.kind) (closes t.kind) (group_end at (at + 1) (after_token at t.kind around) ts).place e g f in
-        rw e (ap (λ (b : Bool). if b then 1 else 0) test)
+        rw e test
     by false e r =
-        let rest : (if closes_at partners place (steps least after ts) then 1 else 0) ≡ ended least after ts =
-        subst (λ (bs : List Bracket). (if closes_at partners place (steps least bs ts) then 1 else 0) ≡ ended least bs ts) (after_same at t.kind around) (r (after_above least at t.kind around e)) in
+        let rest : closes_at partners place (steps least after ts) ≡ is_ended least after ts =
+        subst (λ (bs : List Bracket). closes_at partners place (steps least bs ts) ≡ is_ended least bs ts) (after_same at t.kind around) (r (after_above least at t.kind around e)) in
         rw e rest
 
 -- Groups that began before a place.
@@ -279,8 +279,8 @@ get_behind zero all i = let e : 0 + i ≡ i = omega arith in ap (λ (m : ℕ). s
 get_behind (suc n) [] i = refl
 get_behind (suc n) (p ∷ all) i = let e : suc n + i ≡ suc (n + i) = omega arith in ap (λ (m : ℕ). slice_get (p ∷ all) m) e ∙ get_behind n all i
 
-abbrev token_with : TextToken → (width past : ℕ) → Token
-token_with t width past = record { kind = t.kind; start = t.start; end = t.end; word = t.word; width = width; past = past }
+abbrev token_with : TextToken → (width : ℕ) → (closed : Bool) → Token
+token_with t width closed = record { kind = t.kind; is_closed = closed; start = t.start; end = t.end; word = t.word; width = width }
 
 -- a token as the grammar reads it
 read_same : (all : List (Option ℕ)) (place : ℕ) (around : List Open) (t : TextToken) (ts : List TextToken) → Below place around → drop (place + 1) all ≡ partners_from (place + 1) (after_token place t.kind around) ts →
@@ -307,12 +307,12 @@ read_same all place around t ts h d = by (opens t.kind) refl
         ∙ kept_steps least (place + 1) opened ts in
         let found : slice_get all end ≡ slice_get (partners_from (place + 1) opened ts) (steps least (b ∷ brackets around) ts) =
         ap (λ (n : ℕ). slice_get all n) at ∙ get_behind (place + 1) all (steps least (b ∷ brackets around) ts) ∙ ap (λ (ps : List (Option ℕ)). slice_get ps (steps least (b ∷ brackets around) ts)) (d ∙ partners_are) in
-        let closing : (if is_closed_by all end place then 1 else 0) ≡ ended least (b ∷ brackets around) ts =
-        ap (λ (o : Option (Option ℕ)). if option_map_or (λ p. option_map_or (λ q. q == place) p false) o false then 1 else 0) found
+        let closing : is_closed_by all end place ≡ is_ended least (b ∷ brackets around) ts =
+        ap (λ (o : Option (Option ℕ)). option_map_or (λ p. option_map_or (λ q. q == place) p false) o false) found
         ∙ closed_steps place least (place + 1) opened ts (omega arith) (omega (arith, size_same around)) fits in
-        made (kept_before place end ts partners) (size least (b ∷ brackets around) ts) (if is_closed_by all end place then 1 else 0) (ended least (b ∷ brackets around) ts) sized closing
+        made (kept_before place end ts partners) (size least (b ∷ brackets around) ts) (is_closed_by all end place) (is_ended least (b ∷ brackets around) ts) sized closing
       where
-        made : (w x c d : ℕ) → w ≡ x → c ≡ d → token_with t w (w + c) ≡ token_with t x (x + d)
+        made : (w x : ℕ) (c d : Bool) → w ≡ x → c ≡ d → token_with t w c ≡ token_with t x d
         made w x c d e f = rw (e, f) refl
 
     by : (o : Option Bracket) → opens t.kind ≡ o → token_of all place (partner_of place t.kind around ts) t ts partners ≡ read_in (brackets around) t ts

@@ -24,11 +24,14 @@ size least around [] = 0
 size least around (t ∷ ts) =
     if falls_below least t.kind around then 0 else (if is_lost t.kind around then size least (kinds_after t.kind around) ts else suc (size least (kinds_after t.kind around) ts))
 
+-- a token closes it
+abbrev pub is_ended : (least : ℕ) → List Bracket → List TextToken → Bool
+is_ended least around [] = false
+is_ended least around (t ∷ ts) = if falls_below least t.kind around then suc (length (kinds_after t.kind around)) == least else is_ended least (kinds_after t.kind around) ts
+
 -- one, if a token closes it
 abbrev pub ended : (least : ℕ) → List Bracket → List TextToken → ℕ
-ended least around [] = 0
-ended least around (t ∷ ts) =
-    if falls_below least t.kind around then (if suc (length (kinds_after t.kind around)) == least then 1 else 0) else ended least (kinds_after t.kind around) ts
+ended least around ts = if is_ended least around ts then 1 else 0
 
 -- what comes behind it, if a token closes it
 abbrev pub behind : (least : ℕ) → List Bracket → List TextToken → Option (List TextToken)
@@ -49,11 +52,11 @@ read_by around None t ts = ungrouped t
 read_by around (Some b) t ts =
     record {
       kind = t.kind;
+      is_closed = is_ended (suc (length around)) (b ∷ around) ts;
       start = t.start;
       end = t.end;
       word = t.word;
       width = size (suc (length around)) (b ∷ around) ts;
-      past = size (suc (length around)) (b ∷ around) ts + ended (suc (length around)) (b ∷ around) ts;
     }
 
 abbrev pub read_in : List Bracket → TextToken → List TextToken → Token

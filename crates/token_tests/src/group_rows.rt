@@ -71,7 +71,7 @@ fn grouped(alloc: Global, none: Grouping, tokens: &[Token]) -> Result<Grouped, A
 fn sizes_of(alloc: Global, grouped: &Grouped) -> Result<String, Fail> {
     let mut sizes = String::new(alloc);
     for token in grouped.tokens.read() {
-        let (width, past) = (token.width, token.past);
+        let (width, past) = (token.width, token.past());
         sizes.push_str(&format!(in alloc; " {width}{past}")?)?;
     }
     Ok(sizes)

@@ -16,7 +16,7 @@ returns-then-eq-2 c =
     let there : c.loop-more.rest.now ≡ c.in-Some.first.now ∷ c.in-Some.behind.now = search rules in
     let no_semicolon : is kind.Semicolon c.in-Some.first.now ≡ false = search rules in
     let is_brace : is kind.OpenBrace c.in-Some.first.now ≡ true = search rules in
-    ends_braces c.args.tokens.now c.loop-more.rest.now c.in-Some.behind.now c.tokens_behind-after.result.now c.in-Some.first.now c.loop-more.more c.loop-more.invariant.reading c.loop-more-test.true there no_semicolon is_brace c.tokens_behind-after.ensures
+    ends_braces c.args.tokens.now c.loop-more.rest.now c.in-Some.behind.now c.tokens_behind-after.result.now c.in-Some.first.now c.loop-more.more c.past.result c.loop-more.invariant.reading c.loop-more-test.true there no_semicolon is_brace c.past.ensures c.tokens_behind-after.ensures
 
 pub returns-in_default : goal.returns-in_default
 returns-in_default c =

@@ -1,4 +1,4 @@
-use Rattle.std.proofs.Common.{◌≡◌, ◌<◌, ℕ, suc, ◌+◌, ◌-◌, nat_lt, get_or, length, false, arith, le-ltb}
+use Rattle.std.proofs.Common.{◌≡◌, ◌<◌, ℕ, suc, ◌+◌, ◌-◌, nat_lt, length, false, sym, ◌∙◌, arith}
 use Rattle.segment_faults.specs.Nesting.{groups_around}
 use Rattle.segment_faults.proofs.Firsts.{any_goes_on}
 use Rattle.segment_faults.proofs.nesting.is_deep.Goals as goal
@@ -12,7 +12,5 @@ loop-place-preserved c =
     let within = c.requires.within in
     let there : place < length text = omega (arith, below, within) in
     let left : end - place ≡ suc (end - (place + 1)) = omega (arith, below) in
-    let depth : get_or c.args.depths.now place 0 ≡ groups_around place text = c.requires.depths.each place there in
-    let few = c.if-depths-place-gt100.false in
-    let shallow : nat_lt 100 (groups_around place text) ≡ false = le-ltb 100 (groups_around place text) (omega (arith, depth, few)) in
+    let shallow : nat_lt 100 (groups_around place text) ≡ false = sym (c.requires.deep.each place there) ∙ c.if-deep-place.false in
     any_goes_on (λ (p : ℕ). nat_lt 100 (groups_around p text)) place (end - place) (end - (place + 1)) _ left shallow c.loop-place.invariant

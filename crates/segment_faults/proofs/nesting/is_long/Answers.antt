@@ -1,4 +1,4 @@
-use Rattle.std.proofs.Common.{◌≡◌, ◌≤◌, ℕ, suc, ◌+◌, ◌∷◌, drop, get_or, if◌then◌else◌, true, false, sym, ◌∙◌, arith}
+use Rattle.std.proofs.Common.{◌≡◌, ◌+◌, ◌∷◌, drop, get_or, if◌then◌else◌, true, false, sym, ◌∙◌, arith}
 use Rattle.std.proofs.lemmas.List.{drop_more}
 use Rattle.dart_tokens.specs.declared.token.Kind.TheVariants as kind
 use Rattle.dart_tokens.specs.declared.grouped_token.GroupedToken.{GroupedToken as Token}
@@ -11,7 +11,7 @@ pub loop-token-preserved : goal.loop-token-preserved
 loop-token-preserved c =
     let segment = c.args.segment.now in
     let index = c.loop-token.token-index in
-    let t : Token = get_or segment index (record { kind = kind.Identifier; start = 0; end = 0; word = 0; width = 0; past = 0 }) in
+    let t : Token = get_or segment index (record { kind = kind.Identifier; is_closed = false; start = 0; end = 0; word = 0; width = 0 }) in
     let front : drop index segment ≡ t ∷ drop (index + 1) segment = drop_more segment index _ c.loop-token-test.true in
     elim c.if-inside-gt0.branch [
       | then-inside-gt0 w ↦
