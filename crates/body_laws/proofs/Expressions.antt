@@ -1,5 +1,5 @@
 -- What is read of types and expressions in texts that are alike but for their bodies stands alike.
-use Rattle.std.proofs.Common.{◌≡◌, sym, ◌∙◌, zero, suc, if◌then◌else◌, ℕ, ◌++◌, Bool, true, false, List, [], ◌∷◌, Option, Some, None, map, refl, arith, inl, inr, subst}
+use Rattle.std.proofs.Common.{◌≡◌, sym, ◌∙◌, zero, suc, if◌then◌else◌, ℕ, ◌++◌, Bool, true, false, List, [], ◌∷◌, Option, Some, None, map, refl, ap, arith, inl, inr, subst}
 use denote.Enum.Bare.{sameb}
 use Rattle.dart_tokens.specs.declared.token.Kind.{Kind}
 use Rattle.dart_tokens.specs.contracts.token.Kind as kinds
@@ -23,7 +23,7 @@ use Rattle.grammar.specs.declared.level.Setting.TheVariants as setting
 use Rattle.grammar.specs.Tokens.{is, is_either, is_name, is_type_name, heads, heads_name}
 use Rattle.grammar.specs.Types.{separated, inner, listed_or_none, type_arguments_of, type_parameter_of, type_parameters_of, void_of, heads_qualified, qualified_of, unqualified_of, named_type_of, annotation_of, heads_required, heads_field, parameter_of, parameter_list_of, parameter_type_of, Tail, tail, tail_of, function_type_with, first_tail_of, next_tail_of, every_time}
 use Rattle.grammar.specs.Operators.{table, heads_sign, is_binary, level_of, binary_of, assignment_of, take_assignment, unary_at, postfix_at}
-use Rattle.grammar.specs.Expressions.{simple_string_of, string_text_of, simple_interpolation_of, interpolated_of, strings_of, heads_label, positional_of, named_of, arguments_of, integer_of, boolean_of, null_of, this_of, super_of, identifier_of, heads_generic, generic_of, parenthesis_of, arrow_of, closure_of, heads_closure, new_of, entry_of, Contents as Literal, listed, entries, listed_of, entries_of, collection_with, collection_of, Selector, member, element, check, called, member_of, element_of, check_of, plain_call_of, generic_call_of, heads_call, select_with, one_time, postfix_of, unary_of, Side, operated, tested, cast, choices, operated_of, tested_of, cast_of, choices_of, times, side_with, assign_of, throw_of, cascaded_name_of, cascaded_index_of, cascade_of, section_of, is_open}
+use Rattle.grammar.specs.Expressions.{simple_string_of, string_text_of, simple_interpolation_of, interpolated_of, strings_of, heads_label, positional_of, named_of, arguments_of, integer_of, boolean_of, null_of, this_of, super_of, identifier_of, heads_generic, generic_of, parenthesis_of, arrow_of, closure_of, heads_closure, new_of, entry_of, Contents as Literal, listed, entries, listed_of, entries_of, collection_with, collection_of, Selector, member, element, check, called, member_of, element_of, check_of, plain_call_of, generic_call_of, heads_call, select_with, one_time, postfix_of, unary_of, Side, operated, tested, cast, choices, operated_of, tested_of, cast_of, choices_of, is_incremented, times_behind, side_with, assign_of, throw_of, cascaded_name_of, cascaded_index_of, cascade_of, section_of, is_open}
 use Rattle.grammar.specs.Descents.{Lower, begins_string, begins_prefix, take_separated, take_type_arguments, take_type_parameter, take_type_parameters, take_type_name, take_question, take_plain_type, take_annotation, take_parameter, take_parameters, take_optional_parameters, take_parameter_list, take_parameter_type, take_tail, take_tail_before, take_type, take_prefix, take_postfix, take_interpolation, take_string_part, take_string, take_strings, take_argument, take_arguments, take_simple, take_name, take_parenthesis, take_closure, take_new, take_entry, take_collection, take_primary, take_selector, take_selected, take_incremented, take_unary, take_operated, take_right, take_operand, take_assignment_expression, take_throw, take_section_head, take_section, take_cascade_section, take_cascade, take_expression}
 use Rattle.readings.specs.Readings.{Reading, Test, next, tokens_read}
 use Rattle.readings.specs.Descent.{Descent, bind, or_else, take_make, take_onto, ◌⊘◌, take_token, take_given, take_turn, take_where}
@@ -82,13 +82,16 @@ fits_same : (m : Moves) (n : ℕ) (x y : Tree) → Same m x y → fits n x ≡ f
 fits_same m n x y p = rw p.high refl
 
 open_same : (m : Moves) (n : ℕ) (x y : Tree) → Same m x y → is_open n x ≡ is_open n y
-open_same m n x y p = rw (p.high, p.last) refl
+open_same m n x y p = rw (p.high, ap (λ (z : Bool × Bool). z.0) p.last) refl
 
-every_tries : (ts us : List Token) → Tries (every_time ts) (every_time us) ts us
-every_tries ts us = inr (omega arith, omega arith)
+ends_same : (m : Moves) (x y : Tree) → Same m x y → is_incremented x ≡ is_incremented y
+ends_same m x y p = ap (λ (z : Bool × Bool). z.1) p.last
 
-one_try : (ts us : List Token) → Tries (one_time ts) (one_time us) ts us
-one_try ts us = inl refl
+every_tries : (r : Kin) (p : Bool) (x y : Tree) (ts us : List Token) → Same r.moves x y → Like r p ts us → Tries (every_time x ts) (every_time y us) ts us
+every_tries r p x y ts us s k = inr (omega arith, omega arith)
+
+one_try : (r : Kin) (p : Bool) (x y : Tree) (ts us : List Token) → Same r.moves x y → Like r p ts us → Tries (one_time x ts) (one_time y us) ts us
+one_try r p x y ts us s k = inl refl
 
 -- Types.
 
@@ -188,7 +191,7 @@ function_type_same m read other o p s b (tail c d e f) (tail g h i j) q =
 pub type_follows : (r : Kin) (n : ℕ) (l : Lower) → Followed l → (question ends : Test Token) → Blind r question → Blind r ends → Follows r false true false (Same r.moves) (take_type n l question ends)
 unfolding take_type
 type_follows r n l a question ends b e =
-    follows_chain every_time (fits n) next_tail_of every_tries
+    follows_chain every_time (fits n) next_tail_of (every_tries r)
     (follows_or (follows_make (Same r.moves) first_tail_of (tail_follows r l a question ends b e) (λ read other x y q p. function_type_same r.moves read other None None q tt x y p)) (plain_type_follows r l a question b)) (tail_follows r l a question ends b e)
     (fits_same r.moves n) (λ read seen x y z w s p q. function_type_same r.moves read seen (Some x) (Some y) s p z w q)
 
@@ -221,14 +224,14 @@ plain_types_follow r e n l a question ends b d =
     let first = follows_or (follows_make (Same r.moves) first_tail_of (no_tail_follows r e l question ends) (λ read other x y q p. function_type_same r.moves read other None None q tt x y p)) (plain_type_follows r l a question b) in
     record {
       each = λ p q ts us k.
-          bound (Found r true true p (Same r.moves) ts us) (Found r true true p (Same r.moves) ts us) (λ x. take_onto ts (every_time x.1) (fits n) next_tail_of (take_tail_before l question ends) x.0 x.1)
-          (λ x. take_onto us (every_time x.1) (fits n) next_tail_of (take_tail_before l question ends) x.0 x.1) (g ts) (g us) (first.each p q ts us k)
+          bound (Found r true true p (Same r.moves) ts us) (Found r true true p (Same r.moves) ts us) (λ x. take_onto ts (every_time x.0 x.1) (fits n) next_tail_of (take_tail_before l question ends) x.0 x.1)
+          (λ x. take_onto us (every_time x.0 x.1) (fits n) next_tail_of (take_tail_before l question ends) x.0 x.1) (g ts) (g us) (first.each p q ts us k)
           (λ x y f.
           let none = no_tail r e l question ends (state true p f.1.read) x.1 y.1 f.1.like in
-          subst (λ (o : Option (Reading Token Tree)). Both (Found r true true p (Same r.moves) ts us) o (take_onto us (every_time y.1) (fits n) next_tail_of (take_tail_before l question ends) y.0 y.1))
-          (sym (onto_stops ts (every_time x.1) (fits n) next_tail_of (take_tail_before l question ends) x.0 x.1 none.0))
+          subst (λ (o : Option (Reading Token Tree)). Both (Found r true true p (Same r.moves) ts us) o (take_onto us (every_time y.0 y.1) (fits n) next_tail_of (take_tail_before l question ends) y.0 y.1))
+          (sym (onto_stops ts (every_time x.0 x.1) (fits n) next_tail_of (take_tail_before l question ends) x.0 x.1 none.0))
           (subst (λ (o : Option (Reading Token Tree)). Both (Found r true true p (Same r.moves) ts us) (Some (x.0, x.1)) o)
-          (sym (onto_stops us (every_time y.1) (fits n) next_tail_of (take_tail_before l question ends) y.0 y.1 none.1)) f));
+          (sym (onto_stops us (every_time y.0 y.1) (fits n) next_tail_of (take_tail_before l question ends) y.0 y.1 none.1)) f));
     }
 
 -- Operators.
@@ -335,7 +338,7 @@ closure_follows r m l a =
     (follows_seq (parameter_list_follows r l a)
     (follows_where (heads kind.Arrow) (blind_heads r kind.Arrow)
     (follows_make (Same r.moves) arrow_of (follows_then (mark r kind.Arrow refl refl) (a.expression r m)) (λ read other x y q p. record { stands = over r.moves read other q; high = p.1.high; last = refl })) (follows_related (Same r.moves) (λ x y p. p.same) (a.block r))))
-    (λ read other x y q p. record { stands = over r.moves read other q; high = rw (p.0.high, p.1.high) refl; last = p.1.last })
+    (λ read other x y q p. record { stands = over r.moves read other q; high = rw (p.0.high, p.1.high) refl; last = ap (λ (z : Bool × Bool). (z.0, false)) p.1.last })
 
 new_follows : (r : Kin) (l : Lower) → Followed l → Follows r false true false (Same r.moves) (take_new l)
 unfolding take_new
@@ -428,14 +431,14 @@ selector_follows r m l a =
 selected_follows : (r : Kin) (n : ℕ) (m : Setting) (l : Lower) → Followed l → Follows r true true false (Same r.moves) (take_selected n m l)
 unfolding take_selected
 selected_follows r n m l a =
-    follows_chain every_time (is_open n) select_with every_tries (primary_follows r m l a) (selector_follows r m l a) (open_same r.moves n) (λ read seen x y z w s p q. selected_same r.moves read seen x y s p z w q)
+    follows_chain every_time (is_open n) select_with (every_tries r) (primary_follows r m l a) (selector_follows r m l a) (open_same r.moves n) (λ read seen x y z w s p q. selected_same r.moves read seen x y s p z w q)
 
 pub unary_follows : (r : Kin) (n : ℕ) (m : Setting) (l : Lower) → Followed l → Follows r true true false (Same r.moves) (take_unary n m l)
 unfolding take_unary take_incremented
 unary_follows r n m l a =
     follows_where (next begins_prefix) (blind_next r begins_prefix (λ t u w. rw w.kind refl))
     (follows_make (Same r.moves) unary_of (follows_then (prefix_follows r) (a.unary r m)) (λ read other x y q p. record { stands = over r.moves read other q; high = rw p.1.high refl; last = p.1.last }))
-    (follows_chain one_time (is_open n) postfix_of one_try (selected_follows r n m l a) (postfix_follows r) (open_same r.moves n)
+    (follows_chain one_time (is_open n) postfix_of (one_try r) (selected_follows r n m l a) (postfix_follows r) (open_same r.moves n)
     (λ read seen x y z w s p q. record { stands = over r.moves read seen s; high = rw p.high refl; last = refl }))
 
 abbrev pub SideSame : Moves → Side → Side → Type 0
@@ -475,7 +478,7 @@ unfolding take_right
 right_follows r m l a level.Conditional above =
     follows_turn (SideSame r.moves) choices_of (follows_then (mark r kind.Question refl refl) (follows_seq (a.expression r m) (follows_then (mark r kind.Colon refl refl) (a.expression r m)))) (λ x y p. (p.1.0, p.1.1.1))
 right_follows r m l a level.Relation above =
-    follows_where (heads_sign (is_binary level.Relation)) (blind_sign r (is_binary level.Relation)) (follows_where (heads_call m) (blind_call r m) (follows_none r false true false (SideSame r.moves)) (operated_follows r m l a level.Relation above))
+    follows_where (heads_sign (is_binary level.Relation)) (blind_sign r (is_binary level.Relation)) (operated_follows r m l a level.Relation above)
     (follows_where (heads kind.Is) (blind_heads r kind.Is) (follows_turn (SideSame r.moves) tested_of (follows_seq (mark r kind.Is refl refl) (follows_seq (follows_maybe (mark r kind.Bang refl refl)) (a.tested r m))) (λ x y p. p.1.1))
     (follows_turn (SideSame r.moves) cast_of (follows_seq (mark r kind.As refl refl) (a.tested r m)) (λ x y p. p.1)))
 right_follows r m l a level.IfNull above = operated_follows r m l a level.IfNull above
@@ -489,24 +492,24 @@ right_follows r m l a level.Shift above = operated_follows r m l a level.Shift a
 right_follows r m l a level.Sum above = operated_follows r m l a level.Sum above
 right_follows r m l a level.Product above = operated_follows r m l a level.Product above
 
-times_tries : (l : Level) (ts us : List Token) → Tries (times l ts) (times l us) ts us
-times_tries level.Conditional ts us = inl refl
-times_tries level.IfNull ts us = every_tries ts us
-times_tries level.Or ts us = every_tries ts us
-times_tries level.And ts us = every_tries ts us
-times_tries level.Equality ts us = inl refl
-times_tries level.Relation ts us = inl refl
-times_tries level.BitOr ts us = every_tries ts us
-times_tries level.BitXor ts us = every_tries ts us
-times_tries level.BitAnd ts us = every_tries ts us
-times_tries level.Shift ts us = every_tries ts us
-times_tries level.Sum ts us = every_tries ts us
-times_tries level.Product ts us = every_tries ts us
+times_tries : (r : Kin) (m : Setting) (l : Level) (p : Bool) (x y : Tree) (ts us : List Token) → Same r.moves x y → Like r p ts us → Tries (times_behind m l x ts) (times_behind m l y us) ts us
+times_tries r m level.Conditional p x y ts us s k = inl refl
+times_tries r m level.IfNull p x y ts us s k = inr (omega arith, omega arith)
+times_tries r m level.Or p x y ts us s k = inr (omega arith, omega arith)
+times_tries r m level.And p x y ts us s k = inr (omega arith, omega arith)
+times_tries r m level.Equality p x y ts us s k = inl refl
+times_tries r m level.Relation p x y ts us s k = inl (rw (blind_call r m p ts us k, ends_same r.moves x y s) refl)
+times_tries r m level.BitOr p x y ts us s k = inr (omega arith, omega arith)
+times_tries r m level.BitXor p x y ts us s k = inr (omega arith, omega arith)
+times_tries r m level.BitAnd p x y ts us s k = inr (omega arith, omega arith)
+times_tries r m level.Shift p x y ts us s k = inr (omega arith, omega arith)
+times_tries r m level.Sum p x y ts us s k = inr (omega arith, omega arith)
+times_tries r m level.Product p x y ts us s k = inr (omega arith, omega arith)
 
 pub operand_follows : (r : Kin) (n : ℕ) (m : Setting) (l : Lower) → Followed l → (above : List Level) → Follows r true true false (Same r.moves) (take_operand n m l above)
 unfolding take_operand
 operand_follows r n m l a above =
-    follows_levels times (is_open n) side_with times_tries (right_follows r m l a) (open_same r.moves n) (λ read seen x y z w s p q. sided_same r.moves read seen x y s p z w q) (unary_follows r n m l a) above
+    follows_levels (times_behind m) (is_open n) side_with (times_tries r m) (right_follows r m l a) (open_same r.moves n) (λ read seen x y z w s p q. sided_same r.moves read seen x y s p z w q) (unary_follows r n m l a) above
 
 assigned_same : (m : Moves) (read other : List Token) (x y : Tree) (z w : AssignmentOperator × Tree) → Stand m true read other → Same m x y → Pair Any (Same m) z w → Same m (assign_of read x z) (assign_of other y w)
 assigned_same m read other x y z w s p q = record { stands = over m read other s; high = rw (p.high, q.1.high) refl; last = q.1.last }
@@ -520,8 +523,8 @@ section_head_follows r expression e =
 pub section_follows : (r : Kin) (n : ℕ) (m : Setting) (l : Lower) → Followed l → (expression : Descent Token Tree) → Follows (within r) true true false (Same r.moves) expression → Follows r false true false (Same r.moves) (take_section n m l expression)
 unfolding take_section
 section_follows r n m l a expression e =
-    follows_chain one_time (is_open n) assign_of one_try
-    (follows_chain every_time (is_open n) select_with every_tries (section_head_follows r expression e) (selector_follows r m l a) (open_same r.moves n) (λ read seen x y z w s p q. selected_same r.moves read seen x y s p z w q))
+    follows_chain one_time (is_open n) assign_of (one_try r)
+    (follows_chain every_time (is_open n) select_with (every_tries r) (section_head_follows r expression e) (selector_follows r m l a) (open_same r.moves n) (λ read seen x y z w s p q. selected_same r.moves read seen x y s p z w q))
     (follows_then (assignment_follows r) (a.operand r m table)) (open_same r.moves n) (assigned_same r.moves)
 
 cascade_section_follows : (r : Kin) (m : Setting) (l : Lower) → Followed l → Follows r false true false (Pair Any (Same r.moves)) (take_cascade_section m l)
@@ -536,5 +539,5 @@ expression_follows r n m l a =
     follows_or (follows_once (is_open n) assign_of (unary_follows r n m l a) (follows_then (assignment_follows r) (a.expression r m)) (open_same r.moves n) (assigned_same r.moves))
     (follows_where (heads kind.Throw) (blind_heads r kind.Throw)
     (follows_make (Same r.moves) throw_of (follows_then (mark r kind.Throw refl refl) (a.expression r m)) (λ read other x y q p. record { stands = over r.moves read other q; high = rw p.1.high refl; last = refl }))
-    (follows_chain every_time (is_open n) cascade_of every_tries (operand_follows r n m l a table) (cascade_section_follows r m l a) (open_same r.moves n)
+    (follows_chain every_time (is_open n) cascade_of (every_tries r) (operand_follows r n m l a table) (cascade_section_follows r m l a) (open_same r.moves n)
     (λ read seen x y z w s p q. record { stands = over r.moves read seen s; high = rw (p.high, q.1.high) refl; last = q.1.last })))

@@ -630,12 +630,12 @@ onto_at {A = A} r d b R S start other room join h a fit step (suc n) (suc m) x y
     onto_at r d b R S start other room join h a fit step n m (join (tokens_read start z.1) x z.0) (join (tokens_read other w.1) y w.0)
     (rw (read_is start went.read z.1 went.left, read_is other went.other w.1 went.right) (step went.read went.other x y z.0 w.0 went.stand p e.0)) z.1 w.1 (fewer_tries n m ts us z.1 w.1 t less.0 less.1) went)) (p, f)) (p, f)
 
-pub follows_chain : {A B : Type 0} {r : Kin} {n c d : Bool} {R : A → A → Type 0} {S : B → B → Type 0} {g : Descent Token A} {h : Descent Token B} (most : List Token → ℕ) (room : A → Bool) (join : List Token → A → B → A) →
-    ((ts us : List Token) → Tries (most ts) (most us) ts us) → Follows r n true c R g → Follows r false true d S h → ((x y : A) → R x y → room x ≡ room y) → Joins r.moves R S join → Follows r n true false R (take_chain most room join g h)
+pub follows_chain : {A B : Type 0} {r : Kin} {n c d : Bool} {R : A → A → Type 0} {S : B → B → Type 0} {g : Descent Token A} {h : Descent Token B} (most : A → List Token → ℕ) (room : A → Bool) (join : List Token → A → B → A) →
+    ((p : Bool) (x y : A) (ts us : List Token) → R x y → Like r p ts us → Tries (most x ts) (most y us) ts us) → Follows r n true c R g → Follows r false true d S h → ((x y : A) → R x y → room x ≡ room y) → Joins r.moves R S join → Follows r n true false R (take_chain most room join g h)
 follows_chain {r = r} {n = n} {c = c} {d = d} {R = R} {S = S} {g = g} {h = h} most room join tries a b fit step = record {
   each = λ p q ts us k.
-      bound (Found r true c p R ts us) (Found r true false p R ts us) (λ x. take_onto ts (most x.1) room join h x.0 x.1) (λ x. take_onto us (most x.1) room join h x.0 x.1) (g ts) (g us) (a.each p q ts us k)
-      (λ x y f. onto_at r d p R S ts us room join h b fit step (most x.1) (most y.1) x.0 y.0 f.0 x.1 y.1 (tries x.1 y.1) (went_loose r true c p ts us x.1 y.1 f.1));
+      bound (Found r true c p R ts us) (Found r true false p R ts us) (λ x. take_onto ts (most x.0 x.1) room join h x.0 x.1) (λ x. take_onto us (most x.0 x.1) room join h x.0 x.1) (g ts) (g us) (a.each p q ts us k)
+      (λ x y f. onto_at r d p R S ts us room join h b fit step (most x.0 x.1) (most y.0 y.1) x.0 y.0 f.0 x.1 y.1 (tries (state c p f.1.read) x.0 y.0 x.1 y.1 f.0 f.1.like) (went_loose r true c p ts us x.1 y.1 f.1));
 }
 
 pub follows_once : {A B : Type 0} {r : Kin} {n c d : Bool} {R : A → A → Type 0} {S : B → B → Type 0} {g : Descent Token A} {h : Descent Token B} (room : A → Bool) (join : List Token → A → B → A) → Follows r n true c R g → Follows r false true d S h →
@@ -651,8 +651,8 @@ follows_once {r = r} {n = n} {c = c} {d = d} {R = R} {S = S} {g = g} {h = h} roo
       (rw (read_is ts went.read z.1 went.left, read_is us went.other w.1 went.right) (step went.read went.other x.0 y.0 z.0 w.0 went.stand f.0 e.0), went))) tt);
 }
 
-pub follows_levels : {A B L : Type 0} {r : Kin} {n d : Bool} {R : A → A → Type 0} {S : B → B → Type 0} {first : Descent Token A} {right : L → List L → Descent Token B} (most : L → List Token → ℕ) (room : A → Bool) (join : List Token → A → B → A) →
-    ((l : L) (ts us : List Token) → Tries (most l ts) (most l us) ts us) → ((l : L) (above : List L) → Follows r false true d S (right l above)) → ((x y : A) → R x y → room x ≡ room y) → Joins r.moves R S join →
+pub follows_levels : {A B L : Type 0} {r : Kin} {n d : Bool} {R : A → A → Type 0} {S : B → B → Type 0} {first : Descent Token A} {right : L → List L → Descent Token B} (most : L → A → List Token → ℕ) (room : A → Bool) (join : List Token → A → B → A) →
+    ((l : L) (p : Bool) (x y : A) (ts us : List Token) → R x y → Like r p ts us → Tries (most l x ts) (most l y us) ts us) → ((l : L) (above : List L) → Follows r false true d S (right l above)) → ((x y : A) → R x y → room x ≡ room y) → Joins r.moves R S join →
     Follows r n true false R first → (ls : List L) → Follows r n true false R (take_levels most room join right first ls)
 follows_levels most room join tries each fit step a [] = a
 follows_levels most room join tries each fit step a (l ∷ ls) = follows_chain (most l) room join (tries l) (follows_levels most room join tries each fit step a ls) (each l ls) fit step

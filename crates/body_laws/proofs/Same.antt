@@ -10,15 +10,19 @@ use Rattle.dart_tree.specs.Places.{span_of}
 use Rattle.dart_tokens.specs.declared.grouped_token.GroupedToken.{GroupedToken as Token}
 use Rattle.grammar.specs.Tokens.{span_over}
 use Rattle.grammar.specs.Types.{behind_token, listed_or_none}
-use Rattle.grammar.specs.Expressions.{reads_on}
+use Rattle.grammar.specs.Expressions.{reads_on, is_incremented}
 use Rattle.body_laws.specs.Bodies.{Moves, Twins, moved}
 use Rattle.body_laws.proofs.Follow.{Spans, Stand, Both, Pair, Alls}
+
+-- what may stand behind an expression, its height aside
+abbrev pub ending : Tree → Bool × Bool
+ending t = (reads_on t, is_incremented t)
 
 -- two trees stand alike, have the same height, and end alike
 pub record Same (m : Moves) (t u : Tree) : Type 0 where
   pub stands : Spans m (span_of t) (span_of u)
   pub high : height t ≡ height u
-  pub last : reads_on t ≡ reads_on u
+  pub last : ending t ≡ ending u
 
 -- what was read stands alike
 pub over : (m : Moves) (read other : List Token) → Stand m true read other → Spans m (span_over read) (span_over other)

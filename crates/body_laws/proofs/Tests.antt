@@ -479,8 +479,8 @@ blind_generic r =
 
 blind_cast : (r : Kin) → Blind r heads_cast
 blind_cast r =
-    blind_first r (is kind.As) (λ ts. not (next (is_either kind.OpenParenthesis kind.Less) ts)) (kind_marks r.moves kind.As refl refl)
-    (blind_not r (next (is_either kind.OpenParenthesis kind.Less)) (blind_next r (is_either kind.OpenParenthesis kind.Less) (λ t u w. rw w.kind refl)))
+    blind_first r (is kind.As) (either (heads kind.Void) heads_name) (kind_marks r.moves kind.As refl refl)
+    (blind_or r (heads kind.Void) heads_name (blind_heads r kind.Void) (blind_heads_name r))
 
 blind_rest : (r : Kin) → Blind r heads_rest
 blind_rest r p ts us a = rw (blind_next r goes_on (λ t u w. rw w.kind refl) p ts us a, blind_cast r p ts us a, (sign_alike r p ts us a).0) refl

@@ -18,7 +18,7 @@ use Rattle.grammar.specs.declared.level.Setting.TheVariants as setting
 use Rattle.grammar.specs.Tokens.{is, is_either, is_name, is_type_name, width, past}
 use Rattle.grammar.specs.Types.{tail, Tail, function_type_with, listed_or_none, behind_token, Below, separated, separated_rule, inner, type_arguments_of, type_arguments_rule, type_parameter_of, type_parameter_rule, type_parameters_of, type_parameters_rule, void_of, type_name_rule, question_rule, named_type_of, plain_type_rule, annotation_rule, heads_required, heads_field, parameter_of, parameter_rule, parameters_rule, optional_parameters_rule, parameter_list_of, parameter_list_rule, parameter_type_of, parameter_type_rule, tail_of, tail_rule, tail_before_rule, first_tail_of, next_tail_of, every_time, type_rule}
 use Rattle.grammar.specs.Operators.{binary_rule, prefix_rule, postfix_rule, table, assignment_rule}
-use Rattle.grammar.specs.Expressions.{Selector, member, element, check, called, Side, operated, tested, cast, choices, Contents, listed, entries, collection_with, side_with, simple_string_of, string_text_of, simple_interpolation_of, interpolation_rule, string_part_rule, interpolated_of, string_rule, strings_of, strings_rule, heads_label, positional_of, named_of, argument_rule, arguments_of, arguments_rule, integer_of, boolean_of, null_of, this_of, super_of, identifier_of, simple_rule, generic_of, heads_generic, name_rule, parenthesis_of, parenthesis_rule, arrow_of, closure_of, heads_closure, closure_rule, new_of, new_rule, entry_of, entry_rule, listed_of, entries_of, collection_of, collection_rule, primary_rule, member_of, element_of, check_of, plain_call_of, generic_call_of, heads_call, selector_rule, select_with, selected_rule, one_time, postfix_of, unary_of, incremented_rule, unary_rule, operated_of, tested_of, cast_of, choices_of, operated_rule, right_rule, times, side_with, operand_rule, assign_of, assignment_expression_rule, throw_of, throw_rule, cascaded_name_of, cascaded_index_of, section_head_rule, section_rule, cascade_of, section_of, cascade_section_rule, cascade_rule, expression_rule, reads_on, is_open}
+use Rattle.grammar.specs.Expressions.{Selector, member, element, check, called, Side, operated, tested, cast, choices, Contents, listed, entries, collection_with, side_with, simple_string_of, string_text_of, simple_interpolation_of, interpolation_rule, string_part_rule, interpolated_of, string_rule, strings_of, strings_rule, heads_label, positional_of, named_of, argument_rule, arguments_of, arguments_rule, integer_of, boolean_of, null_of, this_of, super_of, identifier_of, simple_rule, generic_of, heads_generic, name_rule, parenthesis_of, parenthesis_rule, arrow_of, closure_of, heads_closure, closure_rule, new_of, new_rule, entry_of, entry_rule, listed_of, entries_of, collection_of, collection_rule, primary_rule, member_of, element_of, check_of, plain_call_of, generic_call_of, heads_call, selector_rule, select_with, selected_rule, one_time, postfix_of, unary_of, incremented_rule, unary_rule, operated_of, tested_of, cast_of, choices_of, operated_rule, right_rule, times_behind, side_with, operand_rule, assign_of, assignment_expression_rule, throw_of, throw_rule, cascaded_name_of, cascaded_index_of, section_head_rule, section_rule, cascade_of, section_of, cascade_section_rule, cascade_rule, expression_rule, reads_on, is_open}
 
 -- a tree of at most this height
 abbrev pub Low : ℕ → Tree → Type 0
@@ -303,7 +303,7 @@ right_low n m d a level.Or above = operated_low n m d a level.Or above
 right_low n m d a level.And above = operated_low n m d a level.And above
 right_low n m d a level.Equality above = operated_low n m d a level.Equality above
 right_low n m d a level.Relation above =
-    gives_or (gives_where (heads_call m) (gives_none (SideLow n)) (operated_low n m d a level.Relation above))
+    gives_or (operated_low n m d a level.Relation above)
     (gives_or (gives_turn {R = SideLow n} tested_of (λ x h. h.1.1) (gives_seq (tok (is kind.Is)) (gives_seq (gives_any (maybe (token (is kind.Bang)))) (a.tested m))))
     (gives_turn {R = SideLow n} cast_of (λ x h. h.1) (gives_seq (tok (is kind.As)) (a.tested m))))
 right_low n m d a level.BitOr above = operated_low n m d a level.BitOr above
@@ -322,7 +322,7 @@ side_low n read left (choices then_value else_value) h k = up (hi {n = n} h (hi 
 pub operand_low : (n : ℕ) (m : Setting) (d : Below) → Lows n d → (above : List Level) → Gives (Low (suc n)) (operand_rule n m d above)
 unfolding operand_rule
 operand_low n m d a above =
-    gives_levels times (is_open n) side_with (right_low n m d a) (λ read left side e h k. side_low n read left side (low_open n left e) k) (gives_longest (unary_low n m d a)) above
+    gives_levels (times_behind m) (is_open n) side_with (right_low n m d a) (λ read left side e h k. side_low n read left side (low_open n left e) k) (gives_longest (unary_low n m d a)) above
 
 pub section_head_low : (n : ℕ) (p : Rule Token Tree) → Gives (Low n) p → Gives (Low n) (section_head_rule p)
 unfolding section_head_rule

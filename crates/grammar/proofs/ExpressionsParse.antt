@@ -21,7 +21,7 @@ use Rattle.grammar.specs.declared.level.Setting.TheVariants as setting
 use Rattle.grammar.specs.Tokens.{is, is_either, is_name, heads, heads_name, width, past}
 use Rattle.grammar.specs.Operators.{table, heads_sign, is_binary, is_assignment, take_assignment, assignment_rule}
 use Rattle.grammar.specs.Types.{Below, every_time, type_arguments_rule}
-use Rattle.grammar.specs.Expressions.{begins_expression, simple_string_of, string_text_of, simple_interpolation_of, interpolation_rule, string_part_rule, interpolated_of, string_rule, strings_of, strings_rule, heads_label, positional_of, named_of, argument_rule, arguments_of, arguments_rule, integer_of, boolean_of, null_of, this_of, super_of, identifier_of, simple_rule, generic_of, heads_generic, name_rule, parenthesis_of, parenthesis_rule, arrow_of, closure_of, heads_closure, closure_rule, new_of, new_rule, entry_of, entry_rule, listed_of, entries_of, collection_of, collection_rule, primary_rule, member_of, element_of, check_of, plain_call_of, generic_call_of, heads_call, selector_rule, select_with, selected_rule, one_time, postfix_of, unary_of, incremented_rule, unary_rule, operated_of, tested_of, cast_of, choices_of, operated_rule, right_rule, times, side_with, operand_rule, assign_of, assignment_expression_rule, throw_of, throw_rule, cascaded_name_of, cascaded_index_of, section_head_rule, section_rule, cascade_of, section_of, cascade_section_rule, cascade_rule, expression_rule, is_open}
+use Rattle.grammar.specs.Expressions.{begins_expression, simple_string_of, string_text_of, simple_interpolation_of, interpolation_rule, string_part_rule, interpolated_of, string_rule, strings_of, strings_rule, heads_label, positional_of, named_of, argument_rule, arguments_of, arguments_rule, integer_of, boolean_of, null_of, this_of, super_of, identifier_of, simple_rule, generic_of, heads_generic, name_rule, parenthesis_of, parenthesis_rule, arrow_of, closure_of, heads_closure, closure_rule, new_of, new_rule, entry_of, entry_rule, listed_of, entries_of, collection_of, collection_rule, primary_rule, member_of, element_of, check_of, plain_call_of, generic_call_of, heads_call, selector_rule, select_with, selected_rule, one_time, postfix_of, unary_of, incremented_rule, unary_rule, operated_of, tested_of, cast_of, choices_of, operated_rule, right_rule, times_behind, side_with, operand_rule, assign_of, assignment_expression_rule, throw_of, throw_rule, cascaded_name_of, cascaded_index_of, section_head_rule, section_rule, cascade_of, section_of, cascade_section_rule, cascade_rule, expression_rule, is_open}
 use Rattle.grammar.specs.Descents.{Lower, begins_string, take_type_arguments, take_interpolation, take_string_part, take_string, take_strings, take_argument, take_arguments, take_simple, take_name, take_parenthesis, take_closure, take_new, take_entry, take_collection, take_primary, take_selector, take_selected, take_incremented, take_unary, take_operated, take_right, take_operand, take_assignment_expression, take_throw, take_section_head, take_section, take_cascade_section, take_cascade, take_expression}
 use Rattle.grammar.proofs.KindTests.{far, far_second, within, settled, still}
 use Rattle.grammar.proofs.TypesParse.{AllParse, begins_type, begins_primary, begins_operand, begins_section, begins_simple, type_arguments_parses, parameter_list_parses}
@@ -228,12 +228,6 @@ operated_parses : (m : Setting) (d : Below) (l : Lower) → AllParse d l → (wh
 unfolding operated_rule take_operated
 operated_parses m d l a which above = parses_turn operated_of (parses_seq (parses_sole (binary_sole which)) (parses_sole (a.operand m above)) (still _))
 
--- an operator, unless a call with type arguments comes next
-compared_parses : (m : Setting) (d : Below) (l : Lower) → AllParse d l → (above : List Level) →
-    Parses nothing (heads_sign (is_binary level.Relation)) (λ ts. (if heads_call m ts then [] else operated_rule m d level.Relation above ts))
-    (take_where (heads_call m) (λ ts. None) (take_operated m l level.Relation above))
-compared_parses m d l a above = parses_where (heads_call m) (parses_none nothing nothing) (operated_parses m d l a level.Relation above)
-
 right_parses : (m : Setting) (d : Below) (l : Lower) → AllParse d l → (which : Level) (above : List Level) → Parses nothing (begins_side which) (right_rule m d which above) (take_right m l which above)
 unfolding right_rule take_right
 right_parses m d l a level.Conditional above =
@@ -245,7 +239,7 @@ right_parses m d l a level.And above = operated_parses m d l a level.And above
 right_parses m d l a level.Equality above = operated_parses m d l a level.Equality above
 right_parses m d l a level.Relation above =
     parses_within nothing (begins_side level.Relation) (λ ts e. e) (λ ts e. e)
-    (parses_switch (compared_parses m d l a above)
+    (parses_switch (operated_parses m d l a level.Relation above)
     (parses_switch (parses_turn tested_of (parses_seq (parses_token (is kind.Is)) (parses_offered (offers_maybe (parses_token (is kind.Bang))) (settled nothing (next begins_type) (parses_sole (a.tested m)) refl (λ t ts. refl) refl (λ t ts. refl)) (far _ _ refl (λ t ts. refl))) (still _)))
     (parses_turn cast_of (parses_seq (parses_token (is kind.As)) (parses_sole (a.tested m)) (still _))) (far _ _ refl (λ t ts. refl)))
     (far_second _ _ refl (λ t ts. refl)))
@@ -258,7 +252,7 @@ right_parses m d l a level.Product above = operated_parses m d l a level.Product
 
 pub operand_sole : (n : ℕ) (m : Setting) (d : Below) (l : Lower) → AllParse d l → (above : List Level) → Sole (next begins_operand) (operand_rule n m d above) (take_operand n m l above)
 unfolding operand_rule take_operand
-operand_sole n m d l a above = sole_levels times (is_open n) side_with (right_parses m d l a) (sole_longest (unary_parses n m d l a)) above
+operand_sole n m d l a above = sole_levels (times_behind m) (is_open n) side_with (right_parses m d l a) (sole_longest (unary_parses n m d l a)) above
 
 -- Assignments and cascades.
 
@@ -328,15 +322,15 @@ no_side level.Product ts e = assignment_apart level.Product ts e
 operand_stays : (n : ℕ) (m : Setting) (d : Below) (l : Lower) → AllParse d l → (ts : List Token) (x : Reading Token Tree) → take_unary n m l ts ≡ Some x → heads_sign is_assignment x.1 ≡ true → take_operand n m l table ts ≡ Some x
 unfolding take_operand
 operand_stays n m d l a ts x e heads =
-    levels_climb times (is_open n) side_with (take_right m l) (take_unary n m l) table ts
-    ∙ ap (λ (o : Option (Reading Token Tree)). bind o (climb times (is_open n) side_with (take_right m l) ts table)) e
-    ∙ climb_stays times (is_open n) side_with (take_right m l) ts table x (λ which above. parses_misses (right_parses m d l a which above) x.1 (no_side which x.1 heads))
+    levels_climb (times_behind m) (is_open n) side_with (take_right m l) (take_unary n m l) table ts
+    ∙ ap (λ (o : Option (Reading Token Tree)). bind o (climb (times_behind m) (is_open n) side_with (take_right m l) ts table)) e
+    ∙ climb_stays (times_behind m) (is_open n) side_with (take_right m l) ts table x (λ which above. parses_misses (right_parses m d l a which above) x.1 (no_side which x.1 heads))
 
 cascade_stays : (n : ℕ) (m : Setting) (d : Below) (l : Lower) → AllParse d l → (ts : List Token) (x : Reading Token Tree) → take_unary n m l ts ≡ Some x → heads_sign is_assignment x.1 ≡ true → take_cascade n m l ts ≡ Some x
 unfolding take_cascade
 cascade_stays n m d l a ts x e heads =
-    ap (λ (o : Option (Reading Token Tree)). bind o (λ y. take_onto ts (every_time y.1) (is_open n) cascade_of (take_cascade_section m l) y.0 y.1)) (operand_stays n m d l a ts x e heads)
-    ∙ onto_stays ts (every_time x.1) (is_open n) cascade_of (take_cascade_section m l) x.0 x.1 (parses_misses (cascade_section_parses m d l a) x.1 (far_second (heads_sign is_assignment) begins_cascade refl (λ t ts. refl) x.1 heads))
+    ap (λ (o : Option (Reading Token Tree)). bind o (λ y. take_onto ts (every_time y.0 y.1) (is_open n) cascade_of (take_cascade_section m l) y.0 y.1)) (operand_stays n m d l a ts x e heads)
+    ∙ onto_stays ts (every_time x.0 x.1) (is_open n) cascade_of (take_cascade_section m l) x.0 x.1 (parses_misses (cascade_section_parses m d l a) x.1 (far_second (heads_sign is_assignment) begins_cascade refl (λ t ts. refl) x.1 heads))
 
 -- an assignment is longer than what else is read
 assignment_wins : (n : ℕ) (m : Setting) (d : Below) (l : Lower) → AllParse d l → Wins (heads_sign is_assignment) (take_assignment_expression n m l) (throw_rule m d ∣ cascade_rule n m d)

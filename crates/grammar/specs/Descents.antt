@@ -19,7 +19,7 @@ use Rattle.dart_tree.specs.Heights.{fits}
 use Rattle.grammar.specs.Tokens.{is, is_either, is_name, is_type_name, heads, heads_name, anything, width, past}
 use Rattle.grammar.specs.Types.{separated, inner, type_arguments_of, type_parameter_of, type_parameters_of, void_of, heads_qualified, qualified_of, unqualified_of, named_type_of, annotation_of, heads_required, heads_field, parameter_of, parameter_list_of, parameter_type_of, Tail, tail_of, first_tail_of, next_tail_of, every_time}
 use Rattle.grammar.specs.Operators.{table, heads_sign, is_binary, take_binary, take_assignment, unary_at, postfix_at}
-use Rattle.grammar.specs.Expressions.{heads_nullable, simple_string_of, string_text_of, simple_interpolation_of, interpolated_of, strings_of, heads_label, positional_of, named_of, arguments_of, integer_of, boolean_of, null_of, this_of, super_of, identifier_of, heads_generic, generic_of, parenthesis_of, arrow_of, closure_of, heads_closure, new_of, entry_of, listed_of, entries_of, collection_of, Selector, member_of, element_of, check_of, plain_call_of, generic_call_of, heads_call, select_with, one_time, postfix_of, unary_of, Side, operated_of, tested_of, cast_of, choices_of, times, side_with, assign_of, throw_of, cascaded_name_of, cascaded_index_of, cascade_of, section_of, is_open}
+use Rattle.grammar.specs.Expressions.{heads_nullable, simple_string_of, string_text_of, simple_interpolation_of, interpolated_of, strings_of, heads_label, positional_of, named_of, arguments_of, integer_of, boolean_of, null_of, this_of, super_of, identifier_of, heads_generic, generic_of, parenthesis_of, arrow_of, closure_of, heads_closure, new_of, entry_of, listed_of, entries_of, collection_of, Selector, member_of, element_of, check_of, plain_call_of, generic_call_of, heads_call, select_with, one_time, postfix_of, unary_of, Side, operated_of, tested_of, cast_of, choices_of, times_behind, side_with, assign_of, throw_of, cascaded_name_of, cascaded_index_of, cascade_of, section_of, is_open}
 use Rattle.grammar.specs.Statements.{error_of, block_of, final_of, var_of, typed_of, variable_of, variables_of, ended, variable_statement_of, arrow_body_of, plain_function_of, function_statement_of, expression_statement_of, return_of, break_of, continue_of, rethrow_of, labeled_of, without_else, is_nearest, with_else, if_of, while_of, do_of, Header, each_of, counted_of, for_of, label_of, labels_of, default_of, case_of, case_size, cases_end_with_default, switch_of, catch_of, on_of, clause_of, has_clause, try_of}
 
 -- a string begins with this token
@@ -161,7 +161,7 @@ take_right m l level.IfNull above = take_operated m l level.IfNull above
 take_right m l level.Or above = take_operated m l level.Or above
 take_right m l level.And above = take_operated m l level.And above
 take_right m l level.Equality above = take_operated m l level.Equality above
-take_right m l level.Relation above = take_where (heads_sign (is_binary level.Relation)) (take_where (heads_call m) (λ ts. None) (take_operated m l level.Relation above)) (take_where (heads kind.Is) (take_turn tested_of (take_token (is kind.Is) ▸ take_maybe (take_token (is kind.Bang)) ▸ l.tested m)) (take_turn cast_of (take_token (is kind.As) ▸ l.tested m)))
+take_right m l level.Relation above = take_where (heads_sign (is_binary level.Relation)) (take_operated m l level.Relation above) (take_where (heads kind.Is) (take_turn tested_of (take_token (is kind.Is) ▸ take_maybe (take_token (is kind.Bang)) ▸ l.tested m)) (take_turn cast_of (take_token (is kind.As) ▸ l.tested m)))
 take_right m l level.BitOr above = take_operated m l level.BitOr above
 take_right m l level.BitXor above = take_operated m l level.BitXor above
 take_right m l level.BitAnd above = take_operated m l level.BitAnd above
@@ -170,7 +170,7 @@ take_right m l level.Sum above = take_operated m l level.Sum above
 take_right m l level.Product above = take_operated m l level.Product above
 
 unfoldable pub take_operand : ℕ → Setting → Lower → List Level → Descent Token Tree
-take_operand n m l above = take_levels times (is_open n) side_with (take_right m l) (take_unary n m l) above
+take_operand n m l above = take_levels (times_behind m) (is_open n) side_with (take_right m l) (take_unary n m l) above
 
 unfoldable pub take_assignment_expression : ℕ → Setting → Lower → Descent Token Tree
 take_assignment_expression n m l = take_once (is_open n) assign_of (take_unary n m l) (take_assignment ▸ l.expression m)

@@ -1,7 +1,7 @@
 -- Expressions.
-use Rattle.std.specs.Prelude.{ℕ, Bool, true, false, not, ◌&&◌, ◌||◌, List, [], ◌∷◌, ◌++◌, Option, Some, None, is_some, option_map}
+use Rattle.std.specs.Prelude.{ℕ, Bool, true, false, if◌then◌else◌, not, ◌&&◌, ◌||◌, List, [], ◌∷◌, ◌++◌, Option, Some, None, is_some, option_map}
 use Rattle.std.specs.Option.{option_map_or}
-use Rattle.readings.specs.Readings.{Rule, Test, next, token, ◌▹◌, ◌∣◌, make, turn, maybe, many, chain, once, longest_of, where_next, inside, levels, elements}
+use Rattle.readings.specs.Readings.{Rule, Test, next, either, token, ◌▹◌, ◌∣◌, make, turn, maybe, many, chain, once, longest_of, where_next, inside, levels, elements}
 use Rattle.dart_tokens.specs.declared.token.Kind.TheVariants as kind
 use Rattle.dart_tree.specs.Tree.{Tree, trees_of, part_of, integer_literal, string_literal, boolean_literal, null_literal, this_expression, super_expression, identifier, parenthesis, new_expression, list_literal, set_or_map_literal, function_expression, generic_identifier, property_access, index_expression, null_check, call, unary_expression, postfix_expression, binary_expression, type_test, type_cast, conditional, assignment, throw_expression, cascade, cascaded_name, cascaded_index, simple_string, interpolated_string, string_text, string_interpolation, map_entry, argument_list, argument, expression_body}
 use Rattle.dart_tree.specs.declared.names.Identifier.{Identifier}
@@ -17,6 +17,7 @@ use Rattle.grammar.specs.declared.level.Setting.{Setting}
 use Rattle.grammar.specs.declared.level.Setting.TheVariants as setting
 use Rattle.dart_tree.specs.Heights.{fits}
 use Rattle.grammar.specs.Tokens.{is, is_either, is_name, heads, first_then, group_then, anything, width, past, span_of, place_over, place_of, identifier_at}
+use Rattle.grammar.specs.Tokens.{heads_name}
 use Rattle.grammar.specs.Operators.{table, sign_at, binary_rule, assignment_rule, prefix_rule, postfix_rule}
 use Rattle.grammar.specs.Outline.{behind_arguments}
 use Rattle.grammar.specs.Types.{Below, every_time, inner, behind_token, type_arguments_rule, parameter_list_rule}
@@ -30,9 +31,9 @@ goes_on t =
     || is kind.PeriodPeriod t || is kind.QuestionPeriodPeriod t || is kind.OpenBracket t || is kind.QuestionBracket t || is kind.OpenParenthesis t || is kind.Bang t
     || is kind.PlusPlus t || is kind.MinusMinus t || is kind.Is t
 
--- an `as` comes next that a type may stand behind: before `(` or `<` it is a method's name
+-- an `as` comes next with what begins a type behind it: else it is a name, of a method or of an import's prefix
 abbrev pub heads_cast : Test Token
-heads_cast = first_then (is kind.As) (λ ts. not (next (is_either kind.OpenParenthesis kind.Less) ts))
+heads_cast = first_then (is kind.As) (either (heads kind.Void) heads_name)
 
 -- an expression goes on with these tokens
 abbrev pub heads_rest : Test Token
@@ -307,8 +308,8 @@ selected_rule n m d = chain every_time (is_open n) select_with (longest_of (prim
 -- Operands.
 
 -- at most once
-abbrev pub one_time : List Token → ℕ
-one_time ts = 1
+abbrev pub one_time : {A : Type 0} → A → List Token → ℕ
+one_time left ts = 1
 
 abbrev pub postfix_of : List Token → Tree → PostfixOperator → Tree
 postfix_of read operand operator = postfix_expression (place_over read) operator operand
@@ -347,7 +348,7 @@ choices_of (question, (then_value, (colon, else_value))) = choices then_value el
 unfoldable pub operated_rule : Setting → Below → Level → List Level → Rule Token Side
 operated_rule m d which above = turn operated_of (binary_rule which ▹ d.operand m above)
 
--- the right side of each level: an operator and an operand, 'is' '!'? type | 'as' type, or '?' expression ':' expression. A `<` that opens the type arguments of a call is no operator.
+-- the right side of each level: an operator and an operand, 'is' '!'? type | 'as' type, or '?' expression ':' expression
 unfoldable pub right_rule : Setting → Below → Level → List Level → Rule Token Side
 right_rule m d level.Conditional above = turn choices_of (token (is kind.Question) ▹ d.expression m ▹ token (is kind.Colon) ▹ d.expression m)
 right_rule m d level.IfNull above = operated_rule m d level.IfNull above
@@ -355,8 +356,7 @@ right_rule m d level.Or above = operated_rule m d level.Or above
 right_rule m d level.And above = operated_rule m d level.And above
 right_rule m d level.Equality above = operated_rule m d level.Equality above
 right_rule m d level.Relation above =
-    where_next (heads_call m) (λ ts. []) (operated_rule m d level.Relation above) ∣ turn tested_of (token (is kind.Is) ▹ maybe (token (is kind.Bang)) ▹ d.tested m)
-    ∣ turn cast_of (token (is kind.As) ▹ d.tested m)
+    operated_rule m d level.Relation above ∣ turn tested_of (token (is kind.Is) ▹ maybe (token (is kind.Bang)) ▹ d.tested m) ∣ turn cast_of (token (is kind.As) ▹ d.tested m)
 right_rule m d level.BitOr above = operated_rule m d level.BitOr above
 right_rule m d level.BitXor above = operated_rule m d level.BitXor above
 right_rule m d level.BitAnd above = operated_rule m d level.BitAnd above
@@ -364,20 +364,32 @@ right_rule m d level.Shift above = operated_rule m d level.Shift above
 right_rule m d level.Sum above = operated_rule m d level.Sum above
 right_rule m d level.Product above = operated_rule m d level.Product above
 
--- how often a right side of a level may come: once, or any number of times
-abbrev pub times : Level → List Token → ℕ
-times level.Conditional = one_time
-times level.IfNull = every_time
-times level.Or = every_time
-times level.And = every_time
-times level.Equality = one_time
-times level.Relation = one_time
-times level.BitOr = every_time
-times level.BitXor = every_time
-times level.BitAnd = every_time
-times level.Shift = every_time
-times level.Sum = every_time
-times level.Product = every_time
+-- The last operand of the expression has a `++` or `--` behind it: no selector can stand there.
+abbrev pub is_incremented : Tree → Bool
+is_incremented (postfix_expression at operator operand) = true
+is_incremented (unary_expression at operator operand) = is_incremented operand
+is_incremented (binary_expression at operator left right) = is_incremented right
+is_incremented (assignment at operator target value) = is_incremented value
+is_incremented (cascade at receiver null_aware section) = is_incremented section
+is_incremented t = false
+
+-- how often a right side of a level may come behind an operand: once, or any number of times. A `<` that opens the type arguments of a call is no operator where a call can stand.
+abbrev pub times : Setting → Level → (incremented : Bool) → List Token → ℕ
+times m level.Conditional = one_time
+times m level.IfNull = every_time
+times m level.Or = every_time
+times m level.And = every_time
+times m level.Equality = one_time
+times m level.Relation = λ incremented ts. if heads_call m ts && not incremented then 0 else 1
+times m level.BitOr = every_time
+times m level.BitXor = every_time
+times m level.BitAnd = every_time
+times m level.Shift = every_time
+times m level.Sum = every_time
+times m level.Product = every_time
+
+abbrev pub times_behind : Setting → Level → Tree → List Token → ℕ
+times_behind m which left ts = times m which (is_incremented left) ts
 
 abbrev pub side_with : List Token → Tree → Side → Tree
 side_with read left (operated operator right) = binary_expression (place_over read) operator left right
@@ -387,7 +399,7 @@ side_with read left (choices then_value else_value) = conditional (place_over re
 
 -- an operand of the levels of a table
 unfoldable pub operand_rule : ℕ → Setting → Below → List Level → Rule Token Tree
-operand_rule n m d above = levels times (is_open n) side_with (right_rule m d) (longest_of (unary_rule n m d)) above
+operand_rule n m d above = levels (times_behind m) (is_open n) side_with (right_rule m d) (longest_of (unary_rule n m d)) above
 
 -- Expressions.
 

@@ -202,8 +202,8 @@ abbrev pub next_tail_of : List Token → Tree → Tail → Tree
 next_tail_of read result found = function_type_with read (Some result) found
 
 -- as often as there are tokens
-abbrev pub every_time : List Token → ℕ
-every_time ts = length ts
+abbrev pub every_time : {A : Type 0} → A → List Token → ℕ
+every_time left ts = length ts
 
 -- A tail that is read only before these tokens.
 unfoldable pub tail_before_rule : Below → (question ends : Test Token) → Rule Token Tail

@@ -21,7 +21,7 @@ use Rattle.grammar.specs.declared.level.Setting.TheVariants as setting
 use Rattle.grammar.specs.Tokens.{is, is_either, is_name, is_type_name, heads, heads_name, anything, width, past}
 use Rattle.grammar.specs.Types.{separated, inner, type_arguments_of, type_parameter_of, type_parameters_of, void_of, heads_qualified, qualified_of, unqualified_of, named_type_of, annotation_of, heads_required, heads_field, parameter_of, parameter_list_of, parameter_type_of, tail_of, first_tail_of, next_tail_of, every_time}
 use Rattle.grammar.specs.Operators.{table, heads_sign, is_binary, binary_of, assignment_of, take_sign, sign_at, read_sign, take_binary, take_assignment, unary_at, postfix_at}
-use Rattle.grammar.specs.Expressions.{heads_nullable, simple_string_of, string_text_of, simple_interpolation_of, interpolated_of, strings_of, heads_label, positional_of, named_of, arguments_of, integer_of, boolean_of, null_of, this_of, super_of, identifier_of, heads_generic, generic_of, parenthesis_of, arrow_of, closure_of, heads_closure, new_of, entry_of, listed_of, entries_of, collection_of, member_of, element_of, check_of, plain_call_of, generic_call_of, heads_call, select_with, one_time, postfix_of, unary_of, operated_of, tested_of, cast_of, choices_of, times, side_with, assign_of, throw_of, cascaded_name_of, cascaded_index_of, cascade_of, section_of, is_open}
+use Rattle.grammar.specs.Expressions.{heads_nullable, simple_string_of, string_text_of, simple_interpolation_of, interpolated_of, strings_of, heads_label, positional_of, named_of, arguments_of, integer_of, boolean_of, null_of, this_of, super_of, identifier_of, heads_generic, generic_of, parenthesis_of, arrow_of, closure_of, heads_closure, new_of, entry_of, listed_of, entries_of, collection_of, member_of, element_of, check_of, plain_call_of, generic_call_of, heads_call, select_with, one_time, postfix_of, unary_of, operated_of, tested_of, cast_of, choices_of, times_behind, side_with, assign_of, throw_of, cascaded_name_of, cascaded_index_of, cascade_of, section_of, is_open}
 use Rattle.grammar.specs.Statements.{block_of}
 use Rattle.grammar.specs.Descents.{Lower, lower, begins_string, begins_prefix, take_separated, take_type_arguments, take_type_parameter, take_type_parameters, take_type_name, take_question, take_plain_type, take_annotation, take_parameter, take_parameters, take_optional_parameters, take_parameter_list, take_parameter_type, take_tail, take_tail_before, take_type, take_prefix, take_postfix, take_interpolation, take_string_part, take_string, take_strings, take_argument, take_arguments, take_simple, take_name, take_parenthesis, take_closure, take_new, take_entry, take_collection, take_primary, take_selector, take_selected, take_incremented, take_unary, take_operated, take_right, take_operand, take_assignment_expression, take_throw, take_section_head, take_section, take_cascade_section, take_cascade, take_expression, take_unread, take_block}
 use Rattle.last_parts.specs.LastParts.{IsLast, Leaves, leaves_none, leaves_token, leaves_given, leaves_seq, leaves_or, leaves_make, leaves_turn, leaves_maybe, leaves_many, leaves_chain, leaves_once, leaves_levels, leaves_where, leaves_before, leaves_inside}
@@ -292,7 +292,7 @@ right_left m l a level.Or above = operated_left m l a level.Or above
 right_left m l a level.And above = operated_left m l a level.And above
 right_left m l a level.Equality above = operated_left m l a level.Equality above
 right_left m l a level.Relation above =
-    leaves_where (heads_sign (is_binary level.Relation)) (leaves_where (heads_call m) leaves_none (operated_left m l a level.Relation above))
+    leaves_where (heads_sign (is_binary level.Relation)) (operated_left m l a level.Relation above)
     (leaves_where (heads kind.Is) (leaves_turn tested_of (leaves_seq (leaves_token (is kind.Is)) (leaves_seq (leaves_maybe (leaves_token (is kind.Bang))) (a.tested m))))
     (leaves_turn cast_of (leaves_seq (leaves_token (is kind.As)) (a.tested m))))
 right_left m l a level.BitOr above = operated_left m l a level.BitOr above
@@ -304,7 +304,7 @@ right_left m l a level.Product above = operated_left m l a level.Product above
 
 operand_left : (n : ℕ) (m : Setting) (l : Lower) → LeavesBelow l → (above : List Level) → Leaves (take_operand n m l above)
 unfolding take_operand
-operand_left n m l a above = leaves_levels times (is_open n) side_with (right_left m l a) (unary_left n m l a) above
+operand_left n m l a above = leaves_levels (times_behind m) (is_open n) side_with (right_left m l a) (unary_left n m l a) above
 
 -- Expressions.
 

@@ -110,10 +110,10 @@ leaves_onto {T = T} {A = A} {h = h} start (suc n) room join b left = record {
       (λ y. (leaves_onto start n room join b (join (tokens_read start y.1) left y.0)).each y.1)) (last_self ts)) (last_self ts);
 }
 
-pub leaves_chain : {T A B : Type 0} {g : Descent T A} {h : Descent T B} (most : List T → ℕ) (room : A → Bool) (join : List T → A → B → A) → Leaves g → Leaves h →
+pub leaves_chain : {T A B : Type 0} {g : Descent T A} {h : Descent T B} (most : A → List T → ℕ) (room : A → Bool) (join : List T → A → B → A) → Leaves g → Leaves h →
     Leaves (take_chain most room join g h)
 leaves_chain {g = g} {h = h} most room join a b = record {
-  each = λ ts. bound ts (λ x. take_onto ts (most x.1) room join h x.0 x.1) (g ts) (a.each ts) (λ x. (leaves_onto ts (most x.1) room join b x.0).each x.1);
+  each = λ ts. bound ts (λ x. take_onto ts (most x.0 x.1) room join h x.0 x.1) (g ts) (a.each ts) (λ x. (leaves_onto ts (most x.0 x.1) room join b x.0).each x.1);
 }
 
 pub leaves_once : {T A B : Type 0} {g : Descent T A} {h : Descent T B} (room : A → Bool) (join : List T → A → B → A) → Leaves g → Leaves h →
@@ -127,14 +127,14 @@ leaves_once {T = T} {A = A} {g = g} {h = h} room join a b = record {
 }
 
 -- levels behind an operand that has been read
-pub leaves_climb : {T A B R : Type 0} {right : R → List R → Descent T B} (most : R → List T → ℕ) (room : A → Bool) (join : List T → A → B → A) →
+pub leaves_climb : {T A B R : Type 0} {right : R → List R → Descent T B} (most : R → A → List T → ℕ) (room : A → Bool) (join : List T → A → B → A) →
     ((r : R) (above : List R) → Leaves (right r above)) → (start : List T) (rs : List R) (x : Reading T A) → Maybe (λ (y : Reading T A). IsLast y.1 x.1) (climb most room join right start rs x)
 leaves_climb most room join each start [] x = last_self x.1
 leaves_climb {right = right} most room join each start (r ∷ rs) x =
-    bound x.1 (λ y. take_onto start (most r y.1) room join (right r rs) y.0 y.1) (climb most room join right start rs x) (leaves_climb most room join each start rs x)
-    (λ y. (leaves_onto start (most r y.1) room join (each r rs) y.0).each y.1)
+    bound x.1 (λ y. take_onto start (most r y.0 y.1) room join (right r rs) y.0 y.1) (climb most room join right start rs x) (leaves_climb most room join each start rs x)
+    (λ y. (leaves_onto start (most r y.0 y.1) room join (each r rs) y.0).each y.1)
 
-pub leaves_levels : {T A B R : Type 0} {right : R → List R → Descent T B} {first : Descent T A} (most : R → List T → ℕ) (room : A → Bool) (join : List T → A → B → A) →
+pub leaves_levels : {T A B R : Type 0} {right : R → List R → Descent T B} {first : Descent T A} (most : R → A → List T → ℕ) (room : A → Bool) (join : List T → A → B → A) →
     ((r : R) (above : List R) → Leaves (right r above)) → Leaves first → (rs : List R) → Leaves (take_levels most room join right first rs)
 leaves_levels most room join each a [] = a
 leaves_levels most room join each a (r ∷ rs) = leaves_chain (most r) room join (leaves_levels most room join each a rs) (each r rs)

@@ -21,7 +21,7 @@ use Rattle.grammar.specs.declared.level.Setting.TheVariants as setting
 use Rattle.grammar.specs.Tokens.{is, is_either, is_name, is_type_name, heads, heads_name}
 use Rattle.grammar.specs.Types.{separated, inner, behind_token, listed_or_none, type_arguments_of, type_parameter_of, type_parameters_of, void_of, heads_qualified, qualified_of, unqualified_of, named_type_of, annotation_of, heads_required, heads_field, parameter_of, parameter_list_of, parameter_type_of, Tail, tail, tail_of, function_type_with, first_tail_of, next_tail_of, every_time}
 use Rattle.grammar.specs.Operators.{table, heads_sign, is_binary, binary_of, assignment_of, take_sign, sign_at, read_sign, unary_at, postfix_at}
-use Rattle.grammar.specs.Expressions.{simple_string_of, string_text_of, simple_interpolation_of, interpolated_of, strings_of, heads_label, positional_of, named_of, arguments_of, integer_of, boolean_of, null_of, this_of, super_of, identifier_of, heads_generic, generic_of, parenthesis_of, arrow_of, closure_of, heads_closure, new_of, entry_of, Contents, listed, entries, listed_of, entries_of, collection_with, collection_of, Selector, member, element, check, called, member_of, element_of, check_of, plain_call_of, generic_call_of, heads_call, select_with, one_time, postfix_of, unary_of, Side, operated, tested, cast, choices, operated_of, tested_of, cast_of, choices_of, times, side_with, assign_of, throw_of, cascaded_name_of, cascaded_index_of, cascade_of, section_of, is_open}
+use Rattle.grammar.specs.Expressions.{simple_string_of, string_text_of, simple_interpolation_of, interpolated_of, strings_of, heads_label, positional_of, named_of, arguments_of, integer_of, boolean_of, null_of, this_of, super_of, identifier_of, heads_generic, generic_of, parenthesis_of, arrow_of, closure_of, heads_closure, new_of, entry_of, Contents, listed, entries, listed_of, entries_of, collection_with, collection_of, Selector, member, element, check, called, member_of, element_of, check_of, plain_call_of, generic_call_of, heads_call, select_with, one_time, postfix_of, unary_of, Side, operated, tested, cast, choices, operated_of, tested_of, cast_of, choices_of, times_behind, side_with, assign_of, throw_of, cascaded_name_of, cascaded_index_of, cascade_of, section_of, is_open}
 use Rattle.grammar.specs.Descents.{Lower, begins_string, begins_prefix, take_separated, take_type_arguments, take_type_parameter, take_type_parameters, take_type_name, take_question, take_plain_type, take_annotation, take_parameter, take_parameters, take_optional_parameters, take_parameter_list, take_parameter_type, take_tail, take_tail_before, take_type, take_prefix, take_postfix, take_interpolation, take_string_part, take_string, take_strings, take_argument, take_arguments, take_simple, take_name, take_parenthesis, take_closure, take_new, take_entry, take_collection, take_primary, take_selector, take_selected, take_incremented, take_unary, take_operated, take_right, take_operand, take_assignment_expression, take_throw, take_section_head, take_section, take_cascade_section, take_cascade, take_expression}
 use Rattle.node_counts.proofs.Weights.{weight, weight_of_all, weight_of_part}
 use Rattle.node_counts.proofs.Pays.{free, both, if_there, total, Pays, pays_token, pays_given, pays_none, pays_seq, pays_make, pays_turn, pays_or, pays_where, pays_maybe, pays_many, pays_chain, pays_once, pays_levels, pays_inside, pays_before, pays_elements, sound_drop, Sound, Paid, worth, worth_drop, sound_behind}
@@ -351,7 +351,7 @@ right_pays c m l a level.Or above = operated_pays c m l a level.Or above
 right_pays c m l a level.And above = operated_pays c m l a level.And above
 right_pays c m l a level.Equality above = operated_pays c m l a level.Equality above
 right_pays c m l a level.Relation above =
-    pays_where (heads_sign (is_binary level.Relation)) (pays_where (heads_call m) (pays_none c (side_weight c) 4) (operated_pays c m l a level.Relation above))
+    pays_where (heads_sign (is_binary level.Relation)) (operated_pays c m l a level.Relation above)
     (pays_where (heads kind.Is) (pays_turn (side_weight c) 4 tested_of (pays_seq (pays_token c (is kind.Is)) (pays_seq (pays_maybe (pays_token c (is kind.Bang))) (a.tested m))) (λ x. omega arith))
     (pays_turn (side_weight c) 4 cast_of (pays_seq (pays_token c (is kind.As)) (a.tested m)) (λ x. omega arith)))
 right_pays c m l a level.BitOr above = operated_pays c m l a level.BitOr above
@@ -369,7 +369,7 @@ sided_weight c read left (choices then_value else_value) = omega arith
 
 pub operand_pays : (c : Place → ℕ) (n : ℕ) (m : Setting) (l : Lower) → Affordable c l → (above : List Level) → Pays c (weight c) 4 (take_operand n m l above)
 unfolding take_operand
-operand_pays c n m l a above = pays_levels times (is_open n) side_with (right_pays c m l a) (λ read left side. sided_weight c read left side) (unary_pays c n m l a) above
+operand_pays c n m l a above = pays_levels (times_behind m) (is_open n) side_with (right_pays c m l a) (λ read left side. sided_weight c read left side) (unary_pays c n m l a) above
 
 pub section_head_pays : (c : Place → ℕ) (expression : Descent Token Tree) → Pays c (weight c) 4 expression → Pays c (weight c) 4 (take_section_head expression)
 unfolding take_section_head

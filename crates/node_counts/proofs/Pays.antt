@@ -166,12 +166,12 @@ pays_onto {A = A} {c = c} {v = v} {k = k} {h = h} w start (suc n) room join b st
     (s, omega arith))
     (s, omega arith)
 
-pub pays_chain : {A B : Type 0} {c : Place → ℕ} {w : A → ℕ} {v : B → ℕ} {j k : ℕ} {g : Descent Token A} {h : Descent Token B} (most : List Token → ℕ) (room : A → Bool) (join : List Token → A → B → A) → Pays c w j g → Pays c v k h →
+pub pays_chain : {A B : Type 0} {c : Place → ℕ} {w : A → ℕ} {v : B → ℕ} {j k : ℕ} {g : Descent Token A} {h : Descent Token B} (most : A → List Token → ℕ) (room : A → Bool) (join : List Token → A → B → A) → Pays c w j g → Pays c v k h →
     ((read : List Token) (left : A) (right : B) → w (join read left right) ≤ w left + (v right + k)) → Pays c w j (take_chain most room join g h)
 pays_chain {c = c} {w = w} {j = j} {g = g} {h = h} most room join a b step = record {
   each = λ ts s.
-      bound (Paid c w j (worth ts)) (Paid c w j (worth ts)) (λ x. take_onto ts (most x.1) room join h x.0 x.1) (g ts) (a.each ts s)
-      (λ x p. found_less (Paid c w 0 (w x.0 + worth x.1)) (Paid c w j (worth ts)) (take_onto ts (most x.1) room join h x.0 x.1) (λ z r. (r.0, omega (arith, r.1, p.1))) (pays_onto w ts (most x.1) room join b step x.0 x.1 p.0));
+      bound (Paid c w j (worth ts)) (Paid c w j (worth ts)) (λ x. take_onto ts (most x.0 x.1) room join h x.0 x.1) (g ts) (a.each ts s)
+      (λ x p. found_less (Paid c w 0 (w x.0 + worth x.1)) (Paid c w j (worth ts)) (take_onto ts (most x.0 x.1) room join h x.0 x.1) (λ z r. (r.0, omega (arith, r.1, p.1))) (pays_onto w ts (most x.0 x.1) room join b step x.0 x.1 p.0));
 }
 
 pub pays_once : {A B : Type 0} {c : Place → ℕ} {w : A → ℕ} {v : B → ℕ} {j k : ℕ} {g : Descent Token A} {h : Descent Token B} (room : A → Bool) (join : List Token → A → B → A) → Pays c w j g → Pays c v k h →
@@ -184,7 +184,7 @@ pays_once {A = A} {c = c} {w = w} {v = v} {j = j} {k = k} {g = g} {h = h} room j
       (bound (Paid c v k (worth x.1)) (Paid c w j (worth ts)) (λ y. Some (join (tokens_read ts y.1) x.0 y.0, y.1)) (h x.1) (b.each x.1 p.0) (λ y q. (q.0, omega (arith, q.1, p.1, step (tokens_read ts y.1) x.0 y.0)))) tt);
 }
 
-pub pays_levels : {A B R : Type 0} {c : Place → ℕ} {w : A → ℕ} {v : B → ℕ} {j k : ℕ} {first : Descent Token A} {right : R → List R → Descent Token B} (most : R → List Token → ℕ) (room : A → Bool) (join : List Token → A → B → A) → ((r : R) (above : List R) → Pays c v k (right r above)) →
+pub pays_levels : {A B R : Type 0} {c : Place → ℕ} {w : A → ℕ} {v : B → ℕ} {j k : ℕ} {first : Descent Token A} {right : R → List R → Descent Token B} (most : R → A → List Token → ℕ) (room : A → Bool) (join : List Token → A → B → A) → ((r : R) (above : List R) → Pays c v k (right r above)) →
     ((read : List Token) (left : A) (side : B) → w (join read left side) ≤ w left + (v side + k)) → Pays c w j first → (rs : List R) → Pays c w j (take_levels most room join right first rs)
 pays_levels most room join each step a [] = a
 pays_levels most room join each step a (r ∷ rs) = pays_chain (most r) room join (pays_levels most room join each step a rs) (each r rs) step

@@ -250,7 +250,7 @@ type_taken n m l s ts x e d =
     let v : Way = way_of l.written in
     let tail : Descent Token Tail = take_tail_before l (heads kind.Question) anything in
     let first : Option (Reading Token Tree) = take_make first_tail_of tail ts in
-    let p = left_bound (or_else first (take_plain_type l (heads kind.Question) ts)) (λ y. take_onto ts (every_time y.1) (fits n) next_tail_of tail y.0 y.1) x e in
+    let p = left_bound (or_else first (take_plain_type l (heads kind.Question) ts)) (λ y. take_onto ts (every_time y.0 y.1) (fits n) next_tail_of tail y.0 y.1) x e in
     let begun : way_or (left_of first) (over_plain v ts) ≡ Some p.0.1 = subst (λ (o : Option (List Token)). way_or (left_of first) o ≡ Some p.0.1) ((plain_type_follows l).each ts) (left_or first (take_plain_type l (heads kind.Question) ts) p.0 p.1.0) in
     type_seen v m s (parameters_agree m) ts p.0.1 x.1 (left_of first) (λ ys f. let q = left_found first ys f in (keeps_make first_tail_of (tail_before_keeps l)).each ts q.0 q.1.0 ∙ ap (λ (xs : List Token). Some xs) q.1.1) begun (tails_taken tail v (tail_before_keeps l) ts (fits n) next_tail_of (length p.0.1) p.0.0 p.0.1 x p.1.1) d
 

@@ -11,33 +11,33 @@ use Rattle.grammar.specs.declared.level.Level.{Level}
 use Rattle.grammar.specs.declared.level.Setting.{Setting}
 use Rattle.grammar.specs.Tokens.{heads}
 use Rattle.grammar.specs.Operators.{table, take_assignment}
-use Rattle.grammar.specs.Expressions.{times, side_with, assign_of, cascade_of, is_open}
+use Rattle.grammar.specs.Expressions.{times_behind, side_with, assign_of, cascade_of, is_open}
 use Rattle.grammar.specs.Descents.{Lower, take_unary, take_operand, take_right, take_assignment_expression, take_throw, take_cascade_section, take_cascade, take_expression}
 use Rattle.parse_leaves.specs.declared.miss.Miss.{Miss}
 use Rattle.parse_leaves.specs.Answers.{Gives}
 
 climbed : (n : ℕ) (m : Setting) (l : Lower) (above : List Level) (ts : List Token) (x : Reading Token Tree) → take_unary n m l ts ≡ Some x →
-    take_operand n m l above ts ≡ climb times (is_open n) side_with (take_right m l) ts above x
+    take_operand n m l above ts ≡ climb (times_behind m) (is_open n) side_with (take_right m l) ts above x
 unfolding take_operand
-climbed n m l above ts x e = levels_climb times (is_open n) side_with (take_right m l) (take_unary n m l) above ts ∙ ap (λ o. bind o (climb times (is_open n) side_with (take_right m l) ts above)) e
+climbed n m l above ts x e = levels_climb (times_behind m) (is_open n) side_with (take_right m l) (take_unary n m l) above ts ∙ ap (λ o. bind o (climb (times_behind m) (is_open n) side_with (take_right m l) ts above)) e
 
 -- without a first operand there is none
 pub operand_missing : (n : ℕ) (m : Setting) (l : Lower) (above : List Level) (ts : List Token) → take_unary n m l ts ≡ None → take_operand n m l above ts ≡ None
 unfolding take_operand
-operand_missing n m l above ts e = levels_climb times (is_open n) side_with (take_right m l) (take_unary n m l) above ts ∙ ap (λ o. bind o (climb times (is_open n) side_with (take_right m l) ts above)) e
+operand_missing n m l above ts e = levels_climb (times_behind m) (is_open n) side_with (take_right m l) (take_unary n m l) above ts ∙ ap (λ o. bind o (climb (times_behind m) (is_open n) side_with (take_right m l) ts above)) e
 
 -- what is given behind the first operand is given of the whole
 pub gives_operand : {X : Type 0} (view : X → Reading Token Tree) (r : Result X Miss) (n : ℕ) (m : Setting) (l : Lower) (above : List Level) (ts : List Token) (x : Reading Token Tree) → take_unary n m l ts ≡ Some x →
-    Gives view r (climb times (is_open n) side_with (take_right m l) ts above x) → Gives view r (take_operand n m l above ts)
+    Gives view r (climb (times_behind m) (is_open n) side_with (take_right m l) ts above x) → Gives view r (take_operand n m l above ts)
 gives_operand view r n m l above ts x e g = subst (λ o. Gives view r o) (sym (climbed n m l above ts x e)) g
 
 -- a cascade without a first operand, and one of which nothing is found behind it
-pub cascade_missing : (n : ℕ) (m : Setting) (l : Lower) (ts : List Token) (x : Reading Token Tree) → take_unary n m l ts ≡ Some x → climb times (is_open n) side_with (take_right m l) ts table x ≡ None → take_cascade n m l ts ≡ None
+pub cascade_missing : (n : ℕ) (m : Setting) (l : Lower) (ts : List Token) (x : Reading Token Tree) → take_unary n m l ts ≡ Some x → climb (times_behind m) (is_open n) side_with (take_right m l) ts table x ≡ None → take_cascade n m l ts ≡ None
 unfolding take_cascade
 cascade_missing n m l ts x e d = ap (λ o. bind o (λ y. take_onto ts (length y.1) (is_open n) cascade_of (take_cascade_section m l) y.0 y.1)) (climbed n m l table ts x e ∙ d)
 
 pub gives_cascade : {X : Type 0} (view : X → Reading Token Tree) (r : Result X Miss) (n : ℕ) (m : Setting) (l : Lower) (ts : List Token) (x y : Reading Token Tree) → take_unary n m l ts ≡ Some x →
-    climb times (is_open n) side_with (take_right m l) ts table x ≡ Some y → Gives view r (take_onto ts (length y.1) (is_open n) cascade_of (take_cascade_section m l) y.0 y.1) → Gives view r (take_cascade n m l ts)
+    climb (times_behind m) (is_open n) side_with (take_right m l) ts table x ≡ Some y → Gives view r (take_onto ts (length y.1) (is_open n) cascade_of (take_cascade_section m l) y.0 y.1) → Gives view r (take_cascade n m l ts)
 unfolding take_cascade
 gives_cascade view r n m l ts x y e d g =
     subst (λ o. Gives view r o) (sym (ap (λ o. bind o (λ y. take_onto ts (length y.1) (is_open n) cascade_of (take_cascade_section m l) y.0 y.1)) (climbed n m l table ts x e ∙ d))) g

@@ -160,13 +160,13 @@ fn goes_on(token: Token) -> bool
         || token.kind == Kind::Is
 }
 
-/// An `as` comes next that a type may stand behind.
+/// An `as` comes next with what begins a type behind it.
 fn heads_cast(tokens: &[Token]) -> bool
     ensures { result ≡ heads_cast tokens.now }
 {
     match tokens.split_first() {
         Some((first, rest)) => {
-            first.kind == Kind::As && !heads_either(rest, Kind::OpenParenthesis, Kind::Less)
+            first.kind == Kind::As && (heads(rest, Kind::Void) || heads_name(rest))
         }
         None => false,
     }

@@ -1,8 +1,8 @@
-//! Whether anything may stand behind an expression.
+//! Whether anything may stand behind an expression, and whether a selector may.
 
 ghost use Rattle.std.specs.Prelude.{◌≡◌, ◌≤◌, true};
 ghost use Rattle.dart_tree.specs.Heights.{height};
-ghost use Rattle.grammar.specs.Expressions.{reads_on, is_open};
+ghost use Rattle.grammar.specs.Expressions.{reads_on, is_open, is_incremented};
 
 use dart_tree::{Body, BodyNode, Expr, ExprNode};
 
@@ -42,4 +42,18 @@ pub fn is_open(room: u32, reach: u32, expression: &Expr) -> bool
         return false;
     }
     !reads_on(expression)
+}
+
+/// The last operand of the expression has a `++` or `--` behind it, where no selector can stand.
+pub fn is_incremented(expression: &Expr) -> bool
+    ensures { result ≡ is_incremented expression.now }
+{
+    match &*expression.node {
+        ExprNode::Postfix { .. } => true,
+        ExprNode::Unary { operand, .. } => is_incremented(operand),
+        ExprNode::Binary { right, .. } => is_incremented(right),
+        ExprNode::Assignment { value, .. } => is_incremented(value),
+        ExprNode::Cascade { section, .. } => is_incremented(section),
+        _ => false,
+    }
 }

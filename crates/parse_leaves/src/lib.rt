@@ -3,7 +3,7 @@
 //!
 //! `leaves.rt` reads single tokens and groups, `operators.rt` operators, also those whose lexemes
 //! stand side by side, and `type_leaves.rt` the parts of types that hold no other node; `ahead.rt`
-//! has the tests of the tokens that come next, `outline.rt` the one of type arguments, `behind.rt` whether anything may stand
+//! has the tests of the tokens that come next, `outline.rt` the one of type arguments, `behind.rt` whether anything, or a selector, may stand
 //! behind an expression, and `places.rt` where what was read stands. Each
 //! contract states that the answer is exactly what the way down of `grammar` finds or tests there
 //! (`specs/Answers.antt` says how answers and findings agree).
@@ -31,7 +31,7 @@ pub use ahead::{
     heads, heads_closure, heads_either, heads_field, heads_label, heads_name, heads_nullable,
     heads_prefix, heads_qualified, heads_required, heads_string, heads_untyped,
 };
-pub use behind::is_open;
+pub use behind::{is_incremented, is_open};
 pub use below::Below;
 pub use filled::{block_body, expression_group};
 pub use leaves::{

@@ -11,7 +11,7 @@ use Rattle.grammar.specs.declared.level.Setting.{Setting}
 use Rattle.grammar.specs.Tokens.{heads}
 use Rattle.grammar.specs.Types.{every_time}
 use Rattle.grammar.specs.Operators.{table, take_assignment}
-use Rattle.grammar.specs.Expressions.{times, side_with, assign_of, cascade_of, select_with, is_open}
+use Rattle.grammar.specs.Expressions.{times_behind, side_with, assign_of, cascade_of, select_with, is_open}
 use Rattle.grammar.specs.Descents.{Lower, take_unary, take_operand, take_right, take_throw, take_cascade_section, take_cascade, take_selector, take_section_head, take_section, take_expression}
 use Rattle.parse_leaves.specs.declared.miss.Miss.{Miss}
 use Rattle.parse_leaves.specs.Answers.{Gives}
@@ -20,12 +20,12 @@ use Rattle.parse_leaves.specs.Ways.{gives_operand, gives_cascade, expression_dee
 
 -- levels
 pub gives_operand_behind : {X : Type 0} (view : X → Reading Token Tree) (r : Result X Miss) (n : ℕ) (m : Setting) (l : Lower) (above : List Level) (ts us : List Token) (first : Tree) → take_unary n m l ts ≡ Some (first, us) →
-    Gives view r (climb times (is_open n) side_with (take_right m l) ts above (first, us)) → Gives view r (take_operand n m l above ts)
+    Gives view r (climb (times_behind m) (is_open n) side_with (take_right m l) ts above (first, us)) → Gives view r (take_operand n m l above ts)
 gives_operand_behind view r n m l above ts us first e g = gives_operand view r n m l above ts (first, us) e g
 
 -- sections of a cascade
 pub gives_cascade_behind : {X : Type 0} (view : X → Reading Token Tree) (r : Result X Miss) (n : ℕ) (m : Setting) (l : Lower) (ts us vs : List Token) (first left : Tree) → take_unary n m l ts ≡ Some (first, us) →
-    climb times (is_open n) side_with (take_right m l) ts table (first, us) ≡ Some (left, vs) → Gives view r (take_onto ts (length vs) (is_open n) cascade_of (take_cascade_section m l) left vs) → Gives view r (take_cascade n m l ts)
+    climb (times_behind m) (is_open n) side_with (take_right m l) ts table (first, us) ≡ Some (left, vs) → Gives view r (take_onto ts (length vs) (is_open n) cascade_of (take_cascade_section m l) left vs) → Gives view r (take_cascade n m l ts)
 gives_cascade_behind view r n m l ts us vs first left e d g = gives_cascade view r n m l ts (first, us) (left, vs) e d g
 
 -- Expressions.

@@ -11,12 +11,12 @@ use Rattle.grammar.specs.declared.level.Level.{Level}
 use Rattle.grammar.specs.declared.level.Setting.TheVariants as setting
 use Rattle.grammar.specs.Tokens.{heads}
 use Rattle.grammar.specs.Operators.{table, take_assignment}
-use Rattle.grammar.specs.Expressions.{Side, operated, tested, cast, choices, times, side_with, cascade_of, is_open}
+use Rattle.grammar.specs.Expressions.{Side, operated, tested, cast, choices, times_behind, side_with, cascade_of, is_open}
 use Rattle.grammar.specs.Descents.{lower, take_unary, take_operand, take_right, take_throw, take_cascade_section, take_cascade, take_expression}
 use Rattle.parse_leaves.specs.declared.miss.Miss.TheVariants.{NoReading}
 use Rattle.parse_leaves.specs.Ways.{expression_deep, expression_plain, expression_assigned, expression_missing}
 use Rattle.parse_operators.specs.declared.extents.Extent.{Extent}
-use Rattle.parse_operators.specs.Ends.{end_of, extent_of, side_extent, section_extent, joined, goes_on, seen, side_behind, all_behind, assignment_behind, cascade_behind}
+use Rattle.parse_operators.specs.Ends.{end_of, extent_of, side_extent, section_extent, joined, goes_on, seen, side_behind, times_seen, all_behind, assignment_behind, cascade_behind}
 
 -- Right sides.
 
@@ -62,13 +62,13 @@ section_joined : (read other : List Token) (left : Tree) (section : Bool × Tree
 section_joined read other left (null_aware, section) = refl
 
 climb_seen : (n : ℕ) (start : List Token) (levels : List Level) (left : Tree) (ts : List Token) →
-    seen extent_of (climb times (is_open n) side_with (take_right setting.Plain (lower n)) start levels (left, ts)) ≡ climb times (goes_on n) joined (side_behind n) [] levels (extent_of left, ts)
+    seen extent_of (climb (times_behind setting.Plain) (is_open n) side_with (take_right setting.Plain (lower n)) start levels (left, ts)) ≡ climb times_seen (goes_on n) joined (side_behind n) [] levels (extent_of left, ts)
 climb_seen n start [] left ts = refl
 climb_seen n start (r ∷ rs) left ts =
-    bind_seen extent_of (climb times (is_open n) side_with (take_right setting.Plain (lower n)) start rs (left, ts))
-    (λ y. take_onto start (times r y.1) (is_open n) side_with (take_right setting.Plain (lower n) r rs) y.0 y.1) (λ z. take_onto [] (times r z.1) (goes_on n) joined (side_behind n r rs) z.0 z.1)
-    (λ y. onto_seen extent_of side_extent start (times r y.1) (is_open n) (goes_on n) side_with joined (take_right setting.Plain (lower n) r rs) (λ a. refl) side_joined y.0 y.1)
-    ∙ ap (λ (o : Option (Reading Token Extent)). bind o (λ z. take_onto [] (times r z.1) (goes_on n) joined (side_behind n r rs) z.0 z.1)) (climb_seen n start rs left ts)
+    bind_seen extent_of (climb (times_behind setting.Plain) (is_open n) side_with (take_right setting.Plain (lower n)) start rs (left, ts))
+    (λ y. take_onto start (times_behind setting.Plain r y.0 y.1) (is_open n) side_with (take_right setting.Plain (lower n) r rs) y.0 y.1) (λ z. take_onto [] (times_seen r z.0 z.1) (goes_on n) joined (side_behind n r rs) z.0 z.1)
+    (λ y. onto_seen extent_of side_extent start (times_behind setting.Plain r y.0 y.1) (is_open n) (goes_on n) side_with joined (take_right setting.Plain (lower n) r rs) (λ a. refl) side_joined y.0 y.1)
+    ∙ ap (λ (o : Option (Reading Token Extent)). bind o (λ z. take_onto [] (times_seen r z.0 z.1) (goes_on n) joined (side_behind n r rs) z.0 z.1)) (climb_seen n start rs left ts)
 
 -- Cascades.
 
@@ -81,18 +81,18 @@ left_seen view None = refl
 left_seen view (Some x) = refl
 
 operand_climbed : (n : ℕ) (ts : List Token) (x : Reading Token Tree) → take_unary n setting.Plain (lower n) ts ≡ Some x →
-    take_operand n setting.Plain (lower n) table ts ≡ climb times (is_open n) side_with (take_right setting.Plain (lower n)) ts table x
+    take_operand n setting.Plain (lower n) table ts ≡ climb (times_behind setting.Plain) (is_open n) side_with (take_right setting.Plain (lower n)) ts table x
 unfolding take_operand
 operand_climbed n ts x e =
-    levels_climb times (is_open n) side_with (take_right setting.Plain (lower n)) (take_unary n setting.Plain (lower n)) table ts
-    ∙ ap (λ (o : Option (Reading Token Tree)). bind o (climb times (is_open n) side_with (take_right setting.Plain (lower n)) ts table)) e
+    levels_climb (times_behind setting.Plain) (is_open n) side_with (take_right setting.Plain (lower n)) (take_unary n setting.Plain (lower n)) table ts
+    ∙ ap (λ (o : Option (Reading Token Tree)). bind o (climb (times_behind setting.Plain) (is_open n) side_with (take_right setting.Plain (lower n)) ts table)) e
 
 cascade_seen : (n : ℕ) (ts us : List Token) (first : Tree) → take_unary n setting.Plain (lower n) ts ≡ Some (first, us) →
     option_map (λ x. x.1) (take_cascade n setting.Plain (lower n) ts) ≡ cascade_behind n (extent_of first) us
 unfolding take_cascade
 cascade_seen n ts us first e =
     let sections : Reading Token Tree → Option (Reading Token Tree) = λ y. take_onto ts (length y.1) (is_open n) cascade_of (take_cascade_section setting.Plain (lower n)) y.0 y.1 in
-    let levels : Option (Reading Token Tree) = climb times (is_open n) side_with (take_right setting.Plain (lower n)) ts table (first, us) in
+    let levels : Option (Reading Token Tree) = climb (times_behind setting.Plain) (is_open n) side_with (take_right setting.Plain (lower n)) ts table (first, us) in
     ap (λ (o : Option (Reading Token Tree)). option_map (λ (x : Reading Token Tree). x.1) (bind o sections)) (operand_climbed n ts (first, us) e)
     ∙ left_seen extent_of (bind levels sections)
     ∙ ap (λ (o : Option (Reading Token Extent)). option_map (λ (x : Reading Token Extent). x.1) o)

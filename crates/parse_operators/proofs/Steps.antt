@@ -13,13 +13,12 @@ use Rattle.grammar.specs.declared.level.Setting.{Setting}
 use Rattle.grammar.specs.declared.level.Setting.TheVariants as setting
 use Rattle.grammar.specs.Tokens.{is}
 use Rattle.grammar.specs.Operators.{table}
-use Rattle.grammar.specs.Expressions.{times}
 use Rattle.grammar.specs.Descents.{Lower, lower, take_cascade_section}
 use Rattle.parse_leaves.specs.Next.{next_level, is_level}
 use Rattle.parse_leaves.specs.Sizes.{higher_within}
 use Rattle.dart_tree.specs.Heights.{higher}
 use Rattle.parse_operators.specs.declared.extents.Extent.{Extent}
-use Rattle.parse_operators.specs.Ends.{joined, goes_on, seen, side_extent, section_extent, rank, side_behind, behind_at, behind, comes_next, all_behind}
+use Rattle.parse_operators.specs.Ends.{joined, goes_on, seen, side_extent, section_extent, rank, side_behind, behind_at, behind, comes_next, times_seen, all_behind}
 use Rattle.parse_operators.proofs.Climbing.{level_at}
 use Rattle.parse_operators.proofs.Next.{told, is_kind, no_right}
 
@@ -76,13 +75,13 @@ ranked : AreRanked 0 table
 ranked = (refl, (refl, (refl, (refl, (refl, (refl, (refl, (refl, (refl, (refl, (refl, (refl, tt))))))))))))
 
 -- one more level
-pub climb_more : (n less more : ℕ) (which other : Level) (x : Reading Token Extent) (left new : Extent) (us vs : List Token) → climb times (goes_on n) joined (side_behind n) [] (drop more table) x ≡ Some (left, us) → 0 < more → more ≤ 12 → less ≡ more - 1 →
-    which ≡ get_or table less other → all_behind n (Some which) left us ≡ Some (new, vs) → climb times (goes_on n) joined (side_behind n) [] (drop less table) x ≡ Some (new, vs)
+pub climb_more : (n less more : ℕ) (which other : Level) (x : Reading Token Extent) (left new : Extent) (us vs : List Token) → climb times_seen (goes_on n) joined (side_behind n) [] (drop more table) x ≡ Some (left, us) → 0 < more → more ≤ 12 → less ≡ more - 1 →
+    which ≡ get_or table less other → all_behind n (Some which) left us ≡ Some (new, vs) → climb times_seen (goes_on n) joined (side_behind n) [] (drop less table) x ≡ Some (new, vs)
 climb_more n less more which other x left new us vs so some few last at found =
     let place : rank which ≡ more = ap rank at ∙ rank_at 0 table less other ranked (omega (arith, some, few, last)) ∙ omega (arith, some, last) in
-    ap (λ (rs : List Level). climb times (goes_on n) joined (side_behind n) [] rs x) (level_at table less more which other some few last at)
-    ∙ ap (λ (o : Option (Reading Token Extent)). bind o (λ y. take_onto [] (times which y.1) (goes_on n) joined (side_behind n which (drop more table)) y.0 y.1)) so
-    ∙ ap (λ (k : ℕ). take_onto [] (times which us) (goes_on n) joined (side_behind n which (drop k table)) left us) (sym place) ∙ found
+    ap (λ (rs : List Level). climb times_seen (goes_on n) joined (side_behind n) [] rs x) (level_at table less more which other some few last at)
+    ∙ ap (λ (o : Option (Reading Token Extent)). bind o (λ y. take_onto [] (times_seen which y.0 y.1) (goes_on n) joined (side_behind n which (drop more table)) y.0 y.1)) so
+    ∙ ap (λ (k : ℕ). take_onto [] (times_seen which left us) (goes_on n) joined (side_behind n which (drop k table)) left us) (sym place) ∙ found
 
 -- Heights.
 

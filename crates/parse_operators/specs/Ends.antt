@@ -12,7 +12,7 @@ use Rattle.grammar.specs.declared.level.Level.{Level}
 use Rattle.grammar.specs.declared.level.Level.TheVariants as level
 use Rattle.grammar.specs.declared.level.Setting.TheVariants as setting
 use Rattle.grammar.specs.Operators.{table, take_assignment}
-use Rattle.grammar.specs.Expressions.{Side, operated, tested, cast, choices, times, reads_on}
+use Rattle.grammar.specs.Expressions.{Side, operated, tested, cast, choices, times, reads_on, is_incremented}
 use Rattle.grammar.specs.Descents.{lower, take_right, take_cascade_section, take_expression}
 use Rattle.parse_leaves.specs.Next.{next_level, is_level}
 use Rattle.parse_operators.specs.declared.extents.Extent.{Extent}
@@ -21,23 +21,23 @@ use Rattle.parse_operators.specs.declared.extents.Extent.{Extent}
 abbrev pub end_of : ℕ → List Token → Option (List Token)
 end_of n ts = option_map (λ x. x.1) (take_expression n setting.Plain (lower n) ts)
 
--- Extents: what may stand behind an expression hangs on how high it is, and on whether it has taken all that can.
+-- Extents: what may stand behind an expression hangs on how high it is, on whether it has taken all that can, and on whether a selector can stand there.
 
 abbrev pub extent_of : Tree → Extent
-extent_of t = record { height = height t; reads_on = reads_on t }
+extent_of t = record { height = height t; reads_on = reads_on t; incremented = is_incremented t }
 
 abbrev pub side_extent : Side → Extent
 side_extent (operated operator right) = extent_of right
-side_extent (tested negated written) = record { height = height written; reads_on = false }
-side_extent (cast written) = record { height = height written; reads_on = false }
-side_extent (choices then_value else_value) = record { height = higher (height then_value) (height else_value); reads_on = true }
+side_extent (tested negated written) = record { height = height written; reads_on = false; incremented = false }
+side_extent (cast written) = record { height = height written; reads_on = false; incremented = false }
+side_extent (choices then_value else_value) = record { height = higher (height then_value) (height else_value); reads_on = true; incremented = false }
 
 abbrev pub section_extent : Bool × Tree → Extent
 section_extent x = extent_of x.1
 
 -- an expression of the first with the second behind it
 abbrev pub joined : List Token → Extent → Extent → Extent
-joined read left side = record { height = suc (higher left.height side.height); reads_on = side.reads_on }
+joined read left side = record { height = suc (higher left.height side.height); reads_on = side.reads_on; incremented = side.incremented }
 
 -- something may stand behind it, where so many nodes may lie below a node
 abbrev pub goes_on : ℕ → Extent → Bool
@@ -77,10 +77,14 @@ behind_at n None ts = seen section_extent (take_cascade_section setting.Plain (l
 abbrev pub behind : ℕ → Descent Token Extent
 behind n ts = behind_at n (next_level ts) ts
 
--- how often a level, or a cascade, may go on before these tokens
-abbrev pub times_at : Option Level → List Token → ℕ
-times_at (Some which) ts = times which ts
-times_at None ts = length ts
+-- how often a level may go on behind an operand
+abbrev pub times_seen : Level → Extent → List Token → ℕ
+times_seen which left ts = times setting.Plain which left.incremented ts
+
+-- how often a level, or a cascade, may
+abbrev pub times_at : Option Level → Extent → List Token → ℕ
+times_at (Some which) left ts = times_seen which left ts
+times_at None left ts = length ts
 
 -- the level comes next, or with no level none does
 abbrev pub comes_next : Option Level → Option Level → Bool
@@ -89,7 +93,7 @@ comes_next None found = is_none found
 
 -- as often as a level, or a cascade, goes on behind an operand
 abbrev pub all_behind : ℕ → Option Level → Extent → Descent Token Extent
-all_behind n which left ts = take_onto [] (times_at which ts) (goes_on n) joined (behind_at n which) left ts
+all_behind n which left ts = take_onto [] (times_at which left ts) (goes_on n) joined (behind_at n which) left ts
 
 -- where an assignment ends to what has been read, if one comes
 abbrev pub assignment_behind : ℕ → Extent → List Token → Option (List Token)
@@ -97,7 +101,7 @@ assignment_behind n left ts = if goes_on n left then option_map (λ x. x.1) ((ta
 
 -- all levels behind an operand, and the sections of a cascade behind them: where they end
 abbrev pub cascade_behind : ℕ → Extent → List Token → Option (List Token)
-cascade_behind n left ts = option_map (λ x. x.1) (bind (climb times (goes_on n) joined (side_behind n) [] table (left, ts)) (λ x. all_behind n None x.0 x.1))
+cascade_behind n left ts = option_map (λ x. x.1) (bind (climb times_seen (goes_on n) joined (side_behind n) [] table (left, ts)) (λ x. all_behind n None x.0 x.1))
 
 -- Places of a text.
 

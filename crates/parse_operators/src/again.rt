@@ -5,9 +5,8 @@ ghost use Rattle.dart_tree.specs.Heights.{height};
 ghost use Rattle.readings.specs.Descent.{climb};
 ghost use Rattle.grammar.specs.Tokens.{heads};
 ghost use Rattle.grammar.specs.Operators.{table};
-ghost use Rattle.grammar.specs.Expressions.{times};
 ghost use Rattle.last_parts.specs.LastParts.{IsLast};
-ghost use Rattle.parse_operators.specs.Ends.{all_behind, assignment_behind, cascade_behind, end_of, extent_of, goes_on, joined, side_behind};
+ghost use Rattle.parse_operators.specs.Ends.{all_behind, assignment_behind, cascade_behind, end_of, extent_of, goes_on, joined, side_behind, times_seen};
 
 use crate::expressions::{TABLE, assigned};
 use crate::extents::{Extent, comes_next, extent_of, goes_on, joined, times_at};
@@ -42,7 +41,7 @@ fn repeat<'k, B: Below<'k>>(
     let room = below.room();
     let mut extent = left;
     let mut rest = tokens;
-    let mut more = times_at(level, tokens);
+    let mut more = times_at(level, left, tokens);
     while more > 0 {
         if !goes_on(room, extent) {
             return Ok((extent, rest));
@@ -74,7 +73,7 @@ fn climb<'k, B: Below<'k>>(
     requires last { IsLast tokens.now known.old.tokens }
     requires deep { left.height ≤ 201 }
     ensures same { known.new ≡ known.old }
-    ensures found { IfOk result (λ x. climb times (goes_on (B.room below.now)) joined (side_behind (B.room below.now)) [] table (left, tokens.now) ≡ Some (x.0, x.1.now)) }
+    ensures found { IfOk result (λ x. climb times_seen (goes_on (B.room below.now)) joined (side_behind (B.room below.now)) [] table (left, tokens.now) ≡ Some (x.0, x.1.now)) }
     ensures last { IfOk result (λ x. IsLast x.1.now known.old.tokens) }
     ensures deep { IfOk result (λ x. x.0.height ≤ 201) }
 {

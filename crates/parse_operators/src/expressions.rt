@@ -5,7 +5,7 @@ ghost use Rattle.readings.specs.Readings.{tokens_read};
 ghost use Rattle.readings.specs.Descent.{take_token, take_maybe, take_turn, take_where, take_onto, climb, ◌▸◌};
 ghost use Rattle.dart_tree.specs.Heights.{higher, height};
 ghost use Rattle.grammar.specs.Tokens.{is, heads};
-ghost use Rattle.grammar.specs.Expressions.{choices_of, tested_of, cast_of, times, side_with, assign_of, cascade_of, is_open};
+ghost use Rattle.grammar.specs.Expressions.{choices_of, tested_of, cast_of, times, times_behind, side_with, assign_of, cascade_of, is_open};
 ghost use Rattle.grammar.specs.Descents.{lower, take_operated, take_right, take_unary, take_operand, take_throw, take_cascade_section, take_cascade, take_expression};
 ghost use Rattle.grammar.specs.Operators.{take_assignment};
 ghost use Rattle.parse_leaves.specs.declared.miss.Miss.TheVariants.{NoReading};
@@ -18,7 +18,7 @@ use dart_tree::{AssignmentOperator, Expr, ExprNode};
 use grammar::{Level, Setting, Token};
 use parse_leaves::{
     Below, Miss, Side, assignment_operator, binary_operator, heads, heads_binary, heads_call,
-    higher, is_level, is_open, next_level, place_over, token,
+    higher, is_incremented, is_level, is_open, next_level, place_over, token,
 };
 use parse_operands::unary_within;
 use std::alloc::Global;
@@ -129,7 +129,7 @@ fn type_cast<'k, B: Below<'k>>(
     Ok((Side::Cast { written }, height, rest))
 }
 
-/// What an operator of the relations adds: a `<` before the type arguments of a call is none.
+/// What an operator of the relations adds.
 #[tactic(auto, unfolding(grammar::specs::Descents::take_right))]
 fn relation<'k, B: Below<'k>>(
     below: &B,
@@ -145,9 +145,6 @@ fn relation<'k, B: Below<'k>>(
     ensures deep { IfOk result (λ x. (x.1 ≡ side_height (side_of x.0)) × (x.1 ≤ (B.room below.now))) }
 {
     if heads_binary(tokens, Level::Relation) {
-        if heads_call(setting, tokens) {
-            return Err(Miss::NoReading);
-        }
         return operated(below, alloc, setting, Level::Relation, above, tokens);
     }
     if heads(tokens, Kind::Is) {
@@ -234,12 +231,25 @@ fn operated_node(
     Ok(Expr { node })
 }
 
-/// How often an operator of a level may stand before these tokens.
-pub(crate) fn times(level: Level, tokens: &[Token]) -> usize
-    ensures { result ≡ times level tokens.now }
+/// How often a comparison may stand behind an operand: a `<` that opens the type arguments of a call
+/// is none where a call can stand.
+fn comparisons(setting: Setting, incremented: bool, tokens: &[Token]) -> usize
+    ensures { result ≡ times setting Level.Relation incremented tokens.now }
+{
+    if heads_call(setting, tokens) && !incremented {
+        0
+    } else {
+        1
+    }
+}
+
+/// How often a right side of a level may stand behind an operand.
+pub(crate) fn times(setting: Setting, level: Level, incremented: bool, tokens: &[Token]) -> usize
+    ensures { result ≡ times setting level incremented tokens.now }
 {
     match level {
-        Level::Conditional | Level::Equality | Level::Relation => 1,
+        Level::Conditional | Level::Equality => 1,
+        Level::Relation => comparisons(setting, incremented, tokens),
         Level::IfNull | Level::Or | Level::And => tokens.len(),
         Level::BitOr | Level::BitXor | Level::BitAnd => tokens.len(),
         Level::Shift | Level::Sum | Level::Product => tokens.len(),
@@ -263,7 +273,7 @@ fn repeat<'k, B: Below<'k>>(
     requires sound { B.sound below.now }
     requires last { AreLastLevels above.now }
     requires known { IsDeep (B.room below.now + 1) first reach }
-    ensures reading { Gives (λ x. (x.0, x.2.now)) result (take_onto start.now (times level tokens.now) (is_open (B.room below.now)) side_with (take_right setting (lower (B.room below.now)) level above.now) first tokens.now) }
+    ensures reading { Gives (λ x. (x.0, x.2.now)) result (take_onto start.now (times_behind setting level first tokens.now) (is_open (B.room below.now)) side_with (take_right setting (lower (B.room below.now)) level above.now) first tokens.now) }
     ensures deep { IfOk result (λ x. IsDeep (B.room below.now + 1) x.0 x.1) }
     ensures whole { result ≢ Err NoReading }
 {
@@ -271,7 +281,7 @@ fn repeat<'k, B: Below<'k>>(
     let mut left = first;
     let mut height = reach;
     let mut rest = tokens;
-    let mut more = times(level, tokens);
+    let mut more = times(setting, level, is_incremented(&left), tokens);
     while more > 0 {
         if !is_open(room, height, &left) {
             return Ok((left, height, rest));
@@ -314,7 +324,7 @@ fn climb<'k, B: Below<'k>>(
     requires sound { B.sound below.now }
     requires last { AreLastLevels levels.now }
     requires known { IsDeep (B.room below.now + 1) first reach }
-    ensures reading { Gives (λ x. (x.0, x.2.now)) result (climb times (is_open (B.room below.now)) side_with (take_right setting (lower (B.room below.now))) start.now levels.now (first, tokens.now)) }
+    ensures reading { Gives (λ x. (x.0, x.2.now)) result (climb (times_behind setting) (is_open (B.room below.now)) side_with (take_right setting (lower (B.room below.now))) start.now levels.now (first, tokens.now)) }
     ensures deep { IfOk result (λ x. IsDeep (B.room below.now + 1) x.0 x.1) }
     ensures whole { result ≢ Err NoReading }
 {

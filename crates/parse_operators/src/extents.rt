@@ -7,16 +7,18 @@ ghost use Rattle.parse_operators.specs.Ends.{extent_of, side_extent, joined, goe
 
 use crate::expressions::times;
 use dart_tree::Expr;
-use grammar::{Level, Token};
-use parse_leaves::{Side, higher, is_level, is_open};
+use grammar::{Level, Setting, Token};
+use parse_leaves::{Side, higher, is_incremented, is_level, is_open};
 
-/// How high an expression is, and whether it has taken all that can stand behind it.
+/// How high an expression is, and what may stand behind it.
 #[derive(Clone, Copy, Drop)]
 pub struct Extent {
     /// How many nodes that count lie on the longest way down, its own among them.
     pub height: u32,
     /// Nothing may stand behind it.
     pub reads_on: bool,
+    /// Its last operand has a `++` or `--` behind it, where no selector can stand.
+    pub incremented: bool,
 }
 
 /// The extent of an expression of a height.
@@ -27,6 +29,7 @@ pub(crate) fn extent_of(reach: u32, expression: &Expr) -> Extent
     Extent {
         height: reach,
         reads_on: !is_open(reach, reach, expression),
+        incremented: is_incremented(expression),
     }
 }
 
@@ -40,10 +43,12 @@ pub(crate) fn side_extent(reach: u32, side: &Side) -> Extent
         Side::Tested { .. } | Side::Cast { .. } => Extent {
             height: reach,
             reads_on: false,
+            incremented: false,
         },
         Side::Choices { .. } => Extent {
             height: reach,
             reads_on: true,
+            incremented: false,
         },
     }
 }
@@ -57,6 +62,7 @@ pub(crate) fn joined(left: Extent, side: Extent) -> Extent
     Extent {
         height: higher(left.height, side.height) + 1,
         reads_on: side.reads_on,
+        incremented: side.incremented,
     }
 }
 
@@ -99,12 +105,12 @@ pub(crate) fn comes_next(level: Option<Level>, next: Option<Level>) -> bool
     }
 }
 
-/// How often a level, or with no level a cascade, may go on before these tokens.
-pub(crate) fn times_at(level: Option<Level>, tokens: &[Token]) -> usize
-    ensures { result ≡ times_at level tokens.now }
+/// How often a level, or with no level a cascade, may go on behind an operand.
+pub(crate) fn times_at(level: Option<Level>, left: Extent, tokens: &[Token]) -> usize
+    ensures { result ≡ times_at level left tokens.now }
 {
     match level {
-        Some(level) => times(level, tokens),
+        Some(level) => times(Setting::Plain, level, left.incremented, tokens),
         None => tokens.len(),
     }
 }

@@ -144,17 +144,17 @@ plain_leaves l ts us e stop = by (heads kind.Void ts) refl
 
 -- no name stands behind the type
 unnamed : (n : ℕ) (l : Lower) (ends : Test Token) (us : List Token) (start : List Token) (o : Option (Reading Token Tree)) → Leaves o us → Ends us →
-    bind (bind o (λ x. take_onto start (every_time x.1) (fits n) next_tail_of (take_tail_before l (heads kind.Question) ends) x.0 x.1)) (λ x. if heads_name x.1 then Some x else None) ≡ None
+    bind (bind o (λ x. take_onto start (every_time x.0 x.1) (fits n) next_tail_of (take_tail_before l (heads kind.Question) ends) x.0 x.1)) (λ x. if heads_name x.1 then Some x else None) ≡ None
 unnamed n l ends us start None e stop = refl
 unnamed n l ends us start (Some x) e stop =
     let tail : take_tail_before l (heads kind.Question) ends x.1 ≡ None = no_tail l (heads kind.Question) ends x.1 (ap (heads kind.Function) e ∙ stop.tail) in
     let plain : heads_name x.1 ≡ false = ap heads_name e ∙ stop.plain in
-    ap (λ o. bind o (λ x. if heads_name x.1 then Some x else None)) (onto_stays start (every_time x.1) (fits n) next_tail_of (take_tail_before l (heads kind.Question) ends) x.0 x.1 tail) ∙ rw plain refl
+    ap (λ o. bind o (λ x. if heads_name x.1 then Some x else None)) (onto_stays start (every_time x.0 x.1) (fits n) next_tail_of (take_tail_before l (heads kind.Question) ends) x.0 x.1 tail) ∙ rw plain refl
 
 no_type : (n : ℕ) (l : Lower) (ends : Test Token) (ts us : List Token) → us ≡ drop (type_name_size ts) ts → Ends us → heads kind.Function ts ≡ false → take_before heads_name (take_type n l (heads kind.Question) ends) ts ≡ None
 unfolding take_type
 no_type n l ends ts us e stop first =
-    ap (λ (o : Option (Reading Token Tree)). bind (bind o (λ x. take_onto ts (every_time x.1) (fits n) next_tail_of (take_tail_before l (heads kind.Question) ends) x.0 x.1)) (λ x. if heads_name x.1 then Some x else None))
+    ap (λ (o : Option (Reading Token Tree)). bind (bind o (λ x. take_onto ts (every_time x.0 x.1) (fits n) next_tail_of (take_tail_before l (heads kind.Question) ends) x.0 x.1)) (λ x. if heads_name x.1 then Some x else None))
     (ap (λ o. or_else (bind o (λ x. Some (made first_tail_of ts x))) (take_plain_type l (heads kind.Question) ts)) (no_tail l (heads kind.Question) ends ts first))
     ∙ unnamed n l ends us ts (take_plain_type l (heads kind.Question) ts) (plain_leaves l ts us e stop) stop
 

@@ -111,6 +111,14 @@ f(a<b,c>(d)); :: (call f (call a<b c> d));
 f(a<b,c>(d)=>e); :: f ..
 f(a.b<c,d>(e)); :: (call f (call (. a b) <c d> e));
 f(a.b<c,d>(e)=>g); :: (call f (< (. a b) c) (> d (closure (e) => g)));
+f(-a<b,c>(d)); :: (call f (- (call a<b c> d)));
+f((a++)<b,c>(d)); :: (call f (call (parenthesis (a ++)) <b c> d));
+f(a++<b,c>(d)); :: (call f (< (a ++) b) (> c (parenthesis d)));
+f(-a++<b,c>(d)); :: (call f (< (- (a ++)) b) (> c (parenthesis d)));
+f(a+b--<c,d>(e)); :: (call f (< (+ a (b --)) c) (> d (parenthesis e)));
+f(a--+b<c,d>(e)); :: (call f (+ (a --) (call b<c d> e)));
+[a++<b,c>(d)]; :: (list (< (a ++) b) (> c (parenthesis d)));
+a++<b>(c); :: (< (a ++) b) ..
 a?.b?[c]!.d(e)[f]--; :: (([] (call (. (check (?[] (?. a b) c)) d) e) f) --);
 a?[b]:c; :: (?[] a b) ..
 a? [b]:c; :: (? a (list b) c);
@@ -222,6 +230,8 @@ while(a)do b();while(c); :: (while a (do (call b); c))
 do{}while(a) :: none
 for(;;){} :: (for ; ; (block {}))
 for(var a=0,b;a<b;a++,b--)c; :: (for (var a=0 b) ; (< a b) ; (a ++) (b --) c;)
+for(;;a++<b,c>(d)); :: (for ; ; (< (a ++) b) (> c (parenthesis d)) ;)
+for(;;a<b,c>(d)); :: (for ; ; (call a<b c> d) ;)
 for(a=b;;); :: (for (= a b) ; ; ;)
 for(T?a;;); :: (for (var T? a) ; ; ;)
 for(a?b:c;;); :: (for (? a b c) ; ; ;)

@@ -278,12 +278,12 @@ lays_onto {A = A} {c = c} {v = v} {some = some} {h = h} u start (suc n) room joi
     stop) stop
 
 -- right sides behind an operand
-pub lays_onward : {A B : Type 0} {c : Text} {u : A → ℕ → List Tree} {v : B → ℕ → List Tree} {some : Bool} {g : Descent Token A} {h : Descent Token B} (most : List Token → ℕ) (room : A → Bool) (join : List Token → A → B → A) → Lays c u true g → Lays c v some h →
+pub lays_onward : {A B : Type 0} {c : Text} {u : A → ℕ → List Tree} {v : B → ℕ → List Tree} {some : Bool} {g : Descent Token A} {h : Descent Token B} (most : A → List Token → ℕ) (room : A → Bool) (join : List Token → A → B → A) → Lays c u true g → Lays c v some h →
     Joined c u v join → Lays c u true (take_chain most room join g h)
 lays_onward {c = c} {u = u} {g = g} {h = h} most room join a e joins = record {
   each = λ ts p.
-      bound (Laid c u true ts) (Laid c u true ts) (λ x. take_onto ts (most x.1) room join h x.0 x.1) (g ts) (a.each ts p)
-      (λ x l. lays_onto u ts (most x.1) room join p e joins x.0 x.1 l.read l.is l.filled l.row);
+      bound (Laid c u true ts) (Laid c u true ts) (λ x. take_onto ts (most x.0 x.1) room join h x.0 x.1) (g ts) (a.each ts p)
+      (λ x l. lays_onto u ts (most x.0 x.1) room join p e joins x.0 x.1 l.read l.is l.filled l.row);
 }
 
 -- what joins a node and what stands behind it is a node over the tokens of both, whose parts these are
@@ -293,7 +293,7 @@ Joins {B = B} c v join = Makes c (both (one c) v) (λ (read : List Token) (x : T
 joined : {B : Type 0} (c : Text) (v : B → ℕ → List Tree) (join : List Token → Tree → B → Tree) → Joins c v join → Joined c (one c) v join
 joined {B = B} c v join h read left right p f r = made_on c (both (one c) v) (λ (read : List Token) (x : Tree × B). join read x.0 x.1) h read (left, right) p f r
 
-pub lays_chain : {B : Type 0} {c : Text} {v : B → ℕ → List Tree} {some : Bool} {g : Descent Token Tree} {h : Descent Token B} (most : List Token → ℕ) (room : Tree → Bool) (join : List Token → Tree → B → Tree) → Lays c (one c) true g → Lays c v some h →
+pub lays_chain : {B : Type 0} {c : Text} {v : B → ℕ → List Tree} {some : Bool} {g : Descent Token Tree} {h : Descent Token B} (most : Tree → List Token → ℕ) (room : Tree → Bool) (join : List Token → Tree → B → Tree) → Lays c (one c) true g → Lays c v some h →
     Joins c v join → Lays c (one c) true (take_chain most room join g h)
 lays_chain {c = c} {v = v} most room join a e joins = lays_onward most room join a e (joined c v join joins)
 
@@ -318,7 +318,7 @@ lays_once {c = c} {v = v} {some = some} {g = g} {h = h} room join a e joins = re
       })) tt);
 }
 
-pub lays_levels : {B R : Type 0} {c : Text} {v : B → ℕ → List Tree} {some : Bool} {first : Descent Token Tree} {right : R → List R → Descent Token B} (most : R → List Token → ℕ) (room : Tree → Bool) (join : List Token → Tree → B → Tree) → ((r : R) (above : List R) → Lays c v some (right r above)) →
+pub lays_levels : {B R : Type 0} {c : Text} {v : B → ℕ → List Tree} {some : Bool} {first : Descent Token Tree} {right : R → List R → Descent Token B} (most : R → Tree → List Token → ℕ) (room : Tree → Bool) (join : List Token → Tree → B → Tree) → ((r : R) (above : List R) → Lays c v some (right r above)) →
     Joins c v join → Lays c (one c) true first → (rs : List R) → Lays c (one c) true (take_levels most room join right first rs)
 lays_levels most room join each joins a [] = a
 lays_levels most room join each joins a (r ∷ rs) = lays_chain (most r) room join (lays_levels most room join each joins a rs) (each r rs) joins

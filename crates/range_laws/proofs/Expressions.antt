@@ -1,5 +1,5 @@
 -- What is read of types and expressions in texts that agree is the same, with ranges aside.
-use Rattle.std.proofs.Common.{◌≡◌, ℕ, ◌-◌, ◌++◌, true, false, List, [], ◌∷◌, Option, Some, None, option_map, is_some, map, refl}
+use Rattle.std.proofs.Common.{◌≡◌, ℕ, ◌-◌, ◌++◌, Bool, true, false, List, [], ◌∷◌, Option, Some, None, option_map, is_some, map, refl, ap}
 use denote.Enum.Bare.{sameb}
 use Rattle.dart_tokens.specs.declared.token.Kind.{Kind}
 use Rattle.dart_tree.specs.Bare.{bare_option}
@@ -35,7 +35,7 @@ use Rattle.grammar.specs.declared.level.Setting.TheVariants as setting
 use Rattle.grammar.specs.Tokens.{is, is_either, is_name, is_type_name, heads, heads_name}
 use Rattle.grammar.specs.Types.{separated, inner, listed_or_none, type_arguments_of, type_parameter_of, type_parameters_of, void_of, heads_qualified, qualified_of, unqualified_of, named_type_of, annotation_of, heads_required, heads_field, parameter_of, parameter_list_of, parameter_type_of, Tail, tail, tail_of, function_type_with, first_tail_of, next_tail_of, every_time}
 use Rattle.grammar.specs.Operators.{table, heads_sign, is_binary, binary_of, assignment_of, unary_at, postfix_at}
-use Rattle.grammar.specs.Expressions.{simple_string_of, string_text_of, simple_interpolation_of, interpolated_of, strings_of, heads_label, positional_of, named_of, arguments_of, integer_of, boolean_of, null_of, this_of, super_of, identifier_of, heads_generic, generic_of, parenthesis_of, arrow_of, closure_of, heads_closure, new_of, entry_of, Contents, listed, entries, listed_of, entries_of, collection_with, collection_of, Selector, member, element, check, called, member_of, element_of, check_of, plain_call_of, generic_call_of, heads_call, select_with, one_time, postfix_of, unary_of, Side, operated, tested, cast, choices, operated_of, tested_of, cast_of, choices_of, times, side_with, assign_of, throw_of, cascaded_name_of, cascaded_index_of, cascade_of, section_of, is_open}
+use Rattle.grammar.specs.Expressions.{simple_string_of, string_text_of, simple_interpolation_of, interpolated_of, strings_of, heads_label, positional_of, named_of, arguments_of, integer_of, boolean_of, null_of, this_of, super_of, identifier_of, heads_generic, generic_of, parenthesis_of, arrow_of, closure_of, heads_closure, new_of, entry_of, Contents, listed, entries, listed_of, entries_of, collection_with, collection_of, Selector, member, element, check, called, member_of, element_of, check_of, plain_call_of, generic_call_of, heads_call, select_with, one_time, postfix_of, unary_of, Side, operated, tested, cast, choices, operated_of, tested_of, cast_of, choices_of, is_incremented, times_behind, side_with, assign_of, throw_of, cascaded_name_of, cascaded_index_of, cascade_of, section_of, is_open}
 use Rattle.grammar.specs.Descents.{Lower, begins_string, begins_prefix, take_separated, take_type_arguments, take_type_parameter, take_type_parameters, take_type_name, take_question, take_plain_type, take_annotation, take_parameter, take_parameters, take_optional_parameters, take_parameter_list, take_parameter_type, take_tail, take_tail_before, take_type, take_prefix, take_postfix, take_interpolation, take_string_part, take_string, take_strings, take_argument, take_arguments, take_simple, take_name, take_parenthesis, take_closure, take_new, take_entry, take_collection, take_primary, take_selector, take_selected, take_incremented, take_unary, take_operated, take_right, take_operand, take_assignment_expression, take_throw, take_section_head, take_section, take_cascade_section, take_cascade, take_expression}
 
 -- what lies in the room below is found the same
@@ -107,7 +107,10 @@ fits_same : (r : Readers) (n : ℕ) (x y : Tree) → Same r x y → fits n x ≡
 fits_same r n x y p = rw p.high refl
 
 open_same : (r : Readers) (n : ℕ) (x y : Tree) → Same r x y → is_open n x ≡ is_open n y
-open_same r n x y p = rw (p.high, p.last) refl
+open_same r n x y p = rw (p.high, ap (λ (z : Bool × Bool). z.0) p.last) refl
+
+ends_same : (r : Readers) (x y : Tree) → Same r x y → is_incremented x ≡ is_incremented y
+ends_same r x y p = ap (λ (z : Bool × Bool). z.1) p.last
 
 -- Types.
 
@@ -218,7 +221,7 @@ function_type_same r read other o p b (tail c d e f) (tail g h i j) q =
 pub type_follows : (r : Readers) (n : ℕ) (l : Lower) → Followed r l → (question ends : Test Token) → Blind r question → Blind r ends → Follows r (Same r) (take_type n l question ends)
 unfolding take_type
 type_follows r n l a question ends b e =
-    follows_chain every_time (fits n) next_tail_of (λ ts us s. agree_length ts us s.agree)
+    follows_chain every_time (fits n) next_tail_of (λ x y ts us p s. agree_length ts us s.agree)
     (follows_or (follows_make (Same r) first_tail_of (tail_follows r l a question ends b e) (λ read other x y p. function_type_same r read other None None tt x y p)) (plain_type_follows r l a question b)) (tail_follows r l a question ends b e)
     (fits_same r n) (λ read other x y z w p q. function_type_same r read other (Some x) (Some y) p z w q)
 
@@ -339,7 +342,7 @@ closure_follows r m l a =
     (follows_seq (parameter_list_follows r l a)
     (follows_where (heads kind.Arrow) (blind_heads r kind.Arrow)
     (follows_make (Same r) arrow_of (follows_seq (mark r kind.Arrow) (a.expression m)) (λ read other x y p. record { shown = λ n. rw (p.1.shown n) refl; high = p.1.high; open_end = refl; last = refl })) a.block))
-    (λ read other x y p. record { shown = λ n. rw (p.0.shown (n - 1), p.1.shown (n - 1)) refl; high = rw (p.0.high, p.1.high) refl; open_end = refl; last = p.1.last })
+    (λ read other x y p. record { shown = λ n. rw (p.0.shown (n - 1), p.1.shown (n - 1)) refl; high = rw (p.0.high, p.1.high) refl; open_end = refl; last = ap (λ (z : Bool × Bool). (z.0, false)) p.1.last })
 
 new_follows : (r : Readers) (l : Lower) → Followed r l → Follows r (Same r) (take_new l)
 unfolding take_new
@@ -446,14 +449,14 @@ selector_follows r m l a =
 selected_follows : (r : Readers) (n : ℕ) (m : Setting) (l : Lower) → Followed r l → Follows r (Same r) (take_selected n m l)
 unfolding take_selected
 selected_follows r n m l a =
-    follows_chain every_time (is_open n) select_with (λ ts us s. agree_length ts us s.agree) (primary_follows r m l a) (selector_follows r m l a) (open_same r n) (λ read other x y z w p q. selected_same r read other x y p z w q)
+    follows_chain every_time (is_open n) select_with (λ x y ts us p s. agree_length ts us s.agree) (primary_follows r m l a) (selector_follows r m l a) (open_same r n) (λ read other x y z w p q. selected_same r read other x y p z w q)
 
 pub unary_follows : (r : Readers) (n : ℕ) (m : Setting) (l : Lower) → Followed r l → Follows r (Same r) (take_unary n m l)
 unfolding take_unary take_incremented
 unary_follows r n m l a =
     follows_where (next begins_prefix) (blind_next r begins_prefix blind_prefix)
     (follows_make (Same r) unary_of (follows_seq (prefix_follows r) (a.unary m)) (λ read other x y p. record { shown = λ n. rw (p.0, p.1.shown (n - 1)) refl; high = rw p.1.high refl; open_end = refl; last = p.1.last }))
-    (follows_chain one_time (is_open n) postfix_of (λ ts us s. refl) (selected_follows r n m l a) (postfix_follows r) (open_same r n)
+    (follows_chain one_time (is_open n) postfix_of (λ x y ts us p s. refl) (selected_follows r n m l a) (postfix_follows r) (open_same r n)
     (λ read other x y z w p q. record { shown = λ n. rw (q, p.shown (n - 1)) refl; high = rw p.high refl; open_end = refl; last = refl }))
 
 abbrev pub SideSame : Readers → Side → Side → Type 0
@@ -501,7 +504,7 @@ unfolding take_right
 right_follows r m l a level.Conditional above =
     follows_turn (SideSame r) choices_of (follows_seq (mark r kind.Question) (follows_seq (a.expression m) (follows_seq (mark r kind.Colon) (a.expression m)))) (λ x y p. (p.1.0, p.1.1.1))
 right_follows r m l a level.Relation above =
-    follows_where (heads_sign (is_binary level.Relation)) (blind_sign r (is_binary level.Relation)) (follows_where (heads_call m) (blind_call r m) (follows_none r (SideSame r)) (operated_follows r m l a level.Relation above))
+    follows_where (heads_sign (is_binary level.Relation)) (blind_sign r (is_binary level.Relation)) (operated_follows r m l a level.Relation above)
     (follows_where (heads kind.Is) (blind_heads r kind.Is) (follows_turn (SideSame r) tested_of (follows_seq (mark r kind.Is) (follows_seq (follows_maybe (mark r kind.Bang)) (a.tested m))) (λ x y p. (some_same Twins x.1.0 y.1.0 p.1.0, p.1.1)))
     (follows_turn (SideSame r) cast_of (follows_seq (mark r kind.As) (a.tested m)) (λ x y p. p.1)))
 right_follows r m l a level.IfNull above = operated_follows r m l a level.IfNull above
@@ -515,24 +518,24 @@ right_follows r m l a level.Shift above = operated_follows r m l a level.Shift a
 right_follows r m l a level.Sum above = operated_follows r m l a level.Sum above
 right_follows r m l a level.Product above = operated_follows r m l a level.Product above
 
-times_same : (r : Readers) (l : Level) (ts us : List Token) → Alike r ts us → times l ts ≡ times l us
-times_same r level.Conditional ts us s = refl
-times_same r level.IfNull ts us s = agree_length ts us s.agree
-times_same r level.Or ts us s = agree_length ts us s.agree
-times_same r level.And ts us s = agree_length ts us s.agree
-times_same r level.Equality ts us s = refl
-times_same r level.Relation ts us s = refl
-times_same r level.BitOr ts us s = agree_length ts us s.agree
-times_same r level.BitXor ts us s = agree_length ts us s.agree
-times_same r level.BitAnd ts us s = agree_length ts us s.agree
-times_same r level.Shift ts us s = agree_length ts us s.agree
-times_same r level.Sum ts us s = agree_length ts us s.agree
-times_same r level.Product ts us s = agree_length ts us s.agree
+times_same : (r : Readers) (m : Setting) (l : Level) (x y : Tree) (ts us : List Token) → Same r x y → Alike r ts us → times_behind m l x ts ≡ times_behind m l y us
+times_same r m level.Conditional x y ts us p s = refl
+times_same r m level.IfNull x y ts us p s = agree_length ts us s.agree
+times_same r m level.Or x y ts us p s = agree_length ts us s.agree
+times_same r m level.And x y ts us p s = agree_length ts us s.agree
+times_same r m level.Equality x y ts us p s = refl
+times_same r m level.Relation x y ts us p s = rw (blind_call r m ts us s, ends_same r x y p) refl
+times_same r m level.BitOr x y ts us p s = agree_length ts us s.agree
+times_same r m level.BitXor x y ts us p s = agree_length ts us s.agree
+times_same r m level.BitAnd x y ts us p s = agree_length ts us s.agree
+times_same r m level.Shift x y ts us p s = agree_length ts us s.agree
+times_same r m level.Sum x y ts us p s = agree_length ts us s.agree
+times_same r m level.Product x y ts us p s = agree_length ts us s.agree
 
 pub operand_follows : (r : Readers) (n : ℕ) (m : Setting) (l : Lower) → Followed r l → (above : List Level) → Follows r (Same r) (take_operand n m l above)
 unfolding take_operand
 operand_follows r n m l a above =
-    follows_levels times (is_open n) side_with (times_same r) (right_follows r m l a) (open_same r n) (λ read other x y z w p q. sided_same r read other x y p z w q) (unary_follows r n m l a) above
+    follows_levels (times_behind m) (is_open n) side_with (times_same r m) (right_follows r m l a) (open_same r n) (λ read other x y z w p q. sided_same r read other x y p z w q) (unary_follows r n m l a) above
 
 assigned_same : (r : Readers) (read other : List Token) (x y : Tree) (z w : AssignmentOperator × Tree) → Same r x y → Pair SameAssignment (Same r) z w → Same r (assign_of read x z) (assign_of other y w)
 assigned_same r read other x y z w p q = record { shown = λ n. rw (q.0, p.shown (n - 1), q.1.shown (n - 1)) refl; high = rw (p.high, q.1.high) refl; open_end = refl; last = q.1.last }
@@ -546,8 +549,8 @@ section_head_follows r expression e =
 pub section_follows : (r : Readers) (n : ℕ) (m : Setting) (l : Lower) → Followed r l → (expression : Descent Token Tree) → Follows r (Same r) expression → Follows r (Same r) (take_section n m l expression)
 unfolding take_section
 section_follows r n m l a expression e =
-    follows_chain one_time (is_open n) assign_of (λ ts us s. refl)
-    (follows_chain every_time (is_open n) select_with (λ ts us s. agree_length ts us s.agree) (section_head_follows r expression e) (selector_follows r m l a) (open_same r n) (λ read other x y z w p q. selected_same r read other x y p z w q))
+    follows_chain one_time (is_open n) assign_of (λ x y ts us p s. refl)
+    (follows_chain every_time (is_open n) select_with (λ x y ts us p s. agree_length ts us s.agree) (section_head_follows r expression e) (selector_follows r m l a) (open_same r n) (λ read other x y z w p q. selected_same r read other x y p z w q))
     (follows_seq (assignment_follows r) (a.operand m table)) (open_same r n) (assigned_same r)
 
 cascade_section_follows : (r : Readers) (m : Setting) (l : Lower) → Followed r l → Follows r (Pair Equal (Same r)) (take_cascade_section m l)
@@ -562,5 +565,5 @@ expression_follows r n m l a =
     follows_or (follows_once (is_open n) assign_of (unary_follows r n m l a) (follows_seq (assignment_follows r) (a.expression m)) (open_same r n) (assigned_same r))
     (follows_where (heads kind.Throw) (blind_heads r kind.Throw)
     (follows_make (Same r) throw_of (follows_seq (mark r kind.Throw) (a.expression m)) (λ read other x y p. record { shown = λ n. rw (p.1.shown (n - 1)) refl; high = rw p.1.high refl; open_end = refl; last = refl }))
-    (follows_chain every_time (is_open n) cascade_of (λ ts us s. agree_length ts us s.agree) (operand_follows r n m l a table) (cascade_section_follows r m l a) (open_same r n)
+    (follows_chain every_time (is_open n) cascade_of (λ x y ts us p s. agree_length ts us s.agree) (operand_follows r n m l a table) (cascade_section_follows r m l a) (open_same r n)
     (λ read other x y z w p q. record { shown = λ n. rw (p.shown (n - 1), q.0, q.1.shown (n - 1)) refl; high = rw (p.high, q.1.high) refl; open_end = refl; last = q.1.last })))

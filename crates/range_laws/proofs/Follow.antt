@@ -219,14 +219,14 @@ follows_onto {A = A} {r = r} {S = S} {h = h} R start other (suc n) room join b f
     (bound (Found r S) (Found r R) (λ z. take_onto start n room join h (join (tokens_read start z.1) x z.0) z.1) (λ z. take_onto other n room join h (join (tokens_read other z.1) y z.0) z.1) (h ts) (h us) (b.each ts us s)
     (λ z w q. follows_onto R start other n room join b fit step (join (tokens_read start z.1) x z.0) (join (tokens_read other w.1) y w.0) (step (tokens_read start z.1) (tokens_read other w.1) x y z.0 w.0 p q.0) z.1 w.1 q.1)) (p, s)) (p, s)
 
-pub follows_chain : {A B : Type 0} {r : Readers} {R : A → A → Type 0} {S : B → B → Type 0} {g : Descent Token A} {h : Descent Token B} (most : List Token → ℕ) (room : A → Bool) (join : List Token → A → B → A) →
-    ((ts us : List Token) → Alike r ts us → most ts ≡ most us) → Follows r R g → Follows r S h → ((x y : A) → R x y → room x ≡ room y) →
+pub follows_chain : {A B : Type 0} {r : Readers} {R : A → A → Type 0} {S : B → B → Type 0} {g : Descent Token A} {h : Descent Token B} (most : A → List Token → ℕ) (room : A → Bool) (join : List Token → A → B → A) →
+    ((x y : A) (ts us : List Token) → R x y → Alike r ts us → most x ts ≡ most y us) → Follows r R g → Follows r S h → ((x y : A) → R x y → room x ≡ room y) →
     ((read seen : List Token) (x y : A) (z w : B) → R x y → S z w → R (join read x z) (join seen y w)) → Follows r R (take_chain most room join g h)
 follows_chain {r = r} {R = R} {g = g} {h = h} most room join times a b fit step = record {
   each = λ ts us s.
-      bound (Found r R) (Found r R) (λ x. take_onto ts (most x.1) room join h x.0 x.1) (λ x. take_onto us (most x.1) room join h x.0 x.1) (g ts) (g us) (a.each ts us s)
-      (λ x y p. subst (λ (n : ℕ). Both (Found r R) (take_onto ts (most x.1) room join h x.0 x.1) (take_onto us n room join h y.0 y.1)) (times x.1 y.1 p.1)
-      (follows_onto R ts us (most x.1) room join b fit step x.0 y.0 p.0 x.1 y.1 p.1));
+      bound (Found r R) (Found r R) (λ x. take_onto ts (most x.0 x.1) room join h x.0 x.1) (λ x. take_onto us (most x.0 x.1) room join h x.0 x.1) (g ts) (g us) (a.each ts us s)
+      (λ x y p. subst (λ (n : ℕ). Both (Found r R) (take_onto ts (most x.0 x.1) room join h x.0 x.1) (take_onto us n room join h y.0 y.1)) (times x.0 y.0 x.1 y.1 p.0 p.1)
+      (follows_onto R ts us (most x.0 x.1) room join b fit step x.0 y.0 p.0 x.1 y.1 p.1));
 }
 
 pub follows_once : {A B : Type 0} {r : Readers} {R : A → A → Type 0} {S : B → B → Type 0} {g : Descent Token A} {h : Descent Token B} (room : A → Bool) (join : List Token → A → B → A) → Follows r R g → Follows r S h →
@@ -240,8 +240,8 @@ follows_once {r = r} {R = R} {S = S} {g = g} {h = h} room join a b fit step = re
       (λ z w q. (step (tokens_read ts z.1) (tokens_read us w.1) x.0 y.0 z.0 w.0 p.0 q.0, q.1))) tt);
 }
 
-pub follows_levels : {A B L : Type 0} {r : Readers} {R : A → A → Type 0} {S : B → B → Type 0} {first : Descent Token A} {right : L → List L → Descent Token B} (most : L → List Token → ℕ) (room : A → Bool) (join : List Token → A → B → A) →
-    ((l : L) (ts us : List Token) → Alike r ts us → most l ts ≡ most l us) → ((l : L) (above : List L) → Follows r S (right l above)) → ((x y : A) → R x y → room x ≡ room y) →
+pub follows_levels : {A B L : Type 0} {r : Readers} {R : A → A → Type 0} {S : B → B → Type 0} {first : Descent Token A} {right : L → List L → Descent Token B} (most : L → A → List Token → ℕ) (room : A → Bool) (join : List Token → A → B → A) →
+    ((l : L) (x y : A) (ts us : List Token) → R x y → Alike r ts us → most l x ts ≡ most l y us) → ((l : L) (above : List L) → Follows r S (right l above)) → ((x y : A) → R x y → room x ≡ room y) →
     ((read seen : List Token) (x y : A) (z w : B) → R x y → S z w → R (join read x z) (join seen y w)) → Follows r R first → (ls : List L) → Follows r R (take_levels most room join right first ls)
 follows_levels most room join times each fit step a [] = a
 follows_levels most room join times each fit step a (l ∷ ls) = follows_chain (most l) room join (times l) (follows_levels most room join times each fit step a ls) (each l ls) fit step

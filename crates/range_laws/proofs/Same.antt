@@ -1,22 +1,26 @@
 -- Trees that are the same with ranges aside, once the lists of statements in them are read.
-use Rattle.std.proofs.Common.{◌≡◌, ℕ, ◌++◌, List, [], ◌∷◌, Option, Some, None, refl}
+use Rattle.std.proofs.Common.{◌≡◌, ℕ, Bool, ◌++◌, List, [], ◌∷◌, Option, Some, None, refl}
 use Rattle.dart_tree.specs.Tree.{Tree, Trees, Part, trees_of, part_of}
 use Rattle.dart_tree.specs.Bare.{bare_of, bare_with, all_bare_with, part_bare_with}
 use Rattle.dart_tree.specs.Heights.{height, heights, height_of_part}
 use Rattle.unread_lists.specs.WithLists.{list_read, with_lists, all_with_lists, part_with_lists}
 use Rattle.dart_tokens.specs.declared.grouped_token.GroupedToken.{GroupedToken as Token}
 use Rattle.grammar.specs.Types.{behind_token, listed_or_none}
-use Rattle.grammar.specs.Expressions.{reads_on}
+use Rattle.grammar.specs.Expressions.{reads_on, is_incremented}
 use Rattle.grammar.specs.Statements.{ends_open}
 use Rattle.range_laws.specs.Agreeing.{Twins}
 use Rattle.range_laws.proofs.Follow.{Readers, Both, Pair, Alls}
+
+-- what may stand behind an expression, its height aside
+abbrev pub ending : Tree → Bool × Bool
+ending t = (reads_on t, is_incremented t)
 
 -- two trees have the same height, end alike, and are the same with ranges aside where their lists are read
 pub record Same (r : Readers) (t u : Tree) : Type 0 where
   pub shown : (n : ℕ) → bare_with (λ word. word) (with_lists r.one n t) ≡ bare_with (λ word. word) (with_lists r.other n u)
   pub high : height t ≡ height u
   pub open_end : ends_open t ≡ ends_open u
-  pub last : reads_on t ≡ reads_on u
+  pub last : ending t ≡ ending u
 
 -- so of the trees of a list
 pub record AllSame (r : Readers) (ts us : Trees) : Type 0 where

@@ -136,7 +136,7 @@ if_follows : (r : Readers) (l : Lower) → Followed r l → Follows r (Same r) (
 unfolding take_if
 if_follows r l a =
     follows_make (Same r) if_of
-    (follows_chain one_time is_nearest with_else (λ ts us s. refl) (follows_turn (IfSame r) without_else (follows_seq (mark r kind.If) (follows_seq (condition_follows r l a) a.statement)) (λ x y p. (p, tt)))
+    (follows_chain one_time is_nearest with_else (λ x y ts us p s. refl) (follows_turn (IfSame r) without_else (follows_seq (mark r kind.If) (follows_seq (condition_follows r l a) a.statement)) (λ x y p. (p, tt)))
     (follows_seq (mark r kind.Else) a.statement) (λ x y p. rw p.0.1.1.open_end refl) (λ read other x y z w p q. (p.0, q.1)))
     (λ read other x y p.
     let otherwise = part_same r x.1 y.1 p.1 in

@@ -293,8 +293,8 @@ blind_generic r =
 
 blind_cast : (r : Readers) → Blind r heads_cast
 blind_cast r =
-    blind_first r (is kind.As) (λ ts. not (next (is_either kind.OpenParenthesis kind.Less) ts)) (blind_is kind.As)
-    (blind_not r (next (is_either kind.OpenParenthesis kind.Less)) (blind_next r (is_either kind.OpenParenthesis kind.Less) (λ t u w. rw w.kind refl)))
+    blind_first r (is kind.As) (either (heads kind.Void) heads_name) (blind_is kind.As)
+    (blind_or r (heads kind.Void) heads_name (blind_heads r kind.Void) (blind_heads_name r))
 
 blind_rest : (r : Readers) → Blind r heads_rest
 blind_rest r ts us a = rw (blind_next r goes_on (λ t u w. rw w.kind refl) ts us a, blind_cast r ts us a, sign_same ts us a.agree) refl

@@ -53,7 +53,7 @@ whole_none = refl
 
 -- a difference of ones, as a number: the left operand is what stands before, and more is read before less
 abbrev difference : Rule ℕ ℕ
-difference = chain (λ ts. length ts) (λ left. true) (λ read left right. left - right) (token (λ t. nat_lt 2 t)) (turn (λ x. x.1) (one ▹ token (λ t. nat_lt 2 t)))
+difference = chain (λ left ts. length ts) (λ left. true) (λ read left right. left - right) (token (λ t. nat_lt 2 t)) (turn (λ x. x.1) (one ▹ token (λ t. nat_lt 2 t)))
 
 chain_order : difference (9 ∷ 1 ∷ 4 ∷ 1 ∷ 3 ∷ []) ≡ (2, []) ∷ (5, 1 ∷ 3 ∷ []) ∷ (9, 1 ∷ 4 ∷ 1 ∷ 3 ∷ []) ∷ []
 chain_order = refl

@@ -56,20 +56,20 @@ found_onto {T = T} {A = A} {B = B} {v = v} {q = q} {h = h} start (suc n) room jo
     (λ y. keeps_onto start n room join q a.shrinks (join (tokens_read start y.1) left y.0) y.1)
     (λ e. sym (a.alone ts) ∙ a.starts ts e) (subst (λ (ws : List (Reading T B)). Each (Fewer {A = B} (length ts)) ws) (a.alone ts) (a.shrinks ts)))
 
-chain_at : {T A B : Type 0} {v : Test T} {q : Rule T B} {h : Descent T B} (most : List T → ℕ) (room : A → Bool) (join : List T → A → B → A) → Sole v q h → (ts : List T) (o : Option (Reading T A)) →
-    Matches v (flat_map (λ x. onto ts (most x.1) room join q x.0 x.1) (optional o)) (bind o (λ x. take_onto ts (most x.1) room join h x.0 x.1))
+chain_at : {T A B : Type 0} {v : Test T} {q : Rule T B} {h : Descent T B} (most : A → List T → ℕ) (room : A → Bool) (join : List T → A → B → A) → Sole v q h → (ts : List T) (o : Option (Reading T A)) →
+    Matches v (flat_map (λ x. onto ts (most x.0 x.1) room join q x.0 x.1) (optional o)) (bind o (λ x. take_onto ts (most x.0 x.1) room join h x.0 x.1))
 chain_at most room join a ts None = refl
 chain_at {T = T} {A = A} {v = v} {q = q} {h = h} most room join a ts (Some x) =
-    subst (λ (xs : List (Reading T A)). Matches v xs (take_onto ts (most x.1) room join h x.0 x.1)) (sym (append-nil (onto ts (most x.1) room join q x.0 x.1))) (found_onto ts (most x.1) room join a x.0 x.1).0
+    subst (λ (xs : List (Reading T A)). Matches v xs (take_onto ts (most x.0 x.1) room join h x.0 x.1)) (sym (append-nil (onto ts (most x.0 x.1) room join q x.0 x.1))) (found_onto ts (most x.0 x.1) room join a x.0 x.1).0
 
 -- a left-nested repeat, where operand and right side have no other readings
-pub parses_chain : {T A B : Type 0} {f v : Test T} {p : Rule T A} {q : Rule T B} {g : Descent T A} {h : Descent T B} (most : List T → ℕ) (room : A → Bool) (join : List T → A → B → A) →
+pub parses_chain : {T A B : Type 0} {f v : Test T} {p : Rule T A} {q : Rule T B} {g : Descent T A} {h : Descent T B} (most : A → List T → ℕ) (room : A → Bool) (join : List T → A → B → A) →
     Sole f p g → Sole v q h → Parses v f (chain most room join p q) (take_chain most room join g h)
 parses_chain {T = T} {A = A} {B = B} {f = f} {v = v} {p = p} {q = q} {g = g} {h = h} most room join a b = record {
-  leads = λ ts. subst (λ (xs : List (Reading T A)). Matches v (flat_map (λ x. onto ts (most x.1) room join q x.0 x.1) xs) (take_chain most room join g h ts)) (sym (a.alone ts)) (chain_at most room join b ts (g ts));
-  starts = λ ts e. ap (flat_map (λ (x : Reading T A). onto ts (most x.1) room join q x.0 x.1)) (a.starts ts e);
-  shrinks = λ ts. each_flat (Fewer {A = A} (length ts)) (Fewer {A = A} (length ts)) (λ x. onto ts (most x.1) room join q x.0 x.1)
-      (λ x l. each_implies (AtMost {A = A} (length x.1)) (Fewer {A = A} (length ts)) (λ z k. omega (arith, l, k)) (onto ts (most x.1) room join q x.0 x.1) (keeps_onto ts (most x.1) room join q b.shrinks x.0 x.1)) (p ts) (a.shrinks ts);
+  leads = λ ts. subst (λ (xs : List (Reading T A)). Matches v (flat_map (λ x. onto ts (most x.0 x.1) room join q x.0 x.1) xs) (take_chain most room join g h ts)) (sym (a.alone ts)) (chain_at most room join b ts (g ts));
+  starts = λ ts e. ap (flat_map (λ (x : Reading T A). onto ts (most x.0 x.1) room join q x.0 x.1)) (a.starts ts e);
+  shrinks = λ ts. each_flat (Fewer {A = A} (length ts)) (Fewer {A = A} (length ts)) (λ x. onto ts (most x.0 x.1) room join q x.0 x.1)
+      (λ x l. each_implies (AtMost {A = A} (length x.1)) (Fewer {A = A} (length ts)) (λ z k. omega (arith, l, k)) (onto ts (most x.0 x.1) room join q x.0 x.1) (keeps_onto ts (most x.0 x.1) room join q b.shrinks x.0 x.1)) (p ts) (a.shrinks ts);
 }
 
 -- An operand and one right side.

@@ -64,8 +64,8 @@ take_onto start (suc n) room join h left ts =
     else take_given left ts
 
 -- a first operand, and as many right sides behind it as there are
-abbrev pub take_chain : {T A B : Type 0} → (List T → ℕ) → (A → Bool) → (List T → A → B → A) → Descent T A → Descent T B → Descent T A
-take_chain most room join g h ts = bind (g ts) (λ x. take_onto ts (most x.1) room join h x.0 x.1)
+abbrev pub take_chain : {T A B : Type 0} → (A → List T → ℕ) → (A → Bool) → (List T → A → B → A) → Descent T A → Descent T B → Descent T A
+take_chain most room join g h ts = bind (g ts) (λ x. take_onto ts (most x.0 x.1) room join h x.0 x.1)
 
 -- the value of the reading, if it leaves no token
 abbrev pub complete : {T A : Type 0} → Option (Reading T A) → Option A
@@ -98,12 +98,12 @@ abbrev pub take_once : {T A B : Type 0} → (A → Bool) → (List T → A → B
 take_once room join g h ts = bind (g ts) (λ x. if room x.0 then bind (h x.1) (λ y. Some (join (tokens_read ts y.1) x.0 y.0, y.1)) else None)
 
 -- the levels from those that bind least on, behind an operand that has been read; start is where it began
-abbrev pub climb : {T A B R : Type 0} → (R → List T → ℕ) → (A → Bool) → (List T → A → B → A) → (R → List R → Descent T B) → List T → List R → Reading T A → Option (Reading T A)
+abbrev pub climb : {T A B R : Type 0} → (R → A → List T → ℕ) → (A → Bool) → (List T → A → B → A) → (R → List R → Descent T B) → List T → List R → Reading T A → Option (Reading T A)
 climb most room join right start [] x = Some x
-climb most room join right start (r ∷ rs) x = bind (climb most room join right start rs x) (λ y. take_onto start (most r y.1) room join (right r rs) y.0 y.1)
+climb most room join right start (r ∷ rs) x = bind (climb most room join right start rs x) (λ y. take_onto start (most r y.0 y.1) room join (right r rs) y.0 y.1)
 
 -- levels of operators
-abbrev pub take_levels : {T A B R : Type 0} → (R → List T → ℕ) → (A → Bool) → (List T → A → B → A) → (R → List R → Descent T B) → Descent T A → List R → Descent T A
+abbrev pub take_levels : {T A B R : Type 0} → (R → A → List T → ℕ) → (A → Bool) → (List T → A → B → A) → (R → List R → Descent T B) → Descent T A → List R → Descent T A
 take_levels most room join right first [] = first
 take_levels most room join right first (r ∷ rs) = take_chain (most r) room join (take_levels most room join right first rs) (right r rs)
 

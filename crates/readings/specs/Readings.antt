@@ -95,8 +95,8 @@ onto start (suc n) room join q left ts =
     (if room left then flat_map (λ y. onto start n room join q (join (tokens_read start y.1) left y.0) y.1) (q ts) else []) ++ given left ts
 
 -- a left-nested repeat: a first operand, and right sides behind it, at most as many as are allowed where the first ends
-abbrev pub chain : {T A B : Type 0} → (List T → ℕ) → (A → Bool) → (List T → A → B → A) → Rule T A → Rule T B → Rule T A
-chain most room join p q ts = flat_map (λ x. onto ts (most x.1) room join q x.0 x.1) (p ts)
+abbrev pub chain : {T A B : Type 0} → (A → List T → ℕ) → (A → Bool) → (List T → A → B → A) → Rule T A → Rule T B → Rule T A
+chain most room join p q ts = flat_map (λ x. onto ts (most x.0 x.1) room join q x.0 x.1) (p ts)
 
 -- an operand and one right side, where there is room for the operand
 abbrev pub once : {T A B : Type 0} → (A → Bool) → (List T → A → B → A) → Rule T A → Rule T B → Rule T A
@@ -166,7 +166,7 @@ inside opens width past p [] = []
 inside opens width past p (t ∷ ts) = if opens t then optional (option_map (λ a. ((t, a), drop (past t) ts)) (whole (p (take (width t) ts)))) else []
 
 -- levels of operators, from those that bind least on: each a left-nested repeat over the levels behind it, of which the operand and each right side is read at its longest
-abbrev pub levels : {T A B R : Type 0} → (R → List T → ℕ) → (A → Bool) → (List T → A → B → A) → (R → List R → Rule T B) → Rule T A → List R → Rule T A
+abbrev pub levels : {T A B R : Type 0} → (R → A → List T → ℕ) → (A → Bool) → (List T → A → B → A) → (R → List R → Rule T B) → Rule T A → List R → Rule T A
 levels most room join right first [] = first
 levels most room join right first (r ∷ rs) = longest_of (chain (most r) room join (levels most room join right first rs) (longest_of (right r rs)))
 

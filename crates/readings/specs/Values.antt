@@ -70,10 +70,10 @@ gives_onto {T = T} {A = A} {B = B} {P = P} {Q = Q} {q = q} start (suc n) room jo
       (λ y k. (gives_onto start n room join b step (join (tokens_read start y.1) left y.0) (step (tokens_read start y.1) left y.0 e h k)).each y.1) (q ts) (b.each ts))) (h, tt);
 }
 
-pub gives_chain : {T A B : Type 0} {P : A → Type 0} {Q : B → Type 0} {p : Rule T A} {q : Rule T B} (most : List T → ℕ) (room : A → Bool) (join : List T → A → B → A) → Gives P p → Gives Q q →
+pub gives_chain : {T A B : Type 0} {P : A → Type 0} {Q : B → Type 0} {p : Rule T A} {q : Rule T B} (most : A → List T → ℕ) (room : A → Bool) (join : List T → A → B → A) → Gives P p → Gives Q q →
     ((read : List T) (left : A) (right : B) → room left ≡ true → P left → Q right → P (join read left right)) → Gives P (chain most room join p q)
 gives_chain {T = T} {A = A} {P = P} {p = p} {q = q} most room join a b step = record {
-  each = λ ts. each_flat (λ (x : Reading T A). P x.0) (λ (x : Reading T A). P x.0) (λ x. onto ts (most x.1) room join q x.0 x.1) (λ x h. (gives_onto ts (most x.1) room join b step x.0 h).each x.1) (p ts) (a.each ts);
+  each = λ ts. each_flat (λ (x : Reading T A). P x.0) (λ (x : Reading T A). P x.0) (λ x. onto ts (most x.0 x.1) room join q x.0 x.1) (λ x h. (gives_onto ts (most x.0 x.1) room join b step x.0 h).each x.1) (p ts) (a.each ts);
 }
 
 pub gives_once : {T A B : Type 0} {P : A → Type 0} {Q : B → Type 0} {p : Rule T A} {q : Rule T B} (room : A → Bool) (join : List T → A → B → A) → Gives P p → Gives Q q →
@@ -195,7 +195,7 @@ all_items_are {P = P} {p = p} segment error bad a ts = items_have P (length ts) 
 pub gives_items : {T A : Type 0} {P : A → Type 0} {p : Rule T A} (segment : List T → ℕ) (error : List T → A) → ((us : List T) → P (error us)) → Gives P p → Gives (Each P) (items p segment error)
 gives_items segment error bad a = record { each = λ ts. (all_items_are segment error bad a ts, tt) }
 
-pub gives_levels : {T A B R : Type 0} {P : A → Type 0} {Q : B → Type 0} {right : R → List R → Rule T B} {first : Rule T A} (most : R → List T → ℕ) (room : A → Bool) (join : List T → A → B → A) →
+pub gives_levels : {T A B R : Type 0} {P : A → Type 0} {Q : B → Type 0} {right : R → List R → Rule T B} {first : Rule T A} (most : R → A → List T → ℕ) (room : A → Bool) (join : List T → A → B → A) →
     ((r : R) (above : List R) → Gives Q (right r above)) → ((read : List T) (left : A) (side : B) → room left ≡ true → P left → Q side → P (join read left side)) → Gives P first → (rs : List R) → Gives P (levels most room join right first rs)
 gives_levels most room join each step a [] = a
 gives_levels most room join each step a (r ∷ rs) = gives_longest (gives_chain (most r) room join (gives_levels most room join each step a rs) (gives_longest (each r rs)) step)

@@ -68,7 +68,7 @@ pub fn repetition_laws<T, A, B>()
     ensures optional { (p : Parser T A) → Offers (either p.stops p.begins) p.begins None (maybe p.rule) (take_maybe p.descent) }
     ensures exact { (p : Parser T A) → Offers p.stops p.begins None (exactly p.rule) (take_maybe p.descent) }
     ensures repeated { (p : Parser T A) → Apart p.stops p.begins → Offers (either p.stops p.begins) p.begins [] (many p.rule) (take_many p.descent) }
-    ensures left_nested { (most : List T → ℕ) (room : A → Bool) (join : List T → A → B → A) (p : Single T A) (q : Single T B)
+    ensures left_nested { (most : A → List T → ℕ) (room : A → Bool) (join : List T → A → B → A) (p : Single T A) (q : Single T B)
         → Parses q.begins p.begins (chain most room join p.rule q.rule) (take_chain most room join p.descent q.descent) }
     ensures one_side { (room : A → Bool) (join : List T → A → B → A) (p : Single T A) (q : Single T B)
         → Sole p.begins (once room join p.rule q.rule) (take_once room join p.descent q.descent) }
@@ -77,10 +77,10 @@ pub fn repetition_laws<T, A, B>()
 /// Levels of operators over one table: the first operand is read once, and the levels are climbed
 /// behind it.
 pub fn level_laws<T, A, B, R>()
-    ensures single { (most : R → List T → ℕ) (room : A → Bool) (join : List T → A → B → A) (right : R → List R → Parser T B) (p : Single T A) (rs : List R)
+    ensures single { (most : R → A → List T → ℕ) (room : A → Bool) (join : List T → A → B → A) (right : R → List R → Parser T B) (p : Single T A) (rs : List R)
         → Sole p.begins (levels most room join (λ r above. (right r above).rule) p.rule rs)
         (take_levels most room join (λ r above. (right r above).descent) p.descent rs) }
-    ensures climbed { (most : R → List T → ℕ) (room : A → Bool) (join : List T → A → B → A) (right : R → List R → Descent T B) (g : Descent T A) (rs : List R)
+    ensures climbed { (most : R → A → List T → ℕ) (room : A → Bool) (join : List T → A → B → A) (right : R → List R → Descent T B) (g : Descent T A) (rs : List R)
         (ts : List T) → take_levels most room join right g rs ts ≡ bind (g ts) (climb most room join right ts rs) }
 {}
 

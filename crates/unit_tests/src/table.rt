@@ -85,6 +85,8 @@ class C{static final a=1;static int b=2,c;static void d(){}} :: (class C {static
 class C{C();C.n(this.a,[int b=1]);} :: (class C {(constructor C ;) (constructor C.n (this.a) [b int = 1] ;)})
 class C{C(a):b=a,this.c=a+1,super(a);} :: (class C {(constructor C (a) : (= b a) (= c (+ a 1)) (super a) ;)})
 class C{C():super.n(a,b:c){d;}C.r():this(1);C.s():this.n();} :: (class C {(constructor C : (super .n a b:c) {d;}) (constructor C.r : (this 1) ;) (constructor C.s : (this .n) ;)})
+class C{C():a=(b){c;}C.d():a=(b){}as D;} :: (class C {(constructor C : (= a (parenthesis b)) {c;}) (constructor C.d : (= a (as (closure (b) {}) D)) ;)})
+class C{C():a=(b){}as.D e;C.f():a=(b){}as(g){}} :: (class C {(constructor C : (= a (parenthesis b)) {}) (var as.D e) (constructor C.f : (= a (parenthesis b)) {}) (function as (g) {})})
 class C{C(a)=>b;C c(){}D();} :: (class C {(function C (a) => b) (function C c {}) (function D ;)})
 class C{factory C(a)=>b;factory C.n(){return c;}factory(){}} :: (class C {(factory C (a) => b) (factory C.n {(return c)}) (function factory {})})
 class C{int get a=>b;get c;static get d{}} :: (class C {(get int a => b) (get c ;) static (get d {})})

@@ -2,7 +2,7 @@
 use Rattle.std.proofs.Common.{◌≡◌, ◌-◌, ◌≤◌, true, refl, sym, ap, ◌∙◌, arith}
 use Rattle.dart_tree.specs.Heights.{height}
 use Rattle.readings.specs.Descent.{take_onto}
-use Rattle.grammar.specs.Expressions.{times, side_with, is_open}
+use Rattle.grammar.specs.Expressions.{times_behind, side_with, is_open}
 use Rattle.grammar.specs.Descents.{lower, take_right}
 use Rattle.parse_leaves.specs.Parts.{side_of, side_height}
 use Rattle.parse_leaves.specs.Loops.{chain_goes}
@@ -17,7 +17,7 @@ loop-more-preserved g c =
     let deep : c.loop-more.height ≤ c.room-room.result = c.is_open.ensures.within c.if-not-is_open.false in
     record {
       reading =
-          chain_goes (take_onto c.args.start.now (times c.args.level c.args.tokens.now) (is_open (g.B.Below.room c.args.below.now)) side_with (take_right c.args.setting (lower (g.B.Below.room c.args.below.now)) c.args.level c.args.above.now) c.args.first c.args.tokens.now) c.args.start.now c.loop-more.more (c.loop-more.more - 1) (is_open (g.B.Below.room c.args.below.now)) side_with (take_right c.args.setting (lower (g.B.Below.room c.args.below.now)) c.args.level c.args.above.now)
+          chain_goes (take_onto c.args.start.now (times_behind c.args.setting c.args.level c.args.first c.args.tokens.now) (is_open (g.B.Below.room c.args.below.now)) side_with (take_right c.args.setting (lower (g.B.Below.room c.args.below.now)) c.args.level c.args.above.now) c.args.first c.args.tokens.now) c.args.start.now c.loop-more.more (c.loop-more.more - 1) (is_open (g.B.Below.room c.args.below.now)) side_with (take_right c.args.setting (lower (g.B.Below.room c.args.below.now)) c.args.level c.args.above.now)
           c.loop-more.left c.in_ok-left-in-Ok.left c.loop-more.rest.now c.in-Ok.after.now (side_of c.in-Ok.added) c.loop-more.invariant.reading (omega arith) still
           c.in-Ok.ensures.reading c.in_ok-left-in-Ok.ensures.reading refl;
       deep = node_grown c.loop-more.height c.in-Ok.tall c.higher-height.result (height c.loop-more.left) (side_height (side_of c.in-Ok.added)) (height c.in_ok-left-in-Ok.left) c.loop-more.invariant.deep c.in-Ok.ensures.deep.0 c.higher-height.ensures c.in_ok-left-in-Ok.ensures.deep;
