@@ -1,9 +1,9 @@
 -- The program of a body in which nothing is wrong is well formed and accepted.
-use Rattle.std.proofs.Common.{◌≡◌, ℕ, zero, suc, ◌+◌, ◌-◌, ◌*◌, ◌^◌, ◌<◌, ◌≤◌, true, List, [], ◌∷◌, ◌++◌, length, get_or, Some, None, refl, sym, ap, ◌∙◌, subst, arith, IsTrue}
+use Rattle.std.proofs.Common.{◌≡◌, ℕ, zero, suc, ◌+◌, ◌-◌, ◌^◌, ◌<◌, ◌≤◌, true, List, [], ◌∷◌, ◌++◌, length, get_or, Some, None, refl, sym, ap, ◌∙◌, subst, arith, IsTrue}
 use Rattle.std.specs.FinMap.{empty}
 use Rattle.std.specs.Prelude.{IsFalse, slice_get}
 use Rattle.std.proofs.lemmas.List.Elements.{All-nil}
-use Rattle.std.proofs.lemmas.Option.{slice_get_within}
+use Rattle.std.proofs.lemmas.Option.{slice_get_within, slice_get-get_or}
 use Rattle.dart_tree.specs.Tree.{Tree, Trees, block}
 use Rattle.dart_tree.specs.declared.places.Place.{Place}
 use Rattle.dart_types.specs.FormedTable.{FormedTable}
@@ -18,6 +18,7 @@ use Rattle.rule_laws.specs.Plain.{HidesNothing, IsPlainLocal}
 use Rattle.core_ir.specs.PointFacts.{PointFacts}
 use Rattle.core_ir.specs.Program.{Function, Program}
 use Rattle.core_ir.specs.Values.{int, bool}
+use Rattle.core_ir.specs.declared.points.FunctionId.{FunctionId}
 use Rattle.core_ir.specs.declared.points.Point.{Point}
 use Rattle.core_ir.specs.declared.points.PointId.{PointId}
 use Rattle.core_ir.specs.declared.points.SlotId.{SlotId}
@@ -26,8 +27,9 @@ use Rattle.core_check.specs.Accepted.{BeginsEmpty, FitsAsked, FitsDeclared, IsAc
 use Rattle.core_check.specs.Known.{facts_at, function_at, function_of, no_point, point_at}
 use Rattle.core_check.specs.Shapes.{shape}
 use Rattle.core_check.specs.WellFormed.{IsFunctionOf, IsPointOf, IsSlot, IsWay, IsWellFormed}
-use Rattle.core_emit.specs.Code.{Code, goes_on, leaf}
-use Rattle.core_emit.specs.Emitted.{AllFine, AllFormed, AreFactsOf, EmitsFinePoints, EmitsFormedPoints, IsEmitted, with_points}
+use Rattle.core_emit.specs.Code.{Code, leaf}
+use Rattle.core_emit.specs.declared.steps.Step.TheVariants as step
+use Rattle.core_emit.specs.Emitted.{AllFine, AllFormed, AreFactsOf, AreFormed, EmitsFinePoints, EmitsFormedPoints, IsEmitted, IsOwn, with_points}
 use Rattle.elaborate.specs.Sources.{Sources, known_behind}
 use Rattle.elaborate.specs.Known.{facts}
 use Rattle.elaborate.specs.Rows.{statement_code}
@@ -113,14 +115,14 @@ module _ (rows : FormedTable) (x : Sources) (outside : List Meaning) (at : Place
       runs : RunsWell c (statement_code x body) start o
       runs = statement_runs c laws body empty start hides built none start_stands said
 
-      enters : Does c (leaf None entry_facts goes_on) entry_facts (facts x start no_values)
+      enters : Does c (leaf None entry_facts step.GoOn) entry_facts (facts x start no_values)
       enters =
-          does_step c laws None entry_facts (facts x start no_values) goes_on (facts_inside c start no_values start_stands nothing_held) (λ next. All-nil (IsSlot c.g))
+          does_step c laws None entry_facts (facts x start no_values) step.GoOn (facts_inside c start no_values start_stands nothing_held) (λ next. All-nil (IsSlot c.g))
           (λ reached f' tells. go_leads c laws entry_facts (facts x start no_values) (unshared c laws start start_stands no_values nothing_held) refl f' tells (tells_itself c laws entry_facts) refl)
 
       whole : Does c (function_code x body) entry_facts final
       whole = subst (λ (m : FlowModel). Does c (function_code x body) entry_facts (facts x m no_values)) (sym behind)
-          (does_both c laws (leaf None entry_facts goes_on) (statement_code x body) entry_facts (facts x start no_values) (facts x o.after no_values) enters runs.does)
+          (does_both c laws (leaf None entry_facts step.GoOn) (statement_code x body) entry_facts (facts x start no_values) (facts x o.after no_values) enters runs.does)
 
       final_inside : AreFactsOf c.g final
       final_inside = subst (λ (m : FlowModel). AreFactsOf c.g (facts x m no_values)) (sym behind) (facts_inside c o.after no_values runs.stands nothing_held)
@@ -134,10 +136,10 @@ module _ (rows : FormedTable) (x : Sources) (outside : List Meaning) (at : Place
         leads = All-nil (Leads (with_points p old) c.g final);
       }
 
-      old_fine : AllFine (with_points p old) c.g
+      old_fine : AllFine (with_points p old)
       old_fine = record { each = at_end }
         where
-          at_end : (k : ℕ) → k < length old → IsTrue (facts_at (with_points p old) k).reachable → IsFine (with_points p old) c.g (facts_at (with_points p old) k) (shape (get_or old k no_point).term)
+          at_end : (k : ℕ) → k < length old → IsTrue (facts_at (with_points p old) k).reachable → IsFine (with_points p old) (function_of (with_points p old) k) (facts_at (with_points p old) k) (shape (point_at (with_points p old) k).term)
           at_end zero lt reached = end_fine
           at_end (suc k) lt reached = absurd (omega arith)
 
@@ -151,22 +153,24 @@ module _ (rows : FormedTable) (x : Sources) (outside : List Meaning) (at : Place
             moves_on = λ j d lt. absurd (omega arith);
           })
 
-      old_formed : AllFormed (with_points p old) 0
-      old_formed = record { points_in = λ k point is. end_formed point k is; own = own }
-        where
-          own : (k : ℕ) → k < length old → (point_at (with_points p old) k).function.0 ≡ 0
-          own zero lt = refl
-          own (suc k) lt = absurd (omega arith)
+      old_formed : AllFormed (with_points p old)
+      old_formed = record { points_in = λ k point is. end_formed point k is }
 
-      emitted : IsEmitted p c.g old entry_facts (points_of x body)
-      emitted = fine (function_code x body) final first old (whole.begins final (tells_itself c laws final)).passes old_fine (omega arith) refl
+      end_own : IsOwn old main_function first
+      end_own = record { inside = omega arith; own = refl }
 
-      all_formed : AllFormed p 0
-      all_formed = formed (function_code x body) first old (omega arith) refl whole.inside old_formed (omega arith)
+      emitted : IsEmitted p old entry_facts (points_of x body)
+      emitted = fine (function_code x body) final first old refl (whole.begins final (tells_itself c laws final)).passes old_fine (omega arith) refl
+
+      all_formed : AreFormed p main_function old (points_of x body)
+      all_formed = formed (function_code x body) first old (omega arith) refl whole.inside old_formed end_own
 
       -- all points are of the one function
       function_is : (k : ℕ) → k < length p.points → function_of p k ≡ c.g
-      function_is k lt = ap (function_at p) (all_formed.own k lt)
+      function_is k lt =
+          let within = (all_formed.formed.points_in k (point_at p k) (slice_get-get_or p.points k no_point lt)).function_in in
+          let main : (point_at p k).function.0 ≡ 0 = omega arith in
+          ap (function_at p) main
 
       entry_is : (k : ℕ) → k < length p.points → (function_of p k).entry.0 ≡ k → IsEntry (function_of p k) (facts_at p k)
       entry_is k lt is =
@@ -177,7 +181,7 @@ module _ (rows : FormedTable) (x : Sources) (outside : List Meaning) (at : Place
       pub accepted : IsAccepted p
       accepted = record {
         each = λ k lt. record {
-          fine = λ reached. subst (λ (g : Function). IsFine p g (facts_at p k) (shape (point_at p k).term)) (sym (function_is k lt)) (emitted.fine.each k lt reached);
+          fine = emitted.fine.each k lt;
           entry = entry_is k lt;
         };
       }
@@ -185,14 +189,14 @@ module _ (rows : FormedTable) (x : Sources) (outside : List Meaning) (at : Place
       only_function : (n : ℕ) (g : Function) → slice_get p.functions n ≡ Some g → IsFunctionOf p n g
       only_function n g is =
           let one = only_one c.g g n is in
-          subst (λ (f : Function). IsFunctionOf p n f) one.1 (record { entry_in = emitted.entry_in; entry_own = all_formed.own (points_of x body).entry.0 emitted.entry_in ∙ sym one.0 })
+          subst (λ (f : Function). IsFunctionOf p n f) one.1 (record { entry_in = emitted.entry_in; entry_own = ap (λ (f : FunctionId). f.0) all_formed.entry_own.own ∙ sym one.0 })
 
       pub well_formed : IsWellFormed p
       well_formed = record {
         main_in = omega arith;
         numbered = few;
         functions_in = only_function;
-        points_in = all_formed.points_in;
+        points_in = all_formed.formed.points_in;
         int_apart = int_apart;
         bool_apart = bool_apart;
       }

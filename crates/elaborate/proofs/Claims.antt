@@ -1,5 +1,5 @@
 -- What code does: it passes, from what is known before it to what is known behind it, or less.
-use Rattle.std.proofs.Common.{◌≡◌, ◌≢◌, ℕ, ◌<◌, [], ◌∷◌, ◌++◌, length, Option, sym, ◌∙◌, subst, IsTrue}
+use Rattle.std.proofs.Common.{◌≡◌, ℕ, ◌<◌, length, Option, sym, subst, IsTrue}
 use Rattle.core_ir.specs.PointFacts.{PointFacts}
 use Rattle.core_ir.specs.Program.{Program}
 use Rattle.core_ir.specs.Values.{declared_at}
@@ -8,7 +8,10 @@ use Rattle.core_check.specs.Accepted.{Leads, SlotImplies}
 use Rattle.core_check.specs.Known.{facts_at, known_of}
 use Rattle.core_check.specs.Shapes.{WayShape}
 use Rattle.core_check.specs.Types.{known_on}
-use Rattle.core_emit.specs.Code.{Code, Step, Test, nothing, leaf, sequence, choice, loop, goes_on}
+use Rattle.core_emit.specs.Code.{Code, nothing, leaf, sequence, choice, loop}
+use Rattle.core_emit.specs.declared.steps.Step.{Step}
+use Rattle.core_emit.specs.declared.steps.Step.TheVariants as step
+use Rattle.core_emit.specs.declared.steps.Test.{Test}
 use Rattle.core_emit.specs.Emitted.{AreFactsOf, IsCodeOf, IsStepOf, IsTestOf, Passes, StepLeads, TestLeads, known_first}
 use Rattle.elaborate.proofs.Given.{Setting, Laws}
 use Rattle.elaborate.proofs.Tells.{Tells, tells_itself, tells_through, implies_through}
@@ -83,7 +86,7 @@ module _ (c : Setting) (laws : Laws c) where
 
   -- a loop
   pub does_loop : (site : Option Span) (head f one other : PointFacts) (condition : Code) (test : Test) (body : Code) → AreFactsOf c.g head → AreFactsOf c.g f → IsTestOf c.g test
-      → ((f' : PointFacts) → Tells c head f' → IsTrue head.reachable → StepLeads c.rows c.g head goes_on f')
+      → ((f' : PointFacts) → Tells c head f' → IsTrue head.reachable → StepLeads c.rows c.g head step.GoOn f')
       → (IsTrue f.reachable → (f' f'' : PointFacts) → Tells c one f' → Tells c other f'' → TestLeads c.rows c.g f test f' f'')
       → Does c condition head f → Does c body one head → Does c (loop site head f condition test body) head other
   does_loop site head f one other condition test body head_in facts_in test_in goes leads condition_does body_does = record {

@@ -1,5 +1,5 @@
 -- The code of a condition and its test do what the rules say of it.
-use Rattle.std.proofs.Common.{◌≡◌, ◌≢◌, ℕ, ◌-◌, ◌<◌, Bool, true, false, cond, ◌&&◌, ◌||◌, List, [], ◌∷◌, ◌++◌, Option, Some, None, refl, sym, ap, ◌∙◌, subst, IsTrue}
+use Rattle.std.proofs.Common.{◌≡◌, ◌≢◌, ◌-◌, Bool, true, false, cond, ◌&&◌, List, [], Option, Some, None, refl, sym, ap, ◌∙◌, subst, IsTrue}
 use Rattle.std.specs.Option.{option_map}
 use Rattle.std.proofs.lemmas.Bool.{and_parts}
 use Rattle.std.proofs.lemmas.List.Elements.{All-nil}
@@ -10,7 +10,6 @@ use Rattle.dart_tree.specs.declared.operators.BinaryOperatorKind.TheVariants.{No
 use Rattle.dart_tree.specs.declared.places.Place.{Place}
 use Rattle.dart_tree.specs.declared.places.Span.{Span}
 use Rattle.dart_types.specs.Ty.{Ty}
-use Rattle.dart_types.specs.Ty as ty
 use Rattle.dart_types.specs.SubTest.{sub}
 use Rattle.flow_model.specs.Flow.{FlowModel, at_local, current_of, facts_of}
 use Rattle.flow_model.specs.Order.{Implies}
@@ -37,7 +36,9 @@ use Rattle.core_check.specs.Known.{slot_type, held_type}
 use Rattle.core_check.specs.NamedSlots.{from_in}
 use Rattle.core_check.specs.Types.{without_null}
 use Rattle.core_check.specs.WellFormed.{IsSlot}
-use Rattle.core_emit.specs.Code.{Test, nothing, on_not_null}
+use Rattle.core_emit.specs.Code.{nothing}
+use Rattle.core_emit.specs.declared.steps.Test.{Test}
+use Rattle.core_emit.specs.declared.steps.Test.TheVariants.{OnNotNull}
 use Rattle.core_emit.specs.Emitted.{IsTestOf, TestLeads}
 use Rattle.elaborate.specs.Sources.{known_before, known_behind, slot_of_local}
 use Rattle.elaborate.specs.Known.{facts, holding}
@@ -98,7 +99,7 @@ module _ (c : Setting) (laws : Laws c) (names : Names) where
   pub record TestsNull (t : Tree) (m : FlowModel) (test : Test) (e : Evaluation) : Type 0 where
     pub var : LocalId
     pub l : Facts
-    pub test_is : test ≡ on_not_null (slot_of_local c.x var)
+    pub test_is : test ≡ OnNotNull (slot_of_local c.x var)
     pub found : facts_of m var ≡ Some l
     pub assigned : l.assigned ≡ true
     pub after : e.after ≡ m

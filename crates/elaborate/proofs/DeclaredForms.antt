@@ -1,5 +1,5 @@
 -- The code of a declaration does what the rules say of it.
-use Rattle.std.proofs.Common.{◌≡◌, ◌≢◌, ℕ, ◌-◌, ◌<◌, Bool, true, false, cond, ◌&&◌, ◌||◌, nat_lt, map, List, [], ◌∷◌, ◌++◌, length, Some, refl, sym, ap, ◌∙◌, subst, IsTrue}
+use Rattle.std.proofs.Common.{◌≡◌, ◌≢◌, ◌-◌, ◌<◌, Bool, true, false, cond, ◌&&◌, nat_lt, map, List, [], ◌∷◌, ◌++◌, length, Some, refl, sym, ap, ◌∙◌, subst, IsTrue}
 use Rattle.std.specs.Option.{option_map, option_map_or}
 use Rattle.std.specs.Prelude.{All, filter}
 use Rattle.std.proofs.lemmas.List.Elements.{All-head, All-tail, All-cons, All-nil}
@@ -31,7 +31,8 @@ use Rattle.core_ir.specs.declared.points.SlotId.{SlotId}
 use Rattle.core_check.specs.NamedSlots.{to_from_in}
 use Rattle.core_check.specs.WellFormed.{IsSlot}
 use Rattle.core_ir.specs.declared.values.Value.TheVariants.{Null}
-use Rattle.core_emit.specs.Code.{Code, declares, initializes, leaf}
+use Rattle.core_emit.specs.Code.{Code, leaf}
+use Rattle.core_emit.specs.declared.steps.Step.TheVariants as step
 use Rattle.elaborate.specs.Sources.{known_before, known_behind, slot_of_local}
 use Rattle.elaborate.specs.Known.{facts, holding}
 use Rattle.elaborate.specs.Rows as code
@@ -107,11 +108,11 @@ module _ (c : Setting) (laws : Laws c) (names : Names) (at : Place) (name : Name
     m' = declare_of m fresh
 
     unset_step : (b : Bool) → sub c.rows.table ty.null declared ≡ b → Standing c m'
-        → Does c (leaf (site_of at) (facts c.x m no_values) (cond b (initializes slot (Constant Null)) (declares slot))) (facts c.x m no_values) (facts c.x m' no_values)
+        → Does c (leaf (site_of at) (facts c.x m no_values) (cond b (step.Initialize slot (Constant Null)) (step.Declare slot))) (facts c.x m no_values) (facts c.x m' no_values)
     unset_step true is stands' =
         let known : fresh.assigned ≡ true = ap (λ b. b && true) is in
         let quiet = unshared c laws m stands no_values (nothing_held c) in
-        does_step c laws (site_of at) (facts c.x m no_values) (facts c.x m' no_values) (initializes slot (Constant Null)) (facts_inside c m no_values stands (nothing_held c))
+        does_step c laws (site_of at) (facts c.x m no_values) (facts c.x m' no_values) (step.Initialize slot (Constant Null)) (facts_inside c m no_values stands (nothing_held c))
         (λ next. to_from_in c.g slot (Constant Null) slot_in tt)
         (λ reached f' tells. initialize_leads c laws (facts c.x m no_values) (facts c.x m' no_values) quiet reached f' tells slot (Constant Null) ty.null (record { assigned = refl; typed = refl })
         (gives_local c laws m m' stands stands' no_values no_values (nothing_held c) (nothing_held c) (λ i here. here) reached var (fresh_facts fresh) (laws.declared m fresh) (laws.undeclared m fresh) ty.null is is known quiet reached))
@@ -121,7 +122,7 @@ module _ (c : Setting) (laws : Laws c) (names : Names) (at : Place) (name : Name
     unset_step false is stands' =
         let unknown : fresh.assigned ≡ false = ap (λ b. b && true) is in
         let quiet = unshared c laws m stands no_values (nothing_held c) in
-        does_step c laws (site_of at) (facts c.x m no_values) (facts c.x m' no_values) (declares slot) (facts_inside c m no_values stands (nothing_held c))
+        does_step c laws (site_of at) (facts c.x m no_values) (facts c.x m' no_values) (step.Declare slot) (facts_inside c m no_values stands (nothing_held c))
         (λ next. all_one (IsSlot c.g) slot (found_of c m' var (fresh_facts fresh) stands' (laws.declared m fresh)).slot.inside)
         (λ reached f' tells. declare_leads c laws (facts c.x m no_values) (facts c.x m' no_values) quiet reached f' tells slot
         (leaves_unset c laws m m' stands stands' no_values no_values (nothing_held c) (nothing_held c) (λ i here. here) reached var (fresh_facts fresh) (laws.declared m fresh) (laws.undeclared m fresh) unknown refl)
@@ -140,9 +141,9 @@ module _ (c : Setting) (laws : Laws c) (names : Names) (at : Place) (name : Name
         let null = sub c.rows.table ty.null declared in
         let known : is_known (λ (l : Facts). l.assigned) (known_behind c.x at) var ≡ (null && true) =
         ap (λ k. is_known (λ (l : Facts). l.assigned) k var) behind ∙ ap (λ found. option_map_or (λ (l : Facts). l.assigned) found false) (laws.declared m fresh) in
-        let code_is : declared_code c.x (variable at name absent) ≡ leaf (site_of at) (facts c.x m no_values) (cond null (initializes slot (Constant Null)) (declares slot)) =
-        ap (λ b. step_at c.x at (known_before c.x at) no_values (cond b (initializes slot (Constant Null)) (declares slot))) (known ∙ same null)
-        ∙ ap (λ k. step_at c.x at k no_values (cond null (initializes slot (Constant Null)) (declares slot))) before in
+        let code_is : declared_code c.x (variable at name absent) ≡ leaf (site_of at) (facts c.x m no_values) (cond null (step.Initialize slot (Constant Null)) (step.Declare slot)) =
+        ap (λ b. step_at c.x at (known_before c.x at) no_values (cond b (step.Initialize slot (Constant Null)) (step.Declare slot))) (known ∙ same null)
+        ∙ ap (λ k. step_at c.x at k no_values (cond null (step.Initialize slot (Constant Null)) (step.Declare slot))) before in
         subst (λ (o : Outcome). DeclaresWell c (variable at name absent) m o) (sym is) (record {
           does = λ stands'. subst (λ (k : Code). Does c k (facts c.x m no_values) (facts c.x m' no_values)) (sym code_is) (unset_step null refl stands');
           slots = declared_slots c m fresh stands.slots (own.local var (fresh_facts fresh) refl refl (laws.declared m fresh));
@@ -219,12 +220,12 @@ module _ (c : Setting) (laws : Laws c) (names : Names) (at : Place) (name : Name
 
       set_does : Standing c behind_it → Does c (declared_code c.x (variable at name (present value))) (facts c.x m no_values) (facts c.x behind_it no_values)
       set_does stands' =
-          let code_is : code.initialized_row c.x at name (known_behind c.x (place_of value)) (operand_of c.x value) ≡ leaf (site_of at) (facts c.x e.after held) (initializes slot (operand_of c.x value)) =
+          let code_is : code.initialized_row c.x at name (known_behind c.x (place_of value)) (operand_of c.x value) ≡ leaf (site_of at) (facts c.x e.after held) (step.Initialize slot (operand_of c.x value)) =
           ap (λ k. code.initialized_row c.x at name k (operand_of c.x value)) one.behind in
           let quiet = unshared c laws e.after stands_e held are_held in
           does_both c laws (code.code_of c.x no_values value) _ (facts c.x m no_values) (facts c.x e.after held) (facts c.x behind_it no_values) one.does
           (subst (λ (k : Code). Does c k (facts c.x e.after held) (facts c.x behind_it no_values)) (sym code_is)
-          (does_step c laws (site_of at) (facts c.x e.after held) (facts c.x behind_it no_values) (initializes slot (operand_of c.x value)) (facts_inside c e.after held stands_e are_held)
+          (does_step c laws (site_of at) (facts c.x e.after held) (facts c.x behind_it no_values) (step.Initialize slot (operand_of c.x value)) (facts_inside c e.after held stands_e are_held)
           (λ next. to_from_in c.g slot (operand_of c.x value) (found_of c behind_it var written stands' is_written).slot.inside (operand_inside c laws (operand_of c.x value) e.ty one.operand))
           (λ reached f' tells. initialize_leads c laws (facts c.x e.after held) (facts c.x behind_it no_values) quiet reached f' tells slot (operand_of c.x value) e.ty
           (has_operand c laws e.after held (operand_of c.x value) e.ty stands_e are_held one.operand (held_with c laws no_values (operand_of c.x value)))

@@ -1,5 +1,5 @@
 -- The code of an expression that stands as a statement does what the rules say of it.
-use Rattle.std.proofs.Common.{◌≡◌, ◌≢◌, ℕ, ◌-◌, ◌<◌, true, false, cond, not, ◌&&◌, ◌||◌, List, [], ◌∷◌, ◌++◌, Option, Some, None, is_some, refl, sym, ap, ◌∙◌, subst, IsTrue}
+use Rattle.std.proofs.Common.{◌≡◌, ℕ, ◌-◌, true, false, cond, not, ◌&&◌, List, [], ◌∷◌, ◌++◌, Option, Some, None, is_some, refl, sym, ap, ◌∙◌, subst, IsTrue}
 use Rattle.std.specs.FinMap.{get}
 use Rattle.std.specs.Option.{option_map, option_map_or}
 use Rattle.std.specs.Prelude.{slice_index_or}
@@ -10,7 +10,6 @@ use Rattle.dart_tree.specs.Places.{place_of}
 use Rattle.dart_tree.specs.declared.operators.AssignmentOperator.{AssignmentOperator}
 use Rattle.dart_tree.specs.declared.places.Place.{Place}
 use Rattle.dart_types.specs.Ty.{Ty, invalid, nullable}
-use Rattle.dart_types.specs.Ty as ty
 use Rattle.dart_types.specs.Heads.{object}
 use Rattle.dart_types.specs.Invalid.{holds_invalid}
 use Rattle.dart_types.specs.SubTest.{sub}
@@ -33,7 +32,8 @@ use Rattle.built_forms.specs.Meanings.{meaning_at}
 use Rattle.rule_laws.specs.Plain.{HidesNothing, is_value_type}
 use Rattle.core_ir.specs.declared.points.SlotId.{SlotId}
 use Rattle.core_check.specs.NamedSlots.{from_in, to_from_in}
-use Rattle.core_emit.specs.Code.{Code, leaf, nothing, prints, stores}
+use Rattle.core_emit.specs.Code.{Code, leaf, nothing}
+use Rattle.core_emit.specs.declared.steps.Step.TheVariants as step
 use Rattle.elaborate.specs.Sources.{known_behind, local_meant, slot_of_local}
 use Rattle.elaborate.specs.Sources as sources
 use Rattle.elaborate.specs.Known.{facts, holding}
@@ -188,7 +188,7 @@ module _ (c : Setting) (laws : Laws c) (names : Names) where
       abbrev slot : SlotId
       slot = slot_of_local c.x target.var
 
-      code_is : assignment_row c.x at (known_behind c.x (place_of value)) no_values (local_meant (sources.named_at c.x at)) (operand_of c.x value) ≡ leaf (site_of at) (facts c.x e.after held) (stores slot (operand_of c.x value))
+      code_is : assignment_row c.x at (known_behind c.x (place_of value)) no_values (local_meant (sources.named_at c.x at)) (operand_of c.x value) ≡ leaf (site_of at) (facts c.x e.after held) (step.Store slot (operand_of c.x value))
       code_is =
           ap (λ k. assignment_row c.x at k no_values (local_meant (sources.named_at c.x at)) (operand_of c.x value)) one.behind
           ∙ ap (λ found. assignment_row c.x at e.after no_values (local_meant (option_map_or (λ (n : NodeFacts). n.element) found None)) (operand_of c.x value)) own.found
@@ -201,7 +201,7 @@ module _ (c : Setting) (laws : Laws c) (names : Names) where
           laws.changed e.after target.var (assign_facts c.rows.table e.ty) (λ l. refl) ∙ ap (option_map (assign_facts c.rows.table e.ty)) writes.found in
           does_both c laws (code_of c.x no_values value) _ (facts c.x m no_values) (facts c.x e.after held) (facts c.x m' no_values) one.does
           (subst (λ (k : Code). Does c k (facts c.x e.after held) (facts c.x m' no_values)) (sym code_is)
-          (does_step c laws (site_of at) (facts c.x e.after held) (facts c.x m' no_values) (stores slot (operand_of c.x value)) (facts_inside c e.after held stands_e are_held)
+          (does_step c laws (site_of at) (facts c.x e.after held) (facts c.x m' no_values) (step.Store slot (operand_of c.x value)) (facts_inside c e.after held stands_e are_held)
           (λ next. to_from_in c.g slot (operand_of c.x value) (found_of c e.after target.var writes.l stands_e writes.found).slot.inside (operand_inside c laws (operand_of c.x value) e.ty one.operand))
           (λ reached f' tells. store_leads c laws (facts c.x e.after held) (facts c.x m' no_values) quiet reached f' tells slot (operand_of c.x value) e.ty
           (has_operand c laws e.after held (operand_of c.x value) e.ty stands_e are_held one.operand (held_with c laws no_values (operand_of c.x value)))
@@ -268,13 +268,13 @@ module _ (c : Setting) (laws : Laws c) (names : Names) where
         ap (λ found. sources.is_print (option_map_or (λ (n : NodeFacts). n.element) found None)) own.found ∙ ap (λ (k : Meaning). sources.is_print (Some k)) meant in
         let code_is : code_of c.x no_values the_call ≡ print_code c.x at no_values (argument_list list_at (more (argument argument_at None value) no_more)) =
         ap (λ b. cond b (print_code c.x at no_values (argument_list list_at (more (argument argument_at None value) no_more))) nothing) is_printer in
-        let row_is : print_row c.x at (known_behind c.x (place_of value)) no_values (operand_of c.x value) ≡ leaf (site_of at) (facts c.x printed.after held) (prints (operand_of c.x value)) =
+        let row_is : print_row c.x at (known_behind c.x (place_of value)) no_values (operand_of c.x value) ≡ leaf (site_of at) (facts c.x printed.after held) (step.Output (operand_of c.x value)) =
         ap (λ k. print_row c.x at k no_values (operand_of c.x value)) one.behind in
         subst (λ (k : FlowModel). Does c (code_of c.x no_values the_call) (facts c.x m no_values) (facts c.x k no_values)) (sym (ap (λ (k : Evaluation). k.after) gives))
         (subst (λ (k : Code). Does c k (facts c.x m no_values) (facts c.x printed.after no_values)) (sym code_is)
         (does_both c laws (code_of c.x no_values value) _ (facts c.x m no_values) (facts c.x printed.after held) (facts c.x printed.after no_values) one.does
         (subst (λ (k : Code). Does c k (facts c.x printed.after held) (facts c.x printed.after no_values)) (sym row_is)
-        (does_step c laws (site_of at) (facts c.x printed.after held) (facts c.x printed.after no_values) (prints (operand_of c.x value)) (facts_inside c printed.after held stands_e are_held)
+        (does_step c laws (site_of at) (facts c.x printed.after held) (facts c.x printed.after no_values) (step.Output (operand_of c.x value)) (facts_inside c printed.after held stands_e are_held)
         (λ next. from_in c.g (operand_of c.x value) (operand_inside c laws (operand_of c.x value) printed.ty one.operand))
         (λ reached f' tells. print_leads c laws (facts c.x printed.after held) (facts c.x printed.after no_values) quiet reached f' tells (operand_of c.x value) printed.ty
         (has_operand c laws printed.after held (operand_of c.x value) printed.ty stands_e are_held one.operand (held_with c laws no_values (operand_of c.x value)))

@@ -1,5 +1,5 @@
 -- The code of a value does what the rules say of it.
-use Rattle.std.proofs.Common.{◌≡◌, ◌≢◌, ℕ, ◌+◌, ◌-◌, ◌<◌, Bool, true, false, cond, ◌&&◌, ◌||◌, List, [], ◌∷◌, ◌++◌, Option, Some, None, refl, sym, ap, ◌∙◌, subst, inl, inr}
+use Rattle.std.proofs.Common.{◌≡◌, ℕ, ◌+◌, ◌-◌, Bool, true, false, cond, List, [], ◌∷◌, ◌++◌, Option, Some, None, refl, sym, ap, ◌∙◌, subst, inl, inr}
 use Rattle.std.specs.Prelude.{All, find}
 use Rattle.std.specs.Option.{option_map_or}
 use Rattle.std.proofs.lemmas.List.Elements.{All-head, All-tail, All-cons, All-nil}
@@ -28,9 +28,10 @@ use Rattle.core_ir.specs.declared.points.Operand.{Operand}
 use Rattle.core_ir.specs.declared.points.Operand.TheVariants.{Slot, Constant}
 use Rattle.core_ir.specs.declared.points.SlotId.{SlotId}
 use Rattle.core_ir.specs.declared.values.Value.TheVariants.{Boolean}
-use Rattle.core_emit.specs.Code.{Code, stores}
 use Rattle.core_check.specs.Named.{IsOperand}
 use Rattle.core_check.specs.NamedSlots.{to_from_in}
+use Rattle.core_emit.specs.Code.{Code}
+use Rattle.core_emit.specs.declared.steps.Step.TheVariants as step
 use Rattle.elaborate.specs.Sources.{is_of_node, nowhere, known_before, known_behind, local_meant, slot_at, slot_of, slot_of_local}
 use Rattle.elaborate.specs.Known.{facts, holding}
 use Rattle.elaborate.specs.Rows.{code_of, name_row, operand_of, site_of, step_at, test_of_null}
@@ -154,17 +155,17 @@ module _ (c : Setting) (laws : Laws c) where
       before_here : known_before c.x at ≡ m
       before_here = ap (λ found. option_map_or (λ (n : NodeFacts). n.before) found nowhere) own.found
 
-      name_code : code_of c.x values (identifier at word) ≡ step_at c.x at m values (stores slot (Slot (slot_of_local c.x var)))
+      name_code : code_of c.x values (identifier at word) ≡ step_at c.x at m values (step.Store slot (Slot (slot_of_local c.x var)))
       name_code =
           ap (λ found. name_row c.x at values (local_meant (option_map_or (λ (n : NodeFacts). n.element) found None))) own.found
-          ∙ ap (λ k. step_at c.x at k values (stores slot (Slot (slot_of_local c.x var)))) before_here
+          ∙ ap (λ k. step_at c.x at k values (step.Store slot (Slot (slot_of_local c.x var)))) before_here
 
       name_does : Does c (code_of c.x values (identifier at word)) (facts c.x m values) (facts c.x m (values ++ slot ∷ []))
       name_does =
           let value = own.value (current_of l) refl in
           let quiet = unshared c laws m stands values are in
           subst (λ (code : Code). Does c code (facts c.x m values) (facts c.x m (values ++ slot ∷ []))) (sym name_code)
-          (does_step c laws (site_of at) (facts c.x m values) (facts c.x m (values ++ slot ∷ [])) (stores slot (Slot (slot_of_local c.x var))) (facts_inside c m values stands are)
+          (does_step c laws (site_of at) (facts c.x m values) (facts c.x m (values ++ slot ∷ [])) (step.Store slot (Slot (slot_of_local c.x var))) (facts_inside c m values stands are)
           (λ next. to_from_in c.g slot (Slot (slot_of_local c.x var)) value.0.inside (found_of c m var l stands is).slot.inside)
           (λ reached f' tells. store_leads c laws (facts c.x m values) (facts c.x m (values ++ slot ∷ [])) quiet reached f' tells slot (Slot (slot_of_local c.x var)) (current_of l)
           (has_local c laws m stands values are var l is assigned)

@@ -1,5 +1,5 @@
 -- What the proofs of this crate go by: a function with the sources of its code, and the laws of the crates below.
-use Rattle.std.specs.Prelude.{◌≡◌, ◌≢◌, ℕ, true, ◌||◌, nat_eq, List, [], ◌∷◌, All, if◌then◌else◌, Some}
+use Rattle.std.specs.Prelude.{◌≡◌, ◌≢◌, ℕ, true, nat_eq, List, [], All, if◌then◌else◌, Some}
 use Rattle.std.specs.Option.{option_map}
 use Rattle.dart_types.specs.FormedTable.{FormedTable}
 use Rattle.dart_types.specs.Ty.{Ty}

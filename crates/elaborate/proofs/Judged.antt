@@ -1,5 +1,5 @@
 -- The code of every value that is built does what the rules say of it.
-use Rattle.std.proofs.Common.{◌≡◌, ℕ, Bool, true, false, cond, ◌&&◌, List, [], ◌∷◌, ◌++◌, Option, Some, None, refl, sym, ap, ◌∙◌, subst}
+use Rattle.std.proofs.Common.{◌≡◌, Bool, true, false, cond, ◌&&◌, List, [], ◌∷◌, ◌++◌, Option, Some, None, refl, sym, ap, ◌∙◌, subst}
 use Rattle.std.specs.Option.{option_map_or}
 use Rattle.std.proofs.lemmas.Bool.{and_parts}
 use Rattle.dart_tree.specs.Tree.{Tree, assignment, call, identifier, integer_literal, boolean_literal, null_literal, parenthesis, binary_expression}
@@ -28,7 +28,7 @@ use Rattle.built_forms.specs.Forms.{is_effect, is_operator, is_value}
 use Rattle.rule_laws.specs.Plain.{is_value_type}
 use Rattle.rule_laws.specs.Steps.{IsStep}
 use Rattle.core_ir.specs.declared.points.SlotId.{SlotId}
-use Rattle.core_emit.specs.Code.{adds, compares, differs}
+use Rattle.core_emit.specs.declared.steps.Step.TheVariants as step
 use Rattle.elaborate.specs.Sources.{local_meant, local_named, slot_at}
 use Rattle.elaborate.specs.Known.{holding}
 use Rattle.elaborate.specs.Rows.{compared_local, null_test, operand_of}
@@ -130,7 +130,7 @@ module _ (c : Setting) (laws : Laws c) (names : Names) where
       let own = said_last c row.nodes (said_of_expression at.node None m row) (subst (λ (k : Evaluation). AreSaid c k.nodes) is said) in
       let slot = own.value row.ty refl in
       subst (λ (k : Evaluation). Valued c values m (binary_expression at operator left right) k) (sym is) (record {
-        does = operator_does c laws at operator left right m values e e' stands_r are l r row.ty slot (adds (slot_at c.x at) (operand_of c.x left) (operand_of c.x right)) refl (operands_inside c laws at operator left right m values e e' stands_r are l r row.ty slot slot.0)
+        does = operator_does c laws at operator left right m values e e' stands_r are l r row.ty slot (step.Add (slot_at c.x at) (operand_of c.x left) (operand_of c.x right)) refl (operands_inside c laws at operator left right m values e e' stands_r are l r row.ty slot slot.0)
             (λ reached f' tells. adds_lead c laws at operator left right m values e e' stands_r are l r row.ty slot reached f' tells operates.gives (record { one = operates.one; other = operates.other; gives = operates.gives }));
         operand = operand_slot c (slot_at c.x at) row.ty slot;
         value = value;
@@ -165,7 +165,7 @@ module _ (c : Setting) (laws : Laws c) (names : Names) where
       let own = said_last c row.nodes (said_of_expression at.node None m row) (subst (λ (k : Evaluation). AreSaid c k.nodes) is said) in
       let slot = own.value row.ty refl in
       subst (λ (k : Evaluation). Valued c values m (binary_expression at operator left right) k) (sym is) (record {
-        does = operator_does c laws at operator left right m values e e' stands_r are l r row.ty slot (compares (slot_at c.x at) (operand_of c.x left) (operand_of c.x right)) refl (operands_inside c laws at operator left right m values e e' stands_r are l r row.ty slot slot.0)
+        does = operator_does c laws at operator left right m values e e' stands_r are l r row.ty slot (step.Less (slot_at c.x at) (operand_of c.x left) (operand_of c.x right)) refl (operands_inside c laws at operator left right m values e e' stands_r are l r row.ty slot slot.0)
             (λ reached f' tells. compares_lead c laws at operator left right m values e e' stands_r are l r row.ty slot reached f' tells operates.gives (record { one = operates.one; other = operates.other; gives = operates.gives }));
         operand = operand_slot c (slot_at c.x at) row.ty slot;
         value = value;
@@ -196,7 +196,7 @@ module _ (c : Setting) (laws : Laws c) (names : Names) where
       let slot = own.value bool refl in
       let same = compared_same left right None None m e.after (said_left c e.nodes e'.nodes nodes) (said_right c e.nodes e'.nodes nodes) in
       subst (λ (k : Evaluation). Valued c values m (binary_expression at operator left right) k) (sym is) (record {
-        does = operator_does c laws at operator left right m values e e' stands_r are l r bool slot (differs (slot_at c.x at) (operand_of c.x left) (operand_of c.x right)) refl (operands_inside c laws at operator left right m values e e' stands_r are l r bool slot slot.0)
+        does = operator_does c laws at operator left right m values e e' stands_r are l r bool slot (step.NotEqual (slot_at c.x at) (operand_of c.x left) (operand_of c.x right)) refl (operands_inside c laws at operator left right m values e e' stands_r are l r bool slot slot.0)
             (λ reached f' tells. differs_lead c laws at operator left right m values e e' stands_r are l r bool slot reached f' tells refl);
         operand = operand_slot c (slot_at c.x at) bool slot;
         value = refl;

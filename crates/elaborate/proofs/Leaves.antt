@@ -1,5 +1,5 @@
 -- What steps lead to: values that are held, locals that are written and declared, output.
-use Rattle.std.proofs.Common.{◌≡◌, ◌≢◌, ℕ, ◌+◌, ◌-◌, ◌<◌, true, false, cond, ◌||◌, [], ◌∷◌, ◌++◌, length, refl, sym, ap, ◌∙◌, subst, IsTrue, inl, inr}
+use Rattle.std.proofs.Common.{◌≡◌, ◌≢◌, ℕ, ◌-◌, ◌<◌, true, false, cond, [], ◌∷◌, length, refl, sym, ap, ◌∙◌, subst, IsTrue, inl, inr}
 use Rattle.std.specs.Prelude.{All}
 use Rattle.std.proofs.lemmas.Bool.{cases_eq, ne_eqb, eq-eqb}
 use Rattle.std.proofs.lemmas.List.Elements.{All-cons, All-nil}
@@ -20,7 +20,7 @@ use Rattle.core_check.specs.Types.{held_as, known_on, type_from, changed}
 use Rattle.core_check.specs.declared.parts.How.TheVariants.{Fresh, Holds}
 use Rattle.core_check.specs.declared.parts.TypeSource.{TypeSource}
 use Rattle.core_check.specs.declared.parts.TypeSource.TheVariants.{IntType, BoolType, OperandType}
-use Rattle.core_emit.specs.Code.{stores, declares, initializes, adds, compares, differs, prints, goes_on}
+use Rattle.core_emit.specs.declared.steps.Step.TheVariants as step
 use Rattle.core_emit.specs.Emitted.{StepLeads}
 use Rattle.elaborate.proofs.Given.{Setting, Laws}
 use Rattle.elaborate.proofs.Tells.{Tells}
@@ -120,7 +120,7 @@ module _ (c : Setting) (laws : Laws c) (f after : PointFacts) (unshared : IsUnsh
 
   module _ (f' : PointFacts) (tells : Tells c after f') where
     -- an operand's value is stored
-    pub store_leads : (to : SlotId) (from : Operand) (ty : Ty) → Has c f from ty → Given to ty → StepLeads c.rows c.g f (stores to from) f'
+    pub store_leads : (to : SlotId) (from : Operand) (ty : Ty) → Has c f from ty → Given to ty → StepLeads c.rows c.g f (step.Store to from) f'
     store_leads to from ty has given p next rows is = record {
       read = all_one (IsReadable f) from has.assigned;
       stored = all_one (FitsDeclared p c.g f) (puts to (OperandType from)) (subst (λ r. IsTrue (sub r.table (operand_type c.g f from) (declared_at c.g to.0))) (sym rows) (subst (λ t. IsTrue (sub c.rows.table t (declared_at c.g to.0))) (sym has.typed) given.fits));
@@ -129,7 +129,7 @@ module _ (c : Setting) (laws : Laws c) (f after : PointFacts) (unshared : IsUnsh
     }
 
     -- a local is declared with it
-    pub initialize_leads : (to : SlotId) (from : Operand) (ty : Ty) → Has c f from ty → Given to ty → StepLeads c.rows c.g f (initializes to from) f'
+    pub initialize_leads : (to : SlotId) (from : Operand) (ty : Ty) → Has c f from ty → Given to ty → StepLeads c.rows c.g f (step.Initialize to from) f'
     initialize_leads to from ty has given p next rows is = record {
       read = all_one (IsReadable f) from has.assigned;
       stored = all_one (FitsDeclared p c.g f) (puts to (OperandType from)) (subst (λ r. IsTrue (sub r.table (operand_type c.g f from) (declared_at c.g to.0))) (sym rows) (subst (λ t. IsTrue (sub c.rows.table t (declared_at c.g to.0))) (sym has.typed) given.fits));
@@ -140,7 +140,7 @@ module _ (c : Setting) (laws : Laws c) (f after : PointFacts) (unshared : IsUnsh
     -- a local is declared without a value
     pub declare_leads : (to : SlotId)
         → SlotImplies c.rows.table (declared_at c.g to.0) unlisted (known_of after to.0)
-        → ((i : ℕ) → i < length c.g.slots → i ≢ to.0 → SlotImplies c.rows.table (declared_at c.g i) (known_of f i) (known_of after i)) → StepLeads c.rows c.g f (declares to) f'
+        → ((i : ℕ) → i < length c.g.slots → i ≢ to.0 → SlotImplies c.rows.table (declared_at c.g i) (known_of f i) (known_of after i)) → StepLeads c.rows c.g f (step.Declare to) f'
     declare_leads to here others p next rows is = record {
       read = All-nil (IsReadable f);
       stored = All-nil (FitsDeclared p c.g f);
@@ -156,7 +156,7 @@ module _ (c : Setting) (laws : Laws c) (f after : PointFacts) (unshared : IsUnsh
     own_type p rows to ty fits = subst (λ r. IsTrue (sub r.table ty (declared_at c.g to.0))) (sym rows) fits
 
     pub add_leads : (to : SlotId) (left right : Operand) (one other : Ty) → Has c f left one → Has c f right other → IsTrue (sub c.rows.table one int) → IsTrue (sub c.rows.table other int)
-        → Given to int → StepLeads c.rows c.g f (adds to left right) f'
+        → Given to int → StepLeads c.rows c.g f (step.Add to left right) f'
     add_leads to left right one other l r lf rf given p next rows is = record {
       read = all_two (IsReadable f) left right l.assigned r.assigned;
       stored = all_one (FitsDeclared p c.g f) (puts to IntType) (own_type p rows to int given.fits);
@@ -165,7 +165,7 @@ module _ (c : Setting) (laws : Laws c) (f after : PointFacts) (unshared : IsUnsh
     }
 
     pub compare_leads : (to : SlotId) (left right : Operand) (one other : Ty) → Has c f left one → Has c f right other → IsTrue (sub c.rows.table one int) → IsTrue (sub c.rows.table other int)
-        → Given to bool → StepLeads c.rows c.g f (compares to left right) f'
+        → Given to bool → StepLeads c.rows c.g f (step.Less to left right) f'
     compare_leads to left right one other l r lf rf given p next rows is = record {
       read = all_two (IsReadable f) left right l.assigned r.assigned;
       stored = all_one (FitsDeclared p c.g f) (puts to BoolType) (own_type p rows to bool given.fits);
@@ -174,7 +174,7 @@ module _ (c : Setting) (laws : Laws c) (f after : PointFacts) (unshared : IsUnsh
     }
 
     pub differ_leads : (to : SlotId) (left right : Operand) (one other : Ty) → Has c f left one → Has c f right other
-        → Given to bool → StepLeads c.rows c.g f (differs to left right) f'
+        → Given to bool → StepLeads c.rows c.g f (step.NotEqual to left right) f'
     differ_leads to left right one other l r given p next rows is = record {
       read = all_two (IsReadable f) left right l.assigned r.assigned;
       stored = all_one (FitsDeclared p c.g f) (puts to BoolType) (own_type p rows to bool given.fits);
@@ -182,7 +182,7 @@ module _ (c : Setting) (laws : Laws c) (f after : PointFacts) (unshared : IsUnsh
       leads = all_one (Leads p c.g f) (way next (now_holds to BoolType ∷ [])) (leads_to c laws p f (way next (now_holds to BoolType ∷ [])) after f' rows is (way_holds c laws f after unshared reached p next to BoolType bool refl given.here given.others) tells);
     }
 
-    pub print_leads : (from : Operand) (ty : Ty) → Has c f from ty → Tells c f after → IsTrue f.reachable → StepLeads c.rows c.g f (prints from) f'
+    pub print_leads : (from : Operand) (ty : Ty) → Has c f from ty → Tells c f after → IsTrue f.reachable → StepLeads c.rows c.g f (step.Output from) f'
     print_leads from ty has same here p next rows is = record {
       read = all_one (IsReadable f) from has.assigned;
       stored = All-nil (FitsDeclared p c.g f);
@@ -190,7 +190,7 @@ module _ (c : Setting) (laws : Laws c) (f after : PointFacts) (unshared : IsUnsh
       leads = all_one (Leads p c.g f) (way next []) (leads_to c laws p f (way next []) after f' rows is (way_straight c laws f after unshared reached p next same here) tells);
     }
 
-    pub go_leads : Tells c f after → IsTrue f.reachable → StepLeads c.rows c.g f goes_on f'
+    pub go_leads : Tells c f after → IsTrue f.reachable → StepLeads c.rows c.g f step.GoOn f'
     go_leads same here p next rows is = record {
       read = All-nil (IsReadable f);
       stored = All-nil (FitsDeclared p c.g f);

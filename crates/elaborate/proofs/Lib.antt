@@ -23,6 +23,5 @@ pub mod Sources
 pub mod SizeOfLists
 pub mod LookEntries
 pub mod LookSlots
-pub mod LayValues
-pub mod LayLengths
 pub mod Sizes
+pub mod MadeCode

@@ -1,5 +1,5 @@
 -- Code has no more than two points for each node of its tree.
-use Rattle.std.proofs.Common.{◌≡◌, ℕ, ◌+◌, ◌*◌, ◌<◌, ◌≤◌, Bool, true, false, List, [], ◌∷◌, Option, Some, None, if◌then◌else◌, arith}
+use Rattle.std.proofs.Common.{ℕ, ◌+◌, ◌*◌, ◌≤◌, Bool, true, false, List, [], Option, Some, None, if◌then◌else◌, arith}
 use Rattle.std.specs.Option.{option_map_or}
 use Rattle.dart_tree.specs.Tree.{Tree, Trees, Part, no_more, more, absent, present, identifier, parenthesis, call, binary_expression, assignment, argument_list, argument, variable_list, variable, block, variable_statement, expression_statement, if_statement, while_statement}
 use Rattle.dart_tree.specs.Numbers.{nodes_in, nodes_in_all, nodes_in_part}
@@ -9,10 +9,13 @@ use Rattle.flow_model.specs.Flow.{FlowModel}
 use Rattle.flow_model.specs.declared.locals.LocalId.{LocalId}
 use Rattle.core_ir.specs.declared.points.Operand.{Operand}
 use Rattle.core_ir.specs.declared.points.SlotId.{SlotId}
-use Rattle.core_emit.specs.Code.{Code, Step, Test, nothing}
+use Rattle.core_emit.specs.Code.{Code, nothing}
+use Rattle.core_emit.specs.declared.steps.Step.{Step}
+use Rattle.core_emit.specs.declared.steps.Test.{Test}
 use Rattle.core_emit.specs.Emitted.{size_of}
 use Rattle.elaborate.specs.Sources.{Sources, is_print, known_behind, local_meant, named_at, slot_at}
 use Rattle.elaborate.specs.Known.{holding}
+use Rattle.elaborate.specs.Elaborated.{function_code}
 use Rattle.elaborate.specs.Rows.{all_declared, assignment_row, branch_code, code_of, condition_of, condition_row, declared_code, effect_code, list_code, name_row, one_printed, operand_of, operator_step, print_code, printed, statement_code, statements_code, step_at, test_of_null}
 
 -- what has no code
@@ -111,3 +114,7 @@ mutual
   pub size_of-branch_code : (x : Sources) (part : Part) → size_of (branch_code x part) ≤ 2 * nodes_in_part part
   size_of-branch_code x absent = none 0
   size_of-branch_code x (present tree) = size_of-statement_code x tree
+
+-- that of a function
+pub size_of-function_code : (x : Sources) (body : Tree) → size_of (function_code x body) ≤ 2 * nodes_in body + 1
+size_of-function_code x body = omega (arith, size_of-statement_code x body)

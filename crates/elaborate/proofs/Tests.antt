@@ -27,7 +27,7 @@ use Rattle.core_check.specs.Shapes.{asks_of, narrows, on_condition, way, straigh
 use Rattle.core_check.specs.Types.{held_as, known_on, changed, without_null}
 use Rattle.core_check.specs.declared.parts.How.TheVariants.{Narrows}
 use Rattle.core_check.specs.declared.parts.TypeSource.TheVariants.{BoolType, NonNullType}
-use Rattle.core_emit.specs.Code.{on_truth, on_not_null}
+use Rattle.core_emit.specs.declared.steps.Test.TheVariants as test
 use Rattle.core_emit.specs.Emitted.{TestLeads}
 use Rattle.elaborate.proofs.Given.{Setting, Laws}
 use Rattle.elaborate.proofs.Tells.{Tells}
@@ -70,7 +70,7 @@ module _ (c : Setting) (laws : Laws c) (f : PointFacts) (here : IsTrue f.reachab
   -- a truth is tested: where it is known, one way is enough
   pub truth_leads : (on : Operand) (ty : Ty) (one other : PointFacts) → IsUnshared f → Has c f on ty → IsTrue (sub c.rows.table ty bool)
       → ((on ≡ Constant (Boolean false) → ⊥) → Reaches c f one) → ((on ≡ Constant (Boolean true) → ⊥) → Reaches c f other)
-      → (f' f'' : PointFacts) → Tells c one f' → Tells c other f'' → TestLeads c.rows c.g f (on_truth on) f' f''
+      → (f' f'' : PointFacts) → Tells c one f' → Tells c other f'' → TestLeads c.rows c.g f (test.OnTruth on) f' f''
   truth_leads (Slot slot) ty one other unshared has fits a b f' f'' tells tells' p first second rows is is' =
       both_ways_fine p (Slot slot) ty first second one other f' f'' rows is is' unshared has fits (a (λ e. cc)) (b (λ e. cc)) tells tells'
   truth_leads (Constant Null) ty one other unshared has fits a b f' f'' tells tells' p first second rows is is' =
@@ -87,7 +87,7 @@ module _ (c : Setting) (laws : Laws c) (f : PointFacts) (here : IsTrue f.reachab
       → Reaches c f other → IsTrue one.reachable
       → SlotImplies c.rows.table (declared_at c.g slot.0) (record { assigned = true; held = Own (without_null c.rows.table (slot_type c.g f slot)) }) (known_of one slot.0)
       → ((i : ℕ) → i < length c.g.slots → i ≢ slot.0 → SlotImplies c.rows.table (declared_at c.g i) (known_of f i) (known_of one i))
-      → (f' f'' : PointFacts) → Tells c one f' → Tells c other f'' → TestLeads c.rows c.g f (on_not_null slot) f' f''
+      → (f' f'' : PointFacts) → Tells c one f' → Tells c other f'' → TestLeads c.rows c.g f (test.OnNotNull slot) f' f''
   null_leads slot one other unshared assigned b reached narrowed others f' f'' tells tells' p first second rows is is' = record {
     read = all_one (IsReadable f) (Slot slot) assigned;
     stored = All-nil (FitsDeclared p c.g f);

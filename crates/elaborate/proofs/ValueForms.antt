@@ -1,8 +1,7 @@
 -- The code of each form of a value does what the rules say of it.
-use Rattle.std.proofs.Common.{◌≡◌, ◌≢◌, ℕ, ◌+◌, ◌-◌, ◌<◌, Bool, true, false, cond, ◌&&◌, ◌||◌, nat_eq, List, [], ◌∷◌, ◌++◌, Option, Some, None, is_some, refl, sym, ap, ◌∙◌, subst, IsTrue}
+use Rattle.std.proofs.Common.{◌≡◌, ℕ, ◌+◌, ◌-◌, Bool, true, false, cond, nat_eq, List, [], ◌∷◌, ◌++◌, Option, Some, None, is_some, refl, sym, ap, ◌∙◌, subst, IsTrue}
 use Rattle.std.specs.Prelude.{All, find}
 use Rattle.std.specs.Option.{option_map_or}
-use Rattle.dart_tree.specs.Tree as tree
 use Rattle.dart_tree.specs.Tree.{Tree, integer_literal, boolean_literal, null_literal, parenthesis, binary_expression}
 use Rattle.dart_tree.specs.Places.{place_of}
 use Rattle.dart_tree.specs.declared.operators.BinaryOperator.{BinaryOperator}
@@ -15,14 +14,15 @@ use Rattle.judgement.specs.Given.{Evaluation, expression_row, faulty, of_type, s
 use Rattle.judgement.specs.ExpressionRows.{boolean_row, integer_row, int, bool}
 use Rattle.judgement.specs.Literals.{integer_of}
 use Rattle.judgement.specs.Surroundings.{Names, lexeme_of}
-use Rattle.judgement.specs.Judgement as rules
 use Rattle.judgement.specs.Judgement.{element_of, evaluate}
 use Rattle.judgement.specs.declared.code.DiagnosticCode.TheVariants.{IntegerLiteralOutOfRange}
 use Rattle.core_ir.specs.PointFacts.{PointFacts}
 use Rattle.core_ir.specs.Values.{declared_at}
 use Rattle.core_ir.specs.declared.points.PointId.{PointId}
 use Rattle.core_ir.specs.declared.points.SlotId.{SlotId}
-use Rattle.core_emit.specs.Code.{Code, Step, adds, compares, differs, leaf, nothing}
+use Rattle.core_emit.specs.Code.{Code, leaf, nothing}
+use Rattle.core_emit.specs.declared.steps.Step.{Step}
+use Rattle.core_emit.specs.declared.steps.Step.TheVariants as step
 use Rattle.core_emit.specs.Emitted.{IsStepOf, StepLeads}
 use Rattle.core_check.specs.NamedSlots.{to_both_in}
 use Rattle.core_check.specs.Shapes.{names as slots_named}
@@ -174,19 +174,19 @@ module _ (c : Setting) (laws : Laws c) where
 
       -- the three operators
       module _ (reached : IsTrue e'.after.reachable) (f' : PointFacts) (tells : Tells c (facts c.x e'.after (values ++ slot ∷ [])) f') where
-        pub adds_lead : t ≡ int → Operates c e.ty e'.ty t int → StepLeads c.rows c.g (facts c.x e'.after both_held) (adds slot (operand_of c.x left) (operand_of c.x right)) f'
+        pub adds_lead : t ≡ int → Operates c e.ty e'.ty t int → StepLeads c.rows c.g (facts c.x e'.after both_held) (step.Add slot (operand_of c.x left) (operand_of c.x right)) f'
         adds_lead is operates =
             let quiet = unshared c laws e'.after stands both_held are_held in
             add_leads c laws (facts c.x e'.after both_held) (facts c.x e'.after (values ++ slot ∷ [])) quiet reached f' tells slot (operand_of c.x left) (operand_of c.x right) e.ty e'.ty has_left has_right operates.one operates.other
             (gives_value c laws e'.after stands both_held values are_held (λ i here. fewer_held c laws (holding values (operand_of c.x left)) (operand_of c.x right) i (fewer_held c laws values (operand_of c.x left) i here)) reached slot int own.0 (own.1 ∙ is) quiet)
 
-        pub compares_lead : t ≡ bool → Operates c e.ty e'.ty t bool → StepLeads c.rows c.g (facts c.x e'.after both_held) (compares slot (operand_of c.x left) (operand_of c.x right)) f'
+        pub compares_lead : t ≡ bool → Operates c e.ty e'.ty t bool → StepLeads c.rows c.g (facts c.x e'.after both_held) (step.Less slot (operand_of c.x left) (operand_of c.x right)) f'
         compares_lead is operates =
             let quiet = unshared c laws e'.after stands both_held are_held in
             compare_leads c laws (facts c.x e'.after both_held) (facts c.x e'.after (values ++ slot ∷ [])) quiet reached f' tells slot (operand_of c.x left) (operand_of c.x right) e.ty e'.ty has_left has_right operates.one operates.other
             (gives_value c laws e'.after stands both_held values are_held (λ i here. fewer_held c laws (holding values (operand_of c.x left)) (operand_of c.x right) i (fewer_held c laws values (operand_of c.x left) i here)) reached slot bool own.0 (own.1 ∙ is) quiet)
 
-        pub differs_lead : t ≡ bool → StepLeads c.rows c.g (facts c.x e'.after both_held) (differs slot (operand_of c.x left) (operand_of c.x right)) f'
+        pub differs_lead : t ≡ bool → StepLeads c.rows c.g (facts c.x e'.after both_held) (step.NotEqual slot (operand_of c.x left) (operand_of c.x right)) f'
         differs_lead is =
             let quiet = unshared c laws e'.after stands both_held are_held in
             differ_leads c laws (facts c.x e'.after both_held) (facts c.x e'.after (values ++ slot ∷ [])) quiet reached f' tells slot (operand_of c.x left) (operand_of c.x right) e.ty e'.ty has_left has_right

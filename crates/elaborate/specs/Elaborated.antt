@@ -17,7 +17,8 @@ use Rattle.core_ir.specs.Program.{Program}
 use Rattle.core_ir.specs.declared.points.FunctionId.{FunctionId}
 use Rattle.core_ir.specs.declared.points.Term.TheVariants.{End}
 use Rattle.core_ir.specs.PointFacts.{PointFacts}
-use Rattle.core_emit.specs.Code.{Code, leaf, sequence, goes_on}
+use Rattle.core_emit.specs.Code.{Code, leaf, sequence}
+use Rattle.core_emit.specs.declared.steps.Step.TheVariants as step
 use Rattle.core_emit.specs.Emitted.{Made, emit, with_point}
 use Rattle.elaborate.specs.Sources.{Sources, known_behind, local_meant}
 use Rattle.elaborate.specs.Known.{facts}
@@ -71,7 +72,7 @@ entry_facts = record { reachable = true; listed = [] }
 
 -- the code of a function with this body
 abbrev pub function_code : Sources → (body : Tree) → Code
-function_code x body = sequence (leaf None entry_facts goes_on) (statement_code x body)
+function_code x body = sequence (leaf None entry_facts step.GoOn) (statement_code x body)
 
 -- where the function ends
 abbrev pub end_of_function : Sources → (body : Tree) → Made

@@ -3,4 +3,3 @@ pub mod Known
 pub mod Rows
 pub mod Elaborated
 pub mod Lookups
-pub mod Laid

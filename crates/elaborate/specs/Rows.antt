@@ -1,5 +1,5 @@
 -- The code of a body: one row for each form, from what is said of its nodes and the code of its parts. Where an expression's code is done, its value stands in the slot of its node, or it is a constant.
-use Rattle.std.specs.Prelude.{ℕ, List, [], ◌∷◌, ◌++◌, if◌then◌else◌, Option, Some, None}
+use Rattle.std.specs.Prelude.{ℕ, List, [], if◌then◌else◌, Option, Some, None}
 use Rattle.std.specs.Int.{cast_signed}
 use Rattle.std.specs.Option.{option_map_or}
 use mir.Syntax.{w64}
@@ -19,7 +19,11 @@ use Rattle.core_ir.specs.declared.points.Operand.TheVariants.{Slot, Constant}
 use Rattle.core_ir.specs.declared.points.SlotId.{SlotId}
 use Rattle.core_ir.specs.declared.points.Span.{Span}
 use Rattle.core_ir.specs.declared.values.Value.TheVariants.{Null, Integer, Boolean}
-use Rattle.core_emit.specs.Code.{Code, Step, Test, nothing, leaf, sequence, choice, loop, stores, declares, initializes, adds, compares, differs, prints, on_truth, on_not_null}
+use Rattle.core_emit.specs.Code.{Code, nothing, leaf, sequence, choice, loop}
+use Rattle.core_emit.specs.declared.steps.Step.{Step}
+use Rattle.core_emit.specs.declared.steps.Step.TheVariants as step
+use Rattle.core_emit.specs.declared.steps.Test.{Test}
+use Rattle.core_emit.specs.declared.steps.Test.TheVariants as test
 use Rattle.elaborate.specs.Sources.{Sources, known_before, known_behind, named_at, local_meant, local_named, is_print, slot_at, slot_of_local, lexeme_of}
 use Rattle.elaborate.specs.Known.{facts, holding}
 
@@ -52,13 +56,13 @@ operand_of x tree = Slot (slot_at x (place_of tree))
 -- A name of a local: its value is held in the slot of the name.
 abbrev pub name_row : Sources → Place → (values : List SlotId) → Option LocalId → Code
 name_row x at values None = nothing
-name_row x at values (Some var) = step_at x at (known_before x at) values (stores (slot_at x at) (Slot (slot_of_local x var)))
+name_row x at values (Some var) = step_at x at (known_before x at) values (step.Store (slot_at x at) (Slot (slot_of_local x var)))
 
 -- the step of an operator, so far `+`, `<` and `!=`
 abbrev pub operator_step : BinaryOperatorKind → SlotId → (left right : Operand) → Option Step
-operator_step operator.Add to left right = Some (adds to left right)
-operator_step operator.Less to left right = Some (compares to left right)
-operator_step operator.NotEqual to left right = Some (differs to left right)
+operator_step operator.Add to left right = Some (step.Add to left right)
+operator_step operator.Less to left right = Some (step.Less to left right)
+operator_step operator.NotEqual to left right = Some (step.NotEqual to left right)
 operator_step _ to left right = None
 
 -- An operator, once both its sides are held: it stands where this is known.
@@ -69,11 +73,11 @@ operator_row x at m values kind left right =
 -- An assignment, once its value is held: it is written to the local.
 abbrev pub assignment_row : Sources → Place → FlowModel → (values : List SlotId) → Option LocalId → (value : Operand) → Code
 assignment_row x at m values None value = nothing
-assignment_row x at m values (Some var) value = step_at x at m (holding values value) (stores (slot_of_local x var) value)
+assignment_row x at m values (Some var) value = step_at x at m (holding values value) (step.Store (slot_of_local x var) value)
 
 -- A call of `print`, once its argument is held.
 abbrev pub print_row : Sources → Place → FlowModel → (values : List SlotId) → Operand → Code
-print_row x at m values value = step_at x at m (holding values value) (prints value)
+print_row x at m values value = step_at x at m (holding values value) (step.Output value)
 
 abbrev mutual
   -- the code of an expression, where these values are held: the left side of an operator is done before the right one, and is held meanwhile
@@ -109,7 +113,7 @@ compared_local x left right =
 
 -- the test of a comparison of a local with `null`, if an operator is one
 abbrev pub null_test : Sources → BinaryOperatorKind → Option LocalId → Option Test
-null_test x operator.NotEqual (Some var) = Some (on_not_null (slot_of_local x var))
+null_test x operator.NotEqual (Some var) = Some (test.OnNotNull (slot_of_local x var))
 null_test x operator.NotEqual None = None
 null_test x _ compared = None
 
@@ -127,7 +131,7 @@ pub record Condition : Type 0 where
 
 abbrev pub condition_row : Sources → (values : List SlotId) → Tree → Option Test → Condition
 condition_row x values tree (Some test) = record { code = nothing; test = test; values = values }
-condition_row x values tree None = record { code = code_of x values tree; test = on_truth (operand_of x tree); values = holding values (operand_of x tree) }
+condition_row x values tree None = record { code = code_of x values tree; test = test.OnTruth (operand_of x tree); values = holding values (operand_of x tree) }
 
 abbrev pub condition_of : Sources → (values : List SlotId) → Tree → Condition
 condition_of x values tree = condition_row x values tree (test_of_null x tree)
@@ -148,11 +152,11 @@ while_row x at condition c body =
 abbrev pub declared_row : Sources → Place → Name → Code
 declared_row x at name =
     step_at x at (known_before x at) []
-    (if is_known (λ l. l.assigned) (known_behind x at) (local_of name) then initializes (slot_of_local x (local_of name)) (Constant Null) else declares (slot_of_local x (local_of name)))
+    (if is_known (λ l. l.assigned) (known_behind x at) (local_of name) then step.Initialize (slot_of_local x (local_of name)) (Constant Null) else step.Declare (slot_of_local x (local_of name)))
 
 -- A variable, once its initializer is held.
 abbrev pub initialized_row : Sources → Place → Name → FlowModel → Operand → Code
-initialized_row x at name m value = step_at x at m (holding [] value) (initializes (slot_of_local x (local_of name)) value)
+initialized_row x at name m value = step_at x at m (holding [] value) (step.Initialize (slot_of_local x (local_of name)) value)
 
 abbrev pub declared_code : Sources → Tree → Code
 declared_code x (variable at name absent) = declared_row x at name

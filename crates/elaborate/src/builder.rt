@@ -1,41 +1,31 @@
-//! The points of a program that is being laid out, from its end to its start.
+//! What is known at the points of code that is made.
 
-ghost use Rattle.std.specs.Prelude.{◌≡◌, ◌+◌, ◌<◌, ◌^◌, [], true, IfOk, IsTrue, OnOk, fold, if◌then◌else◌, length, map};
-ghost use Rattle.core_emit.specs.Code.{Step, step_to};
-ghost use Rattle.core_emit.specs.Emitted.{with_point, with_term};
+ghost use Rattle.std.specs.Prelude.{◌≡◌, [], true, IfOk, IsTrue, OnOk, fold, if◌then◌else◌, map};
 ghost use Rattle.core_ir.specs.PointFacts.{put};
 ghost use Rattle.core_ir.specs.declared.facts.Held.TheVariants.{Declared, Shared};
-ghost use Rattle.elaborate.specs.Elaborated.{main_function};
 ghost use Rattle.elaborate.specs.Known as known;
-ghost use Rattle.elaborate.specs.Laid.{IsLaid, made};
 ghost use Rattle.elaborate.specs.Rows.{site_of, step_at};
 
 use crate::said::Said;
-use core_ir::{
-    Facts, FunctionId, Held, Known, Pages, Point, PointId, SharedFact, SlotFact, SlotId, Span,
-    Term, put_lists_in_order,
-};
+use core_emit::{Code, Step};
+use core_ir::{Facts, Held, Known, Pages, SharedFact, SlotFact, SlotId, Span, put_lists_in_order};
 use dart_tree::Place;
 use flow_model::{Facts as LocalFacts, Flow};
 use std::alloc::{AllocError, Global};
 
-/// The points that were laid, and what was last known of the locals, of each slot and of many in a row,
-/// which points at which the same is known share.
+/// What was last known of the locals, of each slot and of many in a row, which points at which the same is
+/// known share.
 #[derive(Drop)]
 pub(crate) struct Builder {
     alloc: Global,
     shared: Vec<Option<SharedFact>>,
     pages: Pages,
     last: Option<Facts>,
-    /// The points.
-    pub(crate) points: Vec<Point>,
 }
 
 impl Builder {
-    /// No point is laid yet, for a function with so many slots.
-    pub(crate) fn new(alloc: Global, slots: usize) -> Result<Builder, AllocError>
-        ensures { IfOk result (λ build. build.points.items ≡ []) }
-    {
+    /// Nothing is known yet, for a function with so many slots.
+    pub(crate) fn new(alloc: Global, slots: usize) -> Result<Builder, AllocError> {
         let mut shared = Vec::new(alloc);
         for _ in 0..slots {
             shared.push(None)?;
@@ -45,7 +35,6 @@ impl Builder {
             shared,
             pages: Pages::new(alloc),
             last: None,
-            points: Vec::new(alloc),
         })
     }
 
@@ -54,50 +43,20 @@ impl Builder {
         self.alloc
     }
 
-    /// Lays a point.
-    pub(crate) fn lay(
-        &mut self,
-        site: Option<Span>,
-        facts: Facts,
-        term: Term,
-    ) -> Result<PointId, AllocError>
-        requires { length self.old.points.items < 2 ^ 32 }
-        ensures { IfOk result (λ entry. made self.new.points.items entry ≡ with_point main_function site facts term self.old.points.items) }
-    {
-        let entry = PointId(self.points.len() as u32);
-        self.points.push(Point {
-            function: FunctionId(0),
-            site,
-            facts,
-            term,
-        })?;
-        Ok(entry)
-    }
-
-    /// Lays the point of a step that is done where a node stands, where this is known of the locals and
-    /// these values are held.
-    pub(crate) fn lay_step(
+    /// The code of a step that is done where a node stands, where this is known of the locals and these
+    /// values are held.
+    pub(crate) fn step_at(
         &mut self,
         said: &Said,
         at: Place,
         flow: &Flow,
         values: &[SlotId],
-        term: Term,
-    ) -> Result<PointId, AllocError>
-        requires { length self.old.points.items < 2 ^ 32 }
-        ensures laid { IfOk result (λ entry. (step : Step) (next : PointId) → term ≡ step_to step next → IsLaid (step_at said.now at flow.now values.now step) next self.old.points.items self.new.points.items entry) }
-        ensures few { OnOk result (length self.new.points.items ≡ length self.old.points.items + 1) }
+        step: Step,
+    ) -> Result<Code, AllocError>
+        ensures { IfOk result (λ code. code ≡ step_at said.now at flow.now values.now step) }
     {
         let facts = self.facts(said, flow, values)?;
-        self.lay(site_of(at), facts, term)
-    }
-
-    /// Tells a point its term.
-    pub(crate) fn tell(&mut self, point: PointId, term: Term)
-        requires { point.0 < length self.old.points.items }
-        ensures { self.new.points.items ≡ with_term self.old.points.items point term }
-    {
-        self.points[point.0 as usize].term = term;
+        Ok(Code::leaf(site_of(at), facts, step))
     }
 
     /// What is known at a point, where this is known of the locals and these values are held.
@@ -107,8 +66,7 @@ impl Builder {
         flow: &Flow,
         values: &[SlotId],
     ) -> Result<Facts, AllocError>
-        ensures facts { IfOk result (λ facts. facts ≡ known.facts said.now flow.now values.now) }
-        ensures points { OnOk result (self.new.points.items ≡ self.old.points.items) }
+        ensures { IfOk result (λ facts. facts ≡ known.facts said.now flow.now values.now) }
     {
         let mut facts = self.facts_of_locals(said, flow)?;
         self.put_values(values, &mut facts)?;
@@ -116,10 +74,9 @@ impl Builder {
     }
 
     // What is known at a point, where this is known of the locals and no value is held. Where the same was
-    // known of the locals at the point before, it is shared.
+    // known of the locals where facts were made last, it is shared.
     fn facts_of_locals(&mut self, said: &Said, flow: &Flow) -> Result<Facts, AllocError>
-        ensures facts { IfOk result (λ facts. facts ≡ known.facts said.now flow.now []) }
-        ensures points { OnOk result (self.new.points.items ≡ self.old.points.items) }
+        ensures { IfOk result (λ facts. facts ≡ known.facts said.now flow.now []) }
     {
         if let Some(last) = &self.last {
             if lists_locals(said, flow, last) {
@@ -135,8 +92,7 @@ impl Builder {
 
     // Puts what is known of the slots of locals.
     fn put_locals(&mut self, said: &Said, flow: &Flow, facts: &mut Facts) -> Result<(), AllocError>
-        ensures facts { OnOk result (facts.new ≡ record facts.old { listed = fold put facts.old.listed (known.facts_of_locals said.now flow.now.locals) }) }
-        ensures points { OnOk result (self.new.points.items ≡ self.old.points.items) }
+        ensures { OnOk result (facts.new ≡ record facts.old { listed = fold put facts.old.listed (known.facts_of_locals said.now flow.now.locals) }) }
     {
         for place in 0..flow.len() {
             let local = flow.local(place).facts();
@@ -150,8 +106,7 @@ impl Builder {
 
     // Puts what is known of the slots of values that are held.
     fn put_values(&mut self, values: &[SlotId], facts: &mut Facts) -> Result<(), AllocError>
-        ensures facts { OnOk result (facts.new ≡ record facts.old { listed = fold put facts.old.listed (map known.fact_of_value values.now) }) }
-        ensures points { OnOk result (self.new.points.items ≡ self.old.points.items) }
+        ensures { OnOk result (facts.new ≡ record facts.old { listed = fold put facts.old.listed (map known.fact_of_value values.now) }) }
     {
         for slot in values {
             let fact = self.value_fact(*slot)?;
@@ -162,8 +117,7 @@ impl Builder {
 
     // What is known of the slot of a local.
     fn local_fact(&mut self, slot: SlotId, local: &LocalFacts) -> Result<SharedFact, AllocError>
-        ensures fact { IfOk result (λ fact. fact ≡ record { slot = slot; known = known.known_of_local local.now }) }
-        ensures points { OnOk result (self.new.points.items ≡ self.old.points.items) }
+        ensures { IfOk result (λ fact. fact ≡ record { slot = slot; known = known.known_of_local local.now }) }
     {
         if let Some(last) = self.last_fact(slot) {
             if is_of_local(last.fact(), slot, local) {
@@ -182,8 +136,7 @@ impl Builder {
 
     // What is known of the slot of a value that is held.
     fn value_fact(&mut self, slot: SlotId) -> Result<SharedFact, AllocError>
-        ensures fact { IfOk result (λ fact. fact ≡ known.fact_of_value slot) }
-        ensures points { OnOk result (self.new.points.items ≡ self.old.points.items) }
+        ensures { IfOk result (λ fact. fact ≡ known.fact_of_value slot) }
     {
         if let Some(last) = self.last_fact(slot) {
             if last.fact().slot == slot && is_of_value(&last.fact().known) {
@@ -209,10 +162,9 @@ impl Builder {
         }
     }
 
-    // A fact, which is kept for the points that are laid next.
+    // A fact, which is kept for the code that is made next.
     fn share(&mut self, slot: SlotId, known: Known) -> Result<SharedFact, AllocError>
-        ensures fact { IfOk result (λ fact. fact ≡ record { slot = slot; known = known }) }
-        ensures points { OnOk result (self.new.points.items ≡ self.old.points.items) }
+        ensures { IfOk result (λ fact. fact ≡ record { slot = slot; known = known }) }
     {
         let fact = SharedFact::new(self.alloc, SlotFact { slot, known })?;
         let place = slot.0 as usize;

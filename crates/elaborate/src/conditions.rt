@@ -1,87 +1,84 @@
-//! The points of conditions.
+//! The code of conditions.
 
-ghost use Rattle.std.specs.Prelude.{◌≡◌, ◌+◌, ◌*◌, ◌<◌, ◌≤◌, ◌^◌, [], IfOk, OnOk, length};
+ghost use Rattle.std.specs.Prelude.{◌≡◌, [], IfOk};
 ghost use Rattle.dart_tree.specs.Places.{place_of};
-ghost use Rattle.dart_tree.specs.Numbers.{nodes_in};
-ghost use Rattle.core_emit.specs.Code.{on_not_null};
-ghost use Rattle.elaborate.specs.Laid.{IsAsked};
+ghost use Rattle.elaborate.specs.Known as known;
 ghost use Rattle.elaborate.specs.Rows.{condition_of, condition_row};
 ghost use Rattle.elaborate.specs.Sources as sources;
 
 use crate::builder::Builder;
-use crate::operands::{operand_of, slot_tested};
+use crate::operands::{operand_of, test_of_null};
 use crate::said::Said;
-use crate::values::{hold, lay_value};
-use core_ir::{PointId, SlotId, Span, Term};
+use crate::values::{code_of, holding};
+use core_emit::{Code, Test};
+use core_ir::Facts;
 use dart_tree::Expr;
 use std::alloc::AllocError;
 
-/// Lays the points of a condition, which go on at one point where it holds and at another where it
-/// doesn't: its code, and then its test. The answer is where it begins.
-pub(crate) fn lay_condition(
+/// A condition: its code, and the test behind it, with what is known there.
+#[derive(Drop)]
+pub(crate) struct Condition {
+    /// The code before the test.
+    pub(crate) code: Code,
+    /// What is known where it is tested.
+    pub(crate) facts: Facts,
+    /// The test.
+    pub(crate) test: Test,
+}
+
+/// The code of a condition, and its test. A comparison of a local with `null` is tested by itself; of any
+/// other the value is.
+pub(crate) fn condition_of(
     said: &Said,
     build: &mut Builder,
-    site: Option<Span>,
     condition: &Expr,
-    one: PointId,
-    other: PointId,
-) -> Result<PointId, AllocError>
-    requires { length build.old.points.items + (2 * nodes_in condition.now + 1) < 2 ^ 32 }
-    ensures asked { IfOk result (λ entry. IsAsked said.now site (sources.known_behind said.now (place_of condition.now)) (condition_of said.now [] condition.now) one other build.old.points.items build.new.points.items entry) }
-    ensures few { OnOk result (length build.new.points.items ≤ length build.old.points.items + (2 * nodes_in condition.now + 1)) }
+) -> Result<Condition, AllocError>
+    ensures code { IfOk result (λ made. made.code ≡ (condition_of said.now [] condition.now).code) }
+    ensures facts { IfOk result (λ made. made.facts ≡ known.facts said.now (sources.known_behind said.now (place_of condition.now)) (condition_of said.now [] condition.now).values) }
+    ensures test { IfOk result (λ made. made.test ≡ (condition_of said.now [] condition.now).test) }
 {
-    match slot_tested(said, condition) {
-        Some(slot) => lay_null_test(said, build, site, condition, slot, one, other),
-        None => lay_value_test(said, build, site, condition, one, other),
+    match test_of_null(said, condition) {
+        Some(test) => null_condition(said, build, condition, test),
+        None => value_condition(said, build, condition),
     }
 }
 
-// Lays the point of a condition that tests a local for not being null.
-fn lay_null_test(
+// A condition that tests a local for not being null.
+fn null_condition(
     said: &Said,
     build: &mut Builder,
-    site: Option<Span>,
     condition: &Expr,
-    slot: SlotId,
-    one: PointId,
-    other: PointId,
-) -> Result<PointId, AllocError>
-    requires { length build.old.points.items < 2 ^ 32 }
-    ensures asked { IfOk result (λ entry. IsAsked said.now site (sources.known_behind said.now (place_of condition.now)) (condition_row said.now [] condition.now (Some (on_not_null slot))) one other build.old.points.items build.new.points.items entry) }
-    ensures few { OnOk result (length build.new.points.items ≤ length build.old.points.items + 1) }
+    test: Test,
+) -> Result<Condition, AllocError>
+    ensures code { IfOk result (λ made. made.code ≡ (condition_row said.now [] condition.now (Some test)).code) }
+    ensures facts { IfOk result (λ made. made.facts ≡ known.facts said.now (sources.known_behind said.now (place_of condition.now)) (condition_row said.now [] condition.now (Some test)).values) }
+    ensures test { IfOk result (λ made. made.test ≡ (condition_row said.now [] condition.now (Some test)).test) }
 {
     let facts = build.facts(said, said.known_behind(condition.place()), &[])?;
-    let term = Term::TestNull {
-        slot,
-        null: other,
-        other: one,
-    };
-    build.lay(site, facts, term)
+    Ok(Condition {
+        code: Code::nothing(),
+        facts,
+        test,
+    })
 }
 
-// Lays the points of any other condition, whose value is tested.
-fn lay_value_test(
+// Any other condition, whose value is tested.
+fn value_condition(
     said: &Said,
     build: &mut Builder,
-    site: Option<Span>,
     condition: &Expr,
-    one: PointId,
-    other: PointId,
-) -> Result<PointId, AllocError>
-    requires { length build.old.points.items + (2 * nodes_in condition.now + 1) < 2 ^ 32 }
-    ensures asked { IfOk result (λ entry. IsAsked said.now site (sources.known_behind said.now (place_of condition.now)) (condition_row said.now [] condition.now None) one other build.old.points.items build.new.points.items entry) }
-    ensures few { OnOk result (length build.new.points.items ≤ length build.old.points.items + (2 * nodes_in condition.now + 1)) }
+) -> Result<Condition, AllocError>
+    ensures code { IfOk result (λ made. made.code ≡ (condition_row said.now [] condition.now None).code) }
+    ensures facts { IfOk result (λ made. made.facts ≡ known.facts said.now (sources.known_behind said.now (place_of condition.now)) (condition_row said.now [] condition.now None).values) }
+    ensures test { IfOk result (λ made. made.test ≡ (condition_row said.now [] condition.now None).test) }
 {
+    let code = code_of(said, build, &[], condition)?;
     let on = operand_of(said, condition);
-    let mut values = Vec::new(build.alloc());
-    hold(&mut values, on)?;
+    let values = holding(build.alloc(), &[], on)?;
     let facts = build.facts(said, said.known_behind(condition.place()), &values)?;
-    let term = Term::Branch {
-        on,
-        when_true: one,
-        when_false: other,
-    };
-    let test = build.lay(site, facts, term)?;
-    let mut values = Vec::new(build.alloc());
-    lay_value(said, build, &mut values, condition, test)
+    Ok(Condition {
+        code,
+        facts,
+        test: Test::OnTruth { on },
+    })
 }

@@ -1,12 +1,12 @@
 //! Elaboration: from a library in whose text nothing is wrong to the core program of its function `main`.
 //!
 //! Each form of a tree has one row that gives its code (`specs/Rows.antt`), from what the rules said of its
-//! nodes, which is looked up by their numbers (`specs/Sources.antt`), and the code of its parts. What is
-//! known at a point comes from the flow models before and behind nodes (`specs/Known.antt`). The points of
-//! code are laid from its end to its start, as `core_emit` says; `specs/Elaborated.antt` puts the program
-//! together. That each form's code leads from the model before it to the models behind it is proved by
-//! induction over the forms, once (`proofs/`), and so no point of such a program is refused by the second
-//! check.
+//! nodes, which is looked up by their numbers (`specs/Sources.antt`), and the code of its parts; and one
+//! function that makes it. What is known at a point comes from the flow models before and behind nodes
+//! (`specs/Known.antt`). `core_emit` makes the points of code, for all forms the same;
+//! `specs/Elaborated.antt` puts the program together. That each form's code leads from the model before it
+//! to the models behind it is proved by induction over the forms, once (`proofs/`), and so no point of such
+//! a program is refused by the second check.
 #![tactic(auto)]
 
 mod builder;

@@ -1,15 +1,14 @@
-//! Where the values of expressions stand, and the tests that need no value.
+//! Where the values of expressions stand, the tests that need no value, and the steps of operators.
 
 ghost use Rattle.std.specs.Prelude.{◌≡◌};
-ghost use Rattle.std.specs.Option.{option_map, option_map_or};
-ghost use Rattle.core_emit.specs.Code.{on_not_null, step_to};
 ghost use Rattle.judgement.specs.Judgement as judgement;
 ghost use Rattle.judgement.specs.Literals.{integer_of};
 ghost use Rattle.elaborate.specs.Sources as sources;
 ghost use Rattle.elaborate.specs.Rows as rows;
 
 use crate::said::Said;
-use core_ir::{Operand, PointId, SlotId, Term, Value};
+use core_emit::{Step, Test};
+use core_ir::{Operand, SlotId, Value};
 use dart_tree::{BinaryOperatorKind, Expr, ExprNode};
 use flow_model::LocalId;
 use judgement::integer_of;
@@ -81,68 +80,50 @@ fn compared_local(said: &Said, left: &Expr, right: &Expr) -> Option<LocalId>
     None
 }
 
-/// The slot that a condition tests for not being null, if it is a comparison of a local with `null`.
-pub(crate) fn slot_tested(said: &Said, tree: &Expr) -> Option<SlotId>
-    ensures { option_map on_not_null result ≡ rows.test_of_null said.now tree.now }
+/// The test of a condition that is a comparison of a local with `null`, if it is one.
+pub(crate) fn test_of_null(said: &Said, tree: &Expr) -> Option<Test>
+    ensures { result ≡ rows.test_of_null said.now tree.now }
 {
     match &*tree.node {
-        ExprNode::Parenthesis { inner, .. } => slot_tested(said, inner),
+        ExprNode::Parenthesis { inner, .. } => test_of_null(said, inner),
         ExprNode::Binary {
             operator,
             left,
             right,
             ..
-        } => slot_differing(said, operator.kind, compared_local(said, left, right)),
+        } => null_test(said, operator.kind, compared_local(said, left, right)),
         _ => None,
     }
 }
 
-// The slot that an operator tests for not being null, where it compares this local with `null`.
-fn slot_differing(
-    said: &Said,
-    kind: BinaryOperatorKind,
-    compared: Option<LocalId>,
-) -> Option<SlotId>
-    ensures { option_map on_not_null result ≡ rows.null_test said.now kind compared }
+// The test of an operator that compares this local with `null`, if it is one.
+fn null_test(said: &Said, kind: BinaryOperatorKind, compared: Option<LocalId>) -> Option<Test>
+    ensures { result ≡ rows.null_test said.now kind compared }
 {
     match kind {
         BinaryOperatorKind::NotEqual => match compared {
-            Some(var) => Some(said.slot_of_local(var)),
+            Some(var) => Some(Test::OnNotNull {
+                slot: said.slot_of_local(var),
+            }),
             None => None,
         },
         _ => None,
     }
 }
 
-/// The term of an operator, so far `+`, `<` and `!=`.
-pub(crate) fn operator_term(
+/// The step of an operator, so far `+`, `<` and `!=`.
+pub(crate) fn operator_step(
     kind: BinaryOperatorKind,
     to: SlotId,
     left: Operand,
     right: Operand,
-    next: PointId,
-) -> Option<Term>
-    ensures { result ≡ option_map (λ step. step_to step next) (rows.operator_step kind to left right) }
+) -> Option<Step>
+    ensures { result ≡ rows.operator_step kind to left right }
 {
     match kind {
-        BinaryOperatorKind::Add => Some(Term::Add {
-            to,
-            left,
-            right,
-            next,
-        }),
-        BinaryOperatorKind::Less => Some(Term::Less {
-            to,
-            left,
-            right,
-            next,
-        }),
-        BinaryOperatorKind::NotEqual => Some(Term::NotEqual {
-            to,
-            left,
-            right,
-            next,
-        }),
+        BinaryOperatorKind::Add => Some(Step::Add { to, left, right }),
+        BinaryOperatorKind::Less => Some(Step::Less { to, left, right }),
+        BinaryOperatorKind::NotEqual => Some(Step::NotEqual { to, left, right }),
         _ => None,
     }
 }

@@ -1,4 +1,4 @@
-use Rattle.std.proofs.Common.{◌≡◌, sym, ap, ◌∙◌}
+use Rattle.std.proofs.Common.{sym, ap, ◌∙◌}
 use Rattle.dart_tree.specs.Tree.{empty_body, expression_body, native_body}
 use Rattle.dart_tree.specs.View.{body_of}
 use Rattle.elaborate.proofs.Sources.{is_block_of, no_block}

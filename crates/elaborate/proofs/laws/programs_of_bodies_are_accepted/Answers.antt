@@ -1,4 +1,4 @@
-use Rattle.std.proofs.Common.{◌≡◌, ℕ, ◌+◌, ◌≤◌, ◌^◌, List, [], length, refl, sym, subst, ◌∙◌}
+use Rattle.std.proofs.Common.{◌+◌, ◌≤◌, ◌^◌, List, [], length, refl, sym, subst, ◌∙◌}
 use Rattle.dart_tree.specs.Tree.{block}
 use Rattle.dart_tree.specs.Numbers.{nodes_in}
 use Rattle.flow_model.specs.Flow.{start_of}

@@ -1,4 +1,4 @@
-use Rattle.std.proofs.Common.{[], ap, ◌∙◌}
+use Rattle.std.proofs.Common.{ap, ◌∙◌}
 use Rattle.judgement.specs.Literals.{integer_of}
 use Rattle.elaborate.proofs.LookEntries.{no_word}
 use Rattle.elaborate.proofs.operands.integer_at.Goals as goal

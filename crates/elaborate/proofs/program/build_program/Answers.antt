@@ -1,4 +1,4 @@
-use Rattle.std.proofs.Common.{◌≡◌, ◌≤◌, ◌<◌, ◌+◌, arith}
+use Rattle.std.proofs.Common.{arith}
 use Rattle.elaborate.proofs.SaidNodes.{nodes_before}
 use Rattle.elaborate.proofs.program.build_program.Goals as goal
 

@@ -3,9 +3,6 @@ use Rattle.core_ir.specs.PointFacts.{put}
 use Rattle.elaborate.specs.Known.{facts_of_locals}
 use Rattle.elaborate.proofs.builder.Builder.put_locals.Given as goal
 
--- those of the locals before the place have been put, and no point is laid
+-- those of the locals before the place have been put
 abbrev pub invariant-loop-place : goal.invariant-loop-place
-invariant-loop-place l = record {
-  facts : l.facts ≡ record l.initial.facts { listed = fold put l.initial.facts.listed (facts_of_locals l.said (take l.place l.flow.locals)) };
-  points : l.self.points.items ≡ l.initial.self.points.items;
-}
+invariant-loop-place l = l.facts ≡ record l.initial.facts { listed = fold put l.initial.facts.listed (facts_of_locals l.said (take l.place l.flow.locals)) }
