@@ -45,7 +45,7 @@ use Rattle.elaborate.proofs.Claims.{Does, does_both, does_less, does_step}
 use Rattle.elaborate.proofs.Inside.{facts_inside}
 use Rattle.elaborate.proofs.Leaves.{print_leads, store_leads}
 use Rattle.elaborate.proofs.Points.{gives_local, unshared, written_fits}
-use Rattle.elaborate.proofs.ValueTypes.{fits_sub, left_none, plain_value, right_none, value_holds}
+use Rattle.elaborate.proofs.ValueTypes.{fits_sub, left_none, plain_value, print_stays, right_none, value_holds}
 use Rattle.elaborate.proofs.Expressions.{AreSaid, IsSaid, Valued, has_operand, held_with, operand_inside, plain_row, row_none, said_last, said_left, values_with}
 use Rattle.elaborate.proofs.Judged.{row_said, stands_after, valued}
 use Rattle.elaborate.proofs.ConditionForms.{no_values}
@@ -249,7 +249,7 @@ module _ (c : Setting) (laws : Laws c) (names : Names) where
     meant = printer_at word (get names word) (slice_index_or c.outside word Nothing) hides refl refl print
 
     gives : evaluate (around c names) the_call None m ≡ with_node at.node (Some callee_meaning) m print_gives
-    gives = ap (λ (k : Meaning). expression_row at (Some callee_meaning) m (called (around c names) k (argument_list list_at (more (argument argument_at None value) no_more)) m)) meant
+    gives = ap (λ (k : Meaning). expression_row at (Some callee_meaning) m (called (around c names) k (argument_list list_at (more (argument argument_at None value) no_more)) m)) meant ∙ ap (with_node at.node (Some callee_meaning) m) (print_stays c.rows.table (place_of value) printed)
 
     pub print_effect : (evaluate (around c names) the_call None m).faults ≡ [] → Standing c m → AreSaid c (evaluate (around c names) the_call None m).nodes
         → EffectDoes c the_call m (evaluate (around c names) the_call None m)

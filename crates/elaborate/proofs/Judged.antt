@@ -108,23 +108,23 @@ module _ (c : Setting) (laws : Laws c) (names : Names) where
       let s = around c names in
       let operator : BinaryOperator = record { kind = Add; span = span } in
       let e = evaluate s left None m in
-      let e' = evaluate s right (parameter_of (operation_of e.ty Add)) e.after in
+      let e' = evaluate s right (parameter_of (operation_of c.rows.table e.ty Add)) e.after in
       let row = operated_row c.rows.table operator (place_of right) e e' in
       let parts = and_parts (is_value c.outside left) (is_value c.outside right) built in
       let nothing_wrong = row_none at None m row none in
       let nodes = row_said c at None m row said in
-      let e_none = left_none e.faults (e'.faults ++ (receiver_faults c.rows.table span e.ty Add ++ argument_faults c.rows.table (place_of right) (operation_of e.ty Add) e'.ty)) nothing_wrong in
-      let rest = right_none e.faults (e'.faults ++ (receiver_faults c.rows.table span e.ty Add ++ argument_faults c.rows.table (place_of right) (operation_of e.ty Add) e'.ty)) nothing_wrong in
-      let e'_none = left_none e'.faults (receiver_faults c.rows.table span e.ty Add ++ argument_faults c.rows.table (place_of right) (operation_of e.ty Add) e'.ty) rest in
-      let own_none = right_none e'.faults (receiver_faults c.rows.table span e.ty Add ++ argument_faults c.rows.table (place_of right) (operation_of e.ty Add) e'.ty) rest in
+      let e_none = left_none e.faults (e'.faults ++ (receiver_faults c.rows.table span e.ty Add ++ argument_faults c.rows.table (place_of right) (operation_of c.rows.table e.ty Add) e'.ty)) nothing_wrong in
+      let rest = right_none e.faults (e'.faults ++ (receiver_faults c.rows.table span e.ty Add ++ argument_faults c.rows.table (place_of right) (operation_of c.rows.table e.ty Add) e'.ty)) nothing_wrong in
+      let e'_none = left_none e'.faults (receiver_faults c.rows.table span e.ty Add ++ argument_faults c.rows.table (place_of right) (operation_of c.rows.table e.ty Add) e'.ty) rest in
+      let own_none = right_none e'.faults (receiver_faults c.rows.table span e.ty Add ++ argument_faults c.rows.table (place_of right) (operation_of c.rows.table e.ty Add) e'.ty) rest in
       let l = one None m values parts.0 e_none stands are (said_left c e.nodes e'.nodes nodes) in
       let stands_l = stands_after left None m parts.0 e_none stands in
       let held = values_with c laws values (operand_of c.x left) e.ty are l.operand in
-      let r = other (parameter_of (operation_of e.ty Add)) e.after (holding values (operand_of c.x left)) parts.1 e'_none stands_l held (said_right c e.nodes e'.nodes nodes) in
-      let stands_r = stands_after right (parameter_of (operation_of e.ty Add)) e.after parts.1 e'_none stands_l in
+      let r = other (parameter_of (operation_of c.rows.table e.ty Add)) e.after (holding values (operand_of c.x left)) parts.1 e'_none stands_l held (said_right c e.nodes e'.nodes nodes) in
+      let stands_r = stands_after right (parameter_of (operation_of c.rows.table e.ty Add)) e.after parts.1 e'_none stands_l in
       let operates = add_operates c laws span (place_of right) e.ty e'.ty l.value r.value
-      (left_none (receiver_faults c.rows.table span e.ty Add) (argument_faults c.rows.table (place_of right) (operation_of e.ty Add) e'.ty) own_none)
-      (right_none (receiver_faults c.rows.table span e.ty Add) (argument_faults c.rows.table (place_of right) (operation_of e.ty Add) e'.ty) own_none) in
+      (left_none (receiver_faults c.rows.table span e.ty Add) (argument_faults c.rows.table (place_of right) (operation_of c.rows.table e.ty Add) e'.ty) own_none)
+      (right_none (receiver_faults c.rows.table span e.ty Add) (argument_faults c.rows.table (place_of right) (operation_of c.rows.table e.ty Add) e'.ty) own_none) in
       let value = subst (λ (t : Ty). is_value_type t ≡ true) (sym operates.gives) refl in
       let is = plain_row at None m row value in
       let own = said_last c row.nodes (said_of_expression at.node None m row) (subst (λ (k : Evaluation). AreSaid c k.nodes) is said) in
@@ -143,23 +143,23 @@ module _ (c : Setting) (laws : Laws c) (names : Names) where
       let s = around c names in
       let operator : BinaryOperator = record { kind = Less; span = span } in
       let e = evaluate s left None m in
-      let e' = evaluate s right (parameter_of (operation_of e.ty Less)) e.after in
+      let e' = evaluate s right (parameter_of (operation_of c.rows.table e.ty Less)) e.after in
       let row = operated_row c.rows.table operator (place_of right) e e' in
       let parts = and_parts (is_value c.outside left) (is_value c.outside right) built in
       let nothing_wrong = row_none at None m row none in
       let nodes = row_said c at None m row said in
-      let e_none = left_none e.faults (e'.faults ++ (receiver_faults c.rows.table span e.ty Less ++ argument_faults c.rows.table (place_of right) (operation_of e.ty Less) e'.ty)) nothing_wrong in
-      let rest = right_none e.faults (e'.faults ++ (receiver_faults c.rows.table span e.ty Less ++ argument_faults c.rows.table (place_of right) (operation_of e.ty Less) e'.ty)) nothing_wrong in
-      let e'_none = left_none e'.faults (receiver_faults c.rows.table span e.ty Less ++ argument_faults c.rows.table (place_of right) (operation_of e.ty Less) e'.ty) rest in
-      let own_none = right_none e'.faults (receiver_faults c.rows.table span e.ty Less ++ argument_faults c.rows.table (place_of right) (operation_of e.ty Less) e'.ty) rest in
+      let e_none = left_none e.faults (e'.faults ++ (receiver_faults c.rows.table span e.ty Less ++ argument_faults c.rows.table (place_of right) (operation_of c.rows.table e.ty Less) e'.ty)) nothing_wrong in
+      let rest = right_none e.faults (e'.faults ++ (receiver_faults c.rows.table span e.ty Less ++ argument_faults c.rows.table (place_of right) (operation_of c.rows.table e.ty Less) e'.ty)) nothing_wrong in
+      let e'_none = left_none e'.faults (receiver_faults c.rows.table span e.ty Less ++ argument_faults c.rows.table (place_of right) (operation_of c.rows.table e.ty Less) e'.ty) rest in
+      let own_none = right_none e'.faults (receiver_faults c.rows.table span e.ty Less ++ argument_faults c.rows.table (place_of right) (operation_of c.rows.table e.ty Less) e'.ty) rest in
       let l = one None m values parts.0 e_none stands are (said_left c e.nodes e'.nodes nodes) in
       let stands_l = stands_after left None m parts.0 e_none stands in
       let held = values_with c laws values (operand_of c.x left) e.ty are l.operand in
-      let r = other (parameter_of (operation_of e.ty Less)) e.after (holding values (operand_of c.x left)) parts.1 e'_none stands_l held (said_right c e.nodes e'.nodes nodes) in
-      let stands_r = stands_after right (parameter_of (operation_of e.ty Less)) e.after parts.1 e'_none stands_l in
+      let r = other (parameter_of (operation_of c.rows.table e.ty Less)) e.after (holding values (operand_of c.x left)) parts.1 e'_none stands_l held (said_right c e.nodes e'.nodes nodes) in
+      let stands_r = stands_after right (parameter_of (operation_of c.rows.table e.ty Less)) e.after parts.1 e'_none stands_l in
       let operates = less_operates c laws span (place_of right) e.ty e'.ty l.value r.value
-      (left_none (receiver_faults c.rows.table span e.ty Less) (argument_faults c.rows.table (place_of right) (operation_of e.ty Less) e'.ty) own_none)
-      (right_none (receiver_faults c.rows.table span e.ty Less) (argument_faults c.rows.table (place_of right) (operation_of e.ty Less) e'.ty) own_none) in
+      (left_none (receiver_faults c.rows.table span e.ty Less) (argument_faults c.rows.table (place_of right) (operation_of c.rows.table e.ty Less) e'.ty) own_none)
+      (right_none (receiver_faults c.rows.table span e.ty Less) (argument_faults c.rows.table (place_of right) (operation_of c.rows.table e.ty Less) e'.ty) own_none) in
       let value = subst (λ (t : Ty). is_value_type t ≡ true) (sym operates.gives) refl in
       let is = plain_row at None m row value in
       let own = said_last c row.nodes (said_of_expression at.node None m row) (subst (λ (k : Evaluation). AreSaid c k.nodes) is said) in

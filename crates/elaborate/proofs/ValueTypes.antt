@@ -1,7 +1,7 @@
 -- What values of a form that is built give: their types, and the models behind them.
-use Rattle.std.proofs.Common.{◌≡◌, ℕ, Bool, true, false, cond, not, ◌&&◌, ◌||◌, List, [], ◌∷◌, ◌++◌, Option, Some, None, is_some, refl, sym, ap, ◌∙◌, subst, IsTrue}
+use Rattle.std.proofs.Common.{◌≡◌, ℕ, zero, suc, Bool, true, false, cond, not, ◌&&◌, ◌||◌, List, [], ◌∷◌, ◌++◌, Option, Some, None, is_some, refl, sym, ap, ◌∙◌, subst, IsTrue}
 use Rattle.std.specs.FinMap.{get}
-use Rattle.std.specs.Option.{option_map_or}
+use Rattle.std.specs.Option.{option_map_or, option_or}
 use Rattle.std.specs.Prelude.{slice_index_or}
 use Rattle.dart_tree.specs.declared.operators.BinaryOperatorKind.{BinaryOperatorKind}
 use Rattle.dart_tree.specs.declared.operators.BinaryOperatorKind.TheVariants.{Add, Less}
@@ -11,9 +11,11 @@ use Rattle.dart_types.specs.Ty.{Ty, invalid, never, void, null, interface, funct
 use Rattle.dart_types.specs.Heads.{object}
 use Rattle.dart_types.specs.Invalid.{holds_invalid}
 use Rattle.dart_types.specs.Same.{same_class, same_type}
+use Rattle.dart_types.specs.Measure.{weight_of}
 use Rattle.dart_types.specs.SubTest.{sub}
 use Rattle.dart_types.specs.Tables.{Table}
 use Rattle.dart_types.specs.declared.ids.TheConstants.{INT}
+use Rattle.type_bounds.specs.NonNull.{non_null_of}
 use Rattle.flow_model.specs.Flow.{FlowModel, current_of, facts_of}
 use Rattle.flow_model.specs.declared.locals.Facts.{Facts}
 use Rattle.flow_model.specs.declared.locals.LocalId.{LocalId}
@@ -22,7 +24,8 @@ use Rattle.judgement.specs.declared.fault.Fault.{Fault}
 use Rattle.judgement.specs.declared.meaning.Meaning.{Meaning}
 use Rattle.judgement.specs.declared.meaning.Meaning.TheVariants.{Nothing, Local, Print, Class, Other}
 use Rattle.judgement.specs.Given.{Evaluation, exits_if_never, faulty, fault_over, fit_faults, fits, of_type}
-use Rattle.judgement.specs.ExpressionRows.{argument_faults, bool, int, int_operation, name_row, operation_in, operation_of, read_row, receiver_faults, result_type}
+use Rattle.judgement.specs.Receivers.{member_type, member_type_within}
+use Rattle.judgement.specs.ExpressionRows.{argument_faults, bool, int, int_operation, may_operate, name_row, operation_in, operation_of, operation_on, print_row, read_row, receiver_faults, result_type, takes_any}
 use Rattle.judgement.specs.Surroundings.{Names, meaning_of}
 use Rattle.built_forms.specs.Forms.{is_free}
 use Rattle.built_forms.specs.Meanings.{meaning_at}
@@ -90,6 +93,17 @@ plain_value (promoted x t) is = is
 pub value_stays : (e : Evaluation) → is_value_type e.ty ≡ true → exits_if_never e ≡ e
 value_stays e is = ap (λ b. cond b (record e { after = record { reachable = false; locals = e.after.locals }; when_true = record { reachable = false; locals = e.when_true.locals }; when_false = record { reachable = false; locals = e.when_false.locals } }) e) (value_not_never e.ty is)
 
+-- a call of `print` doesn't exit
+void_or_invalid : (b : Bool) → same_type (cond b invalid void) never ≡ false
+void_or_invalid true = refl
+void_or_invalid false = refl
+
+pub print_stays : (table : Table) (at : Place) (value : Evaluation) → exits_if_never (print_row table at value) ≡ print_row table at value
+print_stays table at value =
+    let e = print_row table at value in
+    ap (λ b. cond b (record e { after = record { reachable = false; locals = e.after.locals }; when_true = record { reachable = false; locals = e.when_true.locals }; when_false = record { reachable = false; locals = e.when_false.locals } }) e)
+    (void_or_invalid (holds_invalid value.ty))
+
 -- a value of a type that fits is one of a subtype
 pub fits_sub : (table : Table) (s t : Ty) → is_value_type s ≡ true → holds_invalid t ≡ false → (f : List Fault) (code : Fault) → cond (fits table s t) [] (code ∷ f) ≡ [] → IsTrue (sub table s t)
 fits_sub table s t value valid f code none = at (sub table s t) refl
@@ -133,26 +147,46 @@ name_reads c names word at m free none = name_at c names word at m (get names wo
 
 -- Operators.
 
+-- a value has the members of its own type
+own_members_within : (table : Table) (n : ℕ) (t : Ty) → is_value_type t ≡ true → member_type_within table n t ≡ t
+own_members_within table zero t value = refl
+own_members_within table (suc n) null value = refl
+own_members_within table (suc n) (nullable t) value = refl
+own_members_within table (suc n) (interface class types) value = refl
+own_members_within table (suc n) invalid value = refl
+own_members_within table (suc n) never value = refl
+own_members_within table (suc n) void value = refl
+own_members_within table (suc n) (function r o l u) value = refl
+own_members_within table (suc n) (variable x) value = absurd cc
+own_members_within table (suc n) (promoted x t) value = absurd cc
+
+own_members : (table : Table) (t : Ty) → is_value_type t ≡ true → member_type table t ≡ t
+unfolding member_type
+own_members table t value = own_members_within table (weight_of table t) t value
+
 -- an operator without a diagnostic on its left side is one of int
 has_operation : (table : Table) (span : Span) (t : Ty) (kind : BinaryOperatorKind) → is_value_type t ≡ true → receiver_faults table span t kind ≡ [] → is_some (operation_in t kind) ≡ true
-has_operation table span t kind value none = at (is_some (operation_in t kind)) (not (sub table t object) && (is_some (operation_of t kind) || same_type t null)) refl refl
+has_operation table span t kind value none = at (is_some (operation_in t kind)) (not (sub table t object) && may_operate table (non_null_of table t) kind) refl refl
   where
-    at : (b d : Bool) → is_some (operation_in t kind) ≡ b → (not (sub table t object) && (is_some (operation_of t kind) || same_type t null)) ≡ d → b ≡ true
+    looked : (b d : Bool) → is_some (operation_in t kind) ≡ b → (not (sub table t object) && may_operate table (non_null_of table t) kind) ≡ d
+        → receiver_faults table span t kind ≡ cond b [] (cond d (fault_over span UncheckedNullableUse) (fault_over span UndefinedOperator))
+    looked b d is is' =
+        let other = cond (not (sub table t object) && may_operate table (non_null_of table t) kind) (fault_over span UncheckedNullableUse) (fault_over span UndefinedOperator) in
+        ap (λ (u : Ty). cond (is_some (operation_in u kind) || takes_any u) [] other) (own_members table t value)
+        ∙ ap (λ n. cond (is_some (operation_in t kind) || (n || holds_invalid t)) [] other) (value_not_never t value)
+        ∙ ap (λ h. cond (is_some (operation_in t kind) || h) [] other) (value_holds t value)
+        ∙ ap (λ b. cond (b || false) [] other) is
+        ∙ ap (λ d. cond (b || false) [] (cond d (fault_over span UncheckedNullableUse) (fault_over span UndefinedOperator))) is'
+        ∙ either b (cond d (fault_over span UncheckedNullableUse) (fault_over span UndefinedOperator))
+      where
+        either : (b : Bool) (other : List Fault) → cond (b || false) [] other ≡ cond b [] other
+        either true other = refl
+        either false other = refl
+
+    at : (b d : Bool) → is_some (operation_in t kind) ≡ b → (not (sub table t object) && may_operate table (non_null_of table t) kind) ≡ d → b ≡ true
     at true d is is' = refl
-    at false true is is' =
-        absurd (let row : receiver_faults table span t kind ≡ fault_over span UncheckedNullableUse =
-        ap (λ b. cond (b || (holds_invalid t || same_type t never)) [] (cond (not (sub table t object) && (is_some (operation_of t kind) || same_type t null)) (fault_over span UncheckedNullableUse) (fault_over span UndefinedOperator))) is
-        ∙ ap (λ h. cond (h || same_type t never) [] (cond (not (sub table t object) && (is_some (operation_of t kind) || same_type t null)) (fault_over span UncheckedNullableUse) (fault_over span UndefinedOperator))) (value_holds t value)
-        ∙ ap (λ h. cond h [] (cond (not (sub table t object) && (is_some (operation_of t kind) || same_type t null)) (fault_over span UncheckedNullableUse) (fault_over span UndefinedOperator))) (value_not_never t value)
-        ∙ ap (λ d. cond d (fault_over span UncheckedNullableUse) (fault_over span UndefinedOperator)) is' in
-        let some : fault_over span UncheckedNullableUse ≡ [] = sym row ∙ none in cc)
-    at false false is is' =
-        absurd (let row : receiver_faults table span t kind ≡ fault_over span UndefinedOperator =
-        ap (λ b. cond (b || (holds_invalid t || same_type t never)) [] (cond (not (sub table t object) && (is_some (operation_of t kind) || same_type t null)) (fault_over span UncheckedNullableUse) (fault_over span UndefinedOperator))) is
-        ∙ ap (λ h. cond (h || same_type t never) [] (cond (not (sub table t object) && (is_some (operation_of t kind) || same_type t null)) (fault_over span UncheckedNullableUse) (fault_over span UndefinedOperator))) (value_holds t value)
-        ∙ ap (λ h. cond h [] (cond (not (sub table t object) && (is_some (operation_of t kind) || same_type t null)) (fault_over span UncheckedNullableUse) (fault_over span UndefinedOperator))) (value_not_never t value)
-        ∙ ap (λ d. cond d (fault_over span UncheckedNullableUse) (fault_over span UndefinedOperator)) is' in
-        let some : fault_over span UndefinedOperator ≡ [] = sym row ∙ none in cc)
+    at false true is is' = absurd (let some : fault_over span UncheckedNullableUse ≡ [] = sym (looked false true is is') ∙ none in cc)
+    at false false is is' = absurd (let some : fault_over span UndefinedOperator ≡ [] = sym (looked false false is is') ∙ none in cc)
 
 -- a value with an operator of int is an int
 int_with : (c : Setting) (laws : Laws c) (t : Ty) (kind : BinaryOperatorKind) → is_value_type t ≡ true → is_some (operation_in t kind) ≡ true → t ≡ int
@@ -178,12 +212,14 @@ pub record Operates (c : Setting) (left right : Ty) (given : Ty) (result : Ty) :
   pub gives : given ≡ result
 
 module _ (c : Setting) (laws : Laws c) (span : Span) (at : Place) (left right : Ty) (value : is_value_type left ≡ true) (value' : is_value_type right ≡ true) where
-  int_operates : (kind : BinaryOperatorKind) (result : Ty) → int_operation kind ≡ Some (record { parameter = int; result = result }) → operation_of int kind ≡ Some (record { parameter = int; result = result })
-      → receiver_faults c.rows.table span left kind ≡ [] → argument_faults c.rows.table at (operation_of left kind) right ≡ []
-      → Operates c left right (result_type c.rows.table left (operation_of left kind) right) result
-  int_operates kind result is operation none none' =
+  int_operates : (kind : BinaryOperatorKind) (result : Ty) → operation_in int kind ≡ Some (record { parameter = int; result = result })
+      → receiver_faults c.rows.table span left kind ≡ [] → argument_faults c.rows.table at (operation_of c.rows.table left kind) right ≡ []
+      → Operates c left right (result_type c.rows.table left (operation_of c.rows.table left kind) right) result
+  int_operates kind result operation none none' =
       let same : left ≡ int = int_with c laws left kind value (has_operation c.rows.table span left kind value none) in
-      let found : operation_of left kind ≡ Some (record { parameter = int; result = result }) = ap (λ (t : Ty). operation_of t kind) same ∙ operation in
+      let bare = operation_on c.rows.table (non_null_of c.rows.table left) kind in
+      let found : operation_of c.rows.table left kind ≡ Some (record { parameter = int; result = result }) =
+      ap (λ (t : Ty). option_or (operation_in t kind) bare) (own_members c.rows.table left value ∙ same) ∙ ap (λ o. option_or o bare) operation in
       let fits' : fit_faults c.rows.table ArgumentType at right int ≡ [] = sym (ap (λ o. argument_faults c.rows.table at o right) found) ∙ none' in
       let below : IsTrue (sub c.rows.table right int) = fits_sub c.rows.table right int value' refl [] (record { span = at.span; code = ArgumentType }) fits' in
       record {
@@ -192,8 +228,8 @@ module _ (c : Setting) (laws : Laws c) (span : Span) (at : Place) (left right : 
         gives = ap (λ o. result_type c.rows.table left o right) found ∙ ap (λ b. cond b result invalid) below;
       }
 
-  pub add_operates : receiver_faults c.rows.table span left Add ≡ [] → argument_faults c.rows.table at (operation_of left Add) right ≡ [] → Operates c left right (result_type c.rows.table left (operation_of left Add) right) int
-  add_operates = int_operates Add int refl refl
+  pub add_operates : receiver_faults c.rows.table span left Add ≡ [] → argument_faults c.rows.table at (operation_of c.rows.table left Add) right ≡ [] → Operates c left right (result_type c.rows.table left (operation_of c.rows.table left Add) right) int
+  add_operates = int_operates Add int refl
 
-  pub less_operates : receiver_faults c.rows.table span left Less ≡ [] → argument_faults c.rows.table at (operation_of left Less) right ≡ [] → Operates c left right (result_type c.rows.table left (operation_of left Less) right) bool
-  less_operates = int_operates Less bool refl refl
+  pub less_operates : receiver_faults c.rows.table span left Less ≡ [] → argument_faults c.rows.table at (operation_of c.rows.table left Less) right ≡ [] → Operates c left right (result_type c.rows.table left (operation_of c.rows.table left Less) right) bool
+  less_operates = int_operates Less bool refl

@@ -2,8 +2,10 @@
 
 ghost use Rattle.std.specs.Prelude.{◌≡◌, ◌∷◌, [], false, IfOk, IfErr, OnOk, OnErr, IsNone, IsTrue, ◌↔◌, is_some, ◌<◌, length, slice_index_or};
 ghost use Rattle.std.specs.Option.{option_copied, option_map, option_map_or};
+ghost use Rattle.dart_types.specs.Superinterfaces.{LeavesNothingOut};
 ghost use Rattle.flow_model.specs.Flow.{at_local, current_of, facts_of, declare_of, start_of, end_of, AreDistinct, IsInOrder};
 ghost use Rattle.flow_model.specs.Assign.{assign_facts};
+ghost use Rattle.flow_model.specs.Chains.{HasDescendingChains};
 ghost use Rattle.flow_model.specs.Join.{join_of};
 ghost use Rattle.flow_model.specs.Promote.{append_facts, non_null_facts, promote_facts};
 ghost use Rattle.flow_model.specs.Steps.{conservative_of, exit_of};
@@ -13,6 +15,7 @@ ghost use Rattle.flow_model.specs.Place.{with_facts, StandsAt, WouldStandAt};
 ghost use Rattle.flow_model.specs.declared.locals.Facts.{Facts};
 
 use crate::join::{Path, join_locals};
+use crate::laws::chains_descend;
 use crate::local::Local;
 use crate::locals::{Facts, LocalDecl, LocalId};
 use crate::pages::Locals;
@@ -286,8 +289,20 @@ impl Flow {
     /// The model where two paths of one scope meet. A local has or hasn't a value where that is
     /// certain on both, is promoted to the types that it was promoted to on both, in the order of
     /// the first, and is captured where it is on either. A path that isn't reached adds nothing to
-    /// the other. Of different scopes it pairs the locals by their places, as far as both go.
-    pub fn join(alloc: Global, a: &Flow, b: &Flow) -> Result<Flow, AllocError>
+    /// the other. Of different scopes it pairs the locals by their places, as far as both go. Where
+    /// over the rows each type that a path promotes a local to is a subtype of the one before it, on
+    /// both paths, so it is where they meet.
+    pub fn join(alloc: Global, rows: &Rows, a: &Flow, b: &Flow) -> Result<Flow, AllocError>
+        ensures joined { IfOk result (λ joined. joined ≡ join_of a.now b.now) }
+        ensures descends { let table = rows.now.table in
+            LeavesNothingOut table → HasDescendingChains table a.now → HasDescendingChains table b.now → IfOk result (HasDescendingChains table) }
+    {
+        chains_descend(rows);
+        Flow::join_paths(alloc, a, b)
+    }
+
+    // The model where two paths meet.
+    fn join_paths(alloc: Global, a: &Flow, b: &Flow) -> Result<Flow, AllocError>
         ensures { IfOk result (λ joined. joined ≡ join_of a.now b.now) }
     {
         if !b.reachable {

@@ -93,7 +93,12 @@ impl Flow {
 
     /// The model where two paths meet, as `join` makes it. It is that of one of the paths where it is
     /// seen without a join that both know what that one knows.
-    pub fn meeting(alloc: Global, a: &Rc<Flow>, b: &Rc<Flow>) -> Result<Rc<Flow>, AllocError>
+    pub fn meeting(
+        alloc: Global,
+        rows: &Rows,
+        a: &Rc<Flow>,
+        b: &Rc<Flow>,
+    ) -> Result<Rc<Flow>, AllocError>
         ensures { IfOk result (λ model. model.value ≡ join_of a.now.value b.now.value) }
     {
         if a.joins_to(Path::First, b) {
@@ -102,7 +107,7 @@ impl Flow {
         if a.joins_to(Path::Second, b) {
             return b.clone();
         }
-        let joined = Flow::join(alloc, a, b)?;
+        let joined = Flow::join(alloc, rows, a, b)?;
         Ok(Rc::new(alloc, joined)?)
     }
 }

@@ -88,7 +88,7 @@ fn models_meet_as_the_rules_say(rt: HostRuntime) -> Result<(), Fail> {
     let rows = rows(alloc)?;
     let one = tested(alloc, &rows, b'n')?;
     let other = tested(alloc, &rows, b's')?;
-    let joined = Flow::join(alloc, &one, &other)?;
+    let joined = Flow::join(alloc, &rows, &one, &other)?;
     assert!(rt; has(alloc, &joined, X, b'i', false)?);
     assert!(rt; has(alloc, &joined, Y, b'o', true)?);
     assert!(rt; joined.is_assigned(X) && !joined.is_unassigned(X) && joined.reachable());
@@ -103,8 +103,8 @@ fn a_path_that_is_not_reached_adds_nothing(rt: HostRuntime) -> Result<(), Fail> 
     let mut other = tested(alloc, &rows, b's')?;
     other.exit();
     assert!(rt; !other.reachable());
-    assert!(rt; Flow::join(alloc, &other, &one)?.is_same(&one));
-    assert!(rt; Flow::join(alloc, &one, &other)?.is_same(&one));
+    assert!(rt; Flow::join(alloc, &rows, &other, &one)?.is_same(&one));
+    assert!(rt; Flow::join(alloc, &rows, &one, &other)?.is_same(&one));
     Ok(())
 }
 
@@ -113,9 +113,9 @@ fn a_path_meets_itself_and_the_one_before_it(rt: HostRuntime) -> Result<(), Fail
     let alloc = rt.alloc();
     let rows = rows(alloc)?;
     let one = tested(alloc, &rows, b'n')?;
-    assert!(rt; Flow::join(alloc, &one, &one)?.is_same(&one.copy(alloc)?));
+    assert!(rt; Flow::join(alloc, &rows, &one, &one)?.is_same(&one.copy(alloc)?));
     let before = both(alloc)?;
-    let met = Flow::join(alloc, &before, &one)?;
+    let met = Flow::join(alloc, &rows, &before, &one)?;
     assert!(rt; has(alloc, &met, X, b'i', true)? && has(alloc, &met, Y, b'o', true)?);
     Ok(())
 }

@@ -6,7 +6,7 @@ use Rattle.dart_tree.specs.declared.places.Span.{Span}
 use Rattle.dart_tree.specs.declared.operators.BinaryOperator.{BinaryOperator}
 use Rattle.dart_tree.specs.declared.operators.BinaryOperatorKind.{BinaryOperatorKind}
 use Rattle.dart_tree.specs.declared.operators.BinaryOperatorKind.TheVariants.{Add, Less, NotEqual}
-use Rattle.dart_types.specs.Ty.{Ty, invalid, never, void, null, interface, nullable, no_more as no_types}
+use Rattle.dart_types.specs.Ty.{Ty, invalid, never, void, interface, nullable, no_more as no_types}
 use Rattle.dart_types.specs.Heads.{object}
 use Rattle.dart_types.specs.Same.{same_class, same_type}
 use Rattle.dart_types.specs.Invalid.{holds_invalid}
@@ -14,6 +14,7 @@ use Rattle.dart_types.specs.SubTest.{sub}
 use Rattle.dart_types.specs.Tables.{Table}
 use Rattle.dart_types.specs.declared.ids.ClassId.{ClassId}
 use Rattle.dart_types.specs.declared.ids.TheConstants.{BOOL, INT}
+use Rattle.type_bounds.specs.NonNull.{non_null_of}
 use Rattle.flow_model.specs.Flow.{FlowModel, facts_of, at_local, current_of, declared_in}
 use Rattle.flow_model.specs.Assign.{assign_facts}
 use Rattle.flow_model.specs.Promote.{non_null_facts}
@@ -27,6 +28,7 @@ use Rattle.judgement.specs.declared.operation.Operation.{Operation}
 use Rattle.judgement.specs.declared.meaning.Meaning.TheVariants.{Nothing, Local, Print, Class, Other}
 use Rattle.judgement.specs.Surroundings.{Surroundings, lexeme_of}
 use Rattle.judgement.specs.Literals.{integer_of}
+use Rattle.judgement.specs.Receivers.{member_type}
 use Rattle.judgement.specs.Given.{Evaluation, fault_over, fault_at, fit_faults, of_type, faulty}
 
 -- an expression that is still to be judged: what it gives where a type is wanted of it, or none, and this is known before it
@@ -108,30 +110,37 @@ int_operation Add = Some (record { parameter = int; result = int })
 int_operation Less = Some (record { parameter = int; result = bool })
 int_operation _ = None
 
--- the operator that a type has
+-- the operator that a class has, and none of the other types
 abbrev pub operation_in : Ty → BinaryOperatorKind → Option Operation
 operation_in (interface class types) kind = if same_class class INT then int_operation kind else None
 operation_in _ kind = None
 
--- what is left of a type without its `?`
-abbrev pub bare_of : Ty → Ty
-bare_of (nullable ty) = ty
-bare_of ty = ty
+-- the operator that a type has: a variable has those of its bound, and `X & U` those of U
+abbrev pub operation_on : Table → Ty → BinaryOperatorKind → Option Operation
+operation_on table ty kind = operation_in (member_type table ty) kind
 
--- the operator that is used of a value of this type: its own, and else that of the type without its `?`
-abbrev pub operation_of : Ty → BinaryOperatorKind → Option Operation
-operation_of ty kind = option_or (operation_in ty kind) (operation_in (bare_of ty) kind)
+-- the operator that is used of a value of this type: its own, and else that of the type without null
+abbrev pub operation_of : Table → Ty → BinaryOperatorKind → Option Operation
+operation_of table ty kind = option_or (operation_on table ty kind) (operation_on table (non_null_of table ty) kind)
 
--- Where an operator stands behind a value of this type: the type must have the operator. One that admits null and has it null aside, and Null itself, may not be used unchecked; of Invalid no more is said, and Never has no value that could be used.
+-- whether no operator is looked for: of Never there is no value that could be used, and of Invalid no more is said
+abbrev pub takes_any : Ty → Bool
+takes_any ty = same_type ty never || holds_invalid ty
+
+-- whether an operator may stand behind a value of a type: the type has it, or none is looked for
+abbrev pub may_operate : Table → Ty → BinaryOperatorKind → Bool
+may_operate table ty kind = is_some (operation_on table ty kind) || takes_any (member_type table ty)
+
+-- Where an operator stands behind a value of this type: the type must have the operator. One that is no subtype of Object, but has it without null, may not be used unchecked; nor may Null, which is Never without null.
 abbrev pub receiver_faults : Table → Span → Ty → BinaryOperatorKind → List Fault
 receiver_faults table span ty kind =
-    if is_some (operation_in ty kind) || (holds_invalid ty || same_type ty never) then []
-    else (if not (sub table ty object) && (is_some (operation_of ty kind) || same_type ty null) then fault_over span UncheckedNullableUse
+    if may_operate table ty kind then []
+    else (if not (sub table ty object) && may_operate table (non_null_of table ty) kind then fault_over span UncheckedNullableUse
     else fault_over span UndefinedOperator)
 
 -- the type of an operator's result where its right side has this type: its own where that fits; what has no value gives none
 abbrev pub result_type : Table → Ty → Option Operation → Ty → Ty
-result_type table receiver None argument = if same_type receiver never then never else invalid
+result_type table receiver None argument = if same_type (member_type table receiver) never then never else invalid
 result_type table receiver (Some operation) argument = if sub table argument operation.parameter then operation.result else invalid
 
 -- the right side of an operator must fit what it takes
@@ -142,11 +151,11 @@ argument_faults table at (Some operation) argument = fit_faults table ArgumentTy
 -- An operator of a class, from what its sides give.
 abbrev pub operated_row : Table → BinaryOperator → Place → Evaluation → Evaluation → Evaluation
 operated_row table operator at left right = record {
-  ty = result_type table left.ty (operation_of left.ty operator.kind) right.ty;
+  ty = result_type table left.ty (operation_of table left.ty operator.kind) right.ty;
   after = right.after;
   when_true = right.after;
   when_false = right.after;
-  faults = left.faults ++ (right.faults ++ (receiver_faults table operator.span left.ty operator.kind ++ argument_faults table at (operation_of left.ty operator.kind) right.ty));
+  faults = left.faults ++ (right.faults ++ (receiver_faults table operator.span left.ty operator.kind ++ argument_faults table at (operation_of table left.ty operator.kind) right.ty));
   nodes = left.nodes ++ right.nodes;
 }
 
@@ -158,7 +167,7 @@ parameter_of (Some operation) = Some operation.parameter
 -- the left side is judged first, and then the right one, of which the operator wants its parameter's type
 abbrev pub member_operator_row : Table → BinaryOperator → Place → Evaluation → Judged → Evaluation
 member_operator_row table operator at left right =
-    operated_row table operator at left (right (parameter_of (operation_of left.ty operator.kind)) left.after)
+    operated_row table operator at left (right (parameter_of (operation_of table left.ty operator.kind)) left.after)
 
 -- what is known where a local isn't null: no more than before where there is none
 abbrev pub where_not_null : Table → Option LocalId → FlowModel → FlowModel
@@ -186,10 +195,10 @@ operator_row table operator at compared left right = kind_row table operator ope
 
 -- Calls.
 
--- A call of `print` takes any value, and gives none.
+-- A call of `print` takes any value, and gives none; of one whose type holds Invalid no more is said.
 abbrev pub print_row : Table → Place → Evaluation → Evaluation
 print_row table at value = record value {
-  ty = void;
+  ty = if holds_invalid value.ty then invalid else void;
   when_true = value.after;
   when_false = value.after;
   faults = value.faults ++ fit_faults table ArgumentType at value.ty (nullable object);

@@ -3,6 +3,7 @@ pub mod Surroundings
 pub mod DeclaredNames
 pub mod Literals
 pub mod Given
+pub mod Receivers
 pub mod ExpressionRows
 pub mod StatementRows
 pub mod Written

@@ -6,13 +6,15 @@
 //! row of a table for each form (`specs/ExpressionRows.antt`, `specs/StatementRows.antt`), and the
 //! recursion over trees that cites them (`specs/Judgement.antt`). The rules are those of the Dart
 //! specification and its null safety, restated in docs/LANGUAGE.md. The crate has these definitions,
-//! the plain types of what they say, diagnostics among them, and one function, `integer_of`, that the
-//! judge and the elaboration both call: the value of an integer literal. It stands on the trees, the
-//! types and the flow models, and the judge proves its code against it.
+//! the plain types of what they say, diagnostics among them, one function, `integer_of`, that the
+//! judge and the elaboration both call: the value of an integer literal, and a law of the types whose
+//! members receivers have. It stands on the trees, the types, their bounds and the flow models, and the
+//! judge proves its code against it.
 #![tactic(auto)]
 
 mod code;
 mod fault;
+mod laws;
 mod literals;
 mod meaning;
 mod operation;
@@ -20,6 +22,7 @@ mod typed;
 
 pub use code::DiagnosticCode;
 pub use fault::Fault;
+pub use laws::members_are_those_of_bounds;
 pub use literals::integer_of;
 pub use meaning::Meaning;
 pub use operation::Operation;

@@ -9,6 +9,7 @@ pub mod Loops
 pub mod Meanings
 pub mod Operators
 pub mod Parts
+pub mod Receivers
 pub mod Saying
 pub mod Shadowing
 pub mod Sizes

@@ -47,19 +47,19 @@ module _ {E : Type 0} (r : Result Typed E) (table : Table) (operator : BinaryOpe
 
   -- an operator of a class, whose sides were judged one after the other, and then it was looked for
   pub of_operation : (found mid behind now : Found) (first second : Typed) (wanted : Option Ty) → (operator.kind ≡ NotEqual → ⊥)
-      → wanted ≡ parameter_of (operation_of first.ty operator.kind)
+      → wanted ≡ parameter_of (operation_of table first.ty operator.kind)
       → Evaluates found mid first left_at left → Evaluates mid behind second right_at (right wanted first.after.value)
       → now.nodes ≡ behind.nodes
       → IfOk r (λ typed. RowEvaluates behind.faults.items now.faults.items typed at (operated_row table operator second.at (typed_of first) (typed_of second)))
       → IfOk r (λ typed. Evaluates found now typed at (operator_row table operator right_at compared left right))
   of_operation found mid behind now first second wanted is wants one then_other same given =
-      let value = right (parameter_of (operation_of left.ty operator.kind)) left.after in
+      let value = right (parameter_of (operation_of table left.ty operator.kind)) left.after in
       let other : Evaluates mid behind second right_at value =
-      subst (λ (m : FlowModel). Evaluates mid behind second right_at (right (parameter_of (operation_of left.ty operator.kind)) m)) one.after_is
-      (subst (λ (t : Ty). Evaluates mid behind second right_at (right (parameter_of (operation_of t operator.kind)) first.after.value)) one.type_is
+      subst (λ (m : FlowModel). Evaluates mid behind second right_at (right (parameter_of (operation_of table left.ty operator.kind)) m)) one.after_is
+      (subst (λ (t : Ty). Evaluates mid behind second right_at (right (parameter_of (operation_of table t operator.kind)) first.after.value)) one.type_is
       (subst (λ (w : Option Ty). Evaluates mid behind second right_at (right w first.after.value)) wants then_other))
       in
-      let own = λ (p : Place) (t u : Ty). receiver_faults table operator.span t operator.kind ++ argument_faults table p (operation_of t operator.kind) u in
+      let own = λ (p : Place) (t u : Ty). receiver_faults table operator.span t operator.kind ++ argument_faults table p (operation_of table t operator.kind) u in
       let so_far = behind.faults.items in
       subst (λ (e : Evaluation). IfOk r (λ typed. Evaluates found now typed at e)) (member_kind table operator operator.kind right_at compared left right is)
       (IfOk-weaker r (λ typed. RowEvaluates behind.faults.items now.faults.items typed at (operated_row table operator second.at (typed_of first) (typed_of second)))
@@ -68,8 +68,8 @@ module _ {E : Type 0} (r : Result Typed E) (table : Table) (operator : BinaryOpe
         place_is = row.place_is;
         type_is =
             row.type_is
-            ∙ ap (λ (t : Ty). result_type table t (operation_of t operator.kind) second.ty) one.type_is
-            ∙ ap (λ (u : Ty). result_type table left.ty (operation_of left.ty operator.kind) u) other.type_is;
+            ∙ ap (λ (t : Ty). result_type table t (operation_of table t operator.kind) second.ty) one.type_is
+            ∙ ap (λ (u : Ty). result_type table left.ty (operation_of table left.ty operator.kind) u) other.type_is;
         after_is = row.after_is ∙ other.after_is;
         when_true_is = row.when_true_is ∙ other.after_is;
         when_false_is = row.when_false_is ∙ other.after_is;

@@ -3,6 +3,7 @@ pub mod Bodies
 pub mod CoreTypes
 pub mod Judged
 pub mod Points
+pub mod Receivers
 pub mod Rows
 pub mod Said
 pub mod Shadows

@@ -4,6 +4,7 @@ mod core_types;
 mod expressions;
 mod models;
 mod operators;
+mod receivers;
 mod statements;
 mod types;
 mod writes;

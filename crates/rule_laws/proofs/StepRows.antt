@@ -102,7 +102,7 @@ module _ (table : Table) (laws : StepLaws table) (m : FlowModel) where
     -- an operator of a class
     member_steps : Evaluates table m (member_operator_row table operator at left right) (v ++ w)
     member_steps =
-        let after = both_sides (parameter_of (operation_of left.ty operator.kind)) in
+        let after = both_sides (parameter_of (operation_of table left.ty operator.kind)) in
         record { after = after; when_true = after; when_false = after }
 
     -- an operator of a kind

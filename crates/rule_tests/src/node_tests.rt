@@ -105,6 +105,17 @@ const IN_ARMS: &str = "\
 28 - - int-
 6 - - .";
 
+// A call of `print` with a value that a diagnostic leaves open is left open too.
+const UNASSIGNED: &str = "int x;print(x);";
+
+const IN_UNASSIGNED: &str = "\
+10 - x . int-
+7 - - . int-
+17 invalid x int-
+13 invalid print int-
+12 - - int-
+6 - - .";
+
 // What a node names.
 fn element_told(element: &Option<Meaning>) -> &'static str {
     match element {
@@ -180,6 +191,7 @@ fn nodes_say_what_is_known(rt: HostRuntime) -> Result<(), Fail> {
         (LOOP, IN_LOOP),
         (ENDLESS, IN_ENDLESS),
         (ARMS, IN_ARMS),
+        (UNASSIGNED, IN_UNASSIGNED),
     ] {
         assert_eq!(rt;
             nodes_told(rt.alloc(), body)?.as_str().trim_end(),

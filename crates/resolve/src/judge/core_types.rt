@@ -1,7 +1,7 @@
 //! The types that rows of the rules name.
 
 ghost use Rattle.std.specs.Prelude.{◌≡◌, IfOk};
-ghost use Rattle.dart_types.specs.Ty.{null, nullable};
+ghost use Rattle.dart_types.specs.Ty.{never, null, nullable};
 ghost use Rattle.dart_types.specs.Heads.{object};
 ghost use Rattle.judgement.specs.ExpressionRows.{bool, int};
 
@@ -17,6 +17,7 @@ pub(super) struct CoreTypes {
     object: DartType,
     any: DartType,
     null: DartType,
+    never: DartType,
 }
 
 impl Model for CoreTypes {
@@ -43,12 +44,16 @@ impl CoreTypes {
         let null = DartType {
             node: TypeNode::Null,
         };
+        let never = DartType {
+            node: TypeNode::Never,
+        };
         Ok(CoreTypes {
             int,
             bool,
             object,
             any,
             null,
+            never,
         })
     }
 
@@ -85,5 +90,12 @@ impl CoreTypes {
         ensures { result.now ≡ null }
     {
         &self.null
+    }
+
+    /// `Never`, the type of no value
+    pub(super) fn never(&self) -> &DartType
+        ensures { result.now ≡ never }
+    {
+        &self.never
     }
 }

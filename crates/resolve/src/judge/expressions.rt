@@ -2,11 +2,12 @@
 
 #![tactic(auto, using(std::proofs::lemmas::Grind::common_steps, crate::proofs::Saying::said_no_more, crate::proofs::Saying::said_twice))]
 
-ghost use Rattle.std.specs.Prelude.{◌≡◌, ◌∷◌, [], is_some, None, IfOk, OnOk};
+ghost use Rattle.std.specs.Prelude.{◌≡◌, ◌∷◌, [], is_some, None, IfOk, OnOk, if◌then◌else◌};
 ghost use Rattle.std.specs.Option.{option_copied};
 ghost use Rattle.dart_tree.specs.Tree.{Part, binary_expression, call, trees_of};
 ghost use Rattle.flow_model.specs.Flow.{facts_of};
-ghost use Rattle.dart_types.specs.Ty.{invalid, null};
+ghost use Rattle.dart_types.specs.Invalid.{holds_invalid};
+ghost use Rattle.dart_types.specs.Ty.{invalid, null, void};
 ghost use Rattle.judgement.specs.Given.{exits_if_never, faulty, of_type};
 ghost use Rattle.judgement.specs.ExpressionRows as row;
 ghost use Rattle.judgement.specs.Judgement as judgement;
@@ -114,7 +115,7 @@ fn judge_operator(
         let second = judge_expression(behind, right, None, found)?;
         return differ(context, at, compared, &second);
     }
-    let operation = operation_of(context.alloc, context.core, &first.ty, operator.kind)?;
+    let operation = operation_of(context, &first.ty, operator.kind)?;
     let wanted = parameter_of(&operation);
     let second = judge_expression(behind, right, wanted, found)?;
     operate(
@@ -229,10 +230,20 @@ fn judge_print(
         point.context.core.any(),
         &mut found.faults,
     )?;
-    let ty = DartType {
+    of_type(at, printed_type(&printed.ty), printed.after.clone()?)
+}
+
+// The type of a call of `print`: it gives no value; of an argument whose type holds Invalid no more is
+// said.
+fn printed_type(argument: &DartType) -> DartType
+    ensures { result ≡ (if holds_invalid argument.now then invalid else void) }
+{
+    if argument.holds_invalid() {
+        return invalid_type();
+    }
+    DartType {
         node: TypeNode::Void,
-    };
-    of_type(at, ty, printed.after.clone()?)
+    }
 }
 
 // An expression of type Never exits: nothing is reached behind it.

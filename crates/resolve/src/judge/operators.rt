@@ -8,7 +8,8 @@ ghost use Rattle.resolve.specs.Judged.{Adds, IfHas, IfRowEvaluates, typed_of};
 ghost use Rattle.resolve.specs.Rows.{operated};
 
 use super::models::where_not_null;
-use super::types::{fits, has_operation, invalid_type, is_never, is_null};
+use super::receivers::member_type;
+use super::types::{fits, invalid_type, is_never, may_operate, may_operate_without_null};
 use super::{Context, Typed, of_type, report};
 use dart_tree::{BinaryOperator, Place};
 use dart_types::{DartType, Rows, is_subtype};
@@ -26,10 +27,10 @@ pub(super) fn operate(
     right: &Typed,
     faults: &mut Vec<Fault>,
 ) -> Result<Typed, AllocError>
-    requires { operation.now ≡ row.operation_of left.now.ty operator.kind }
+    requires { operation.now ≡ row.operation_of context.rows.now.table left.now.ty operator.kind }
     ensures { IfRowEvaluates faults.old faults.new result at (operated context.entry operator left.now right.now) }
 {
-    check_receiver(context, operator, operation, &left.ty, faults)?;
+    check_receiver(context, operator, &left.ty, faults)?;
     check_argument(context.rows, operation, right, faults)?;
     let ty = result_type(context, &left.ty, operation, &right.ty)?;
     of_type(at, ty, right.after.clone()?)
@@ -45,22 +46,20 @@ pub(super) fn parameter_of(operation: &Option<Operation>) -> Option<&DartType>
     }
 }
 
-// The type on the left must have the operator, and may not be one that has it null aside.
+// The type on the left must have the operator, and may not be one that has it without null alone.
 fn check_receiver(
     context: Context,
     operator: BinaryOperator,
-    operation: &Option<Operation>,
     ty: &DartType,
     faults: &mut Vec<Fault>,
 ) -> Result<(), AllocError>
-    requires { operation.now ≡ row.operation_of ty.now operator.kind }
     ensures { Adds faults.old faults.new result (row.receiver_faults context.entry.rows.now.table operator.span ty.now operator.kind) }
 {
-    if has_operation(ty, operator.kind) || ty.holds_invalid() || is_never(ty) {
+    if may_operate(context, ty, operator.kind) {
         return Ok(());
     }
     if !is_subtype(context.rows, ty, context.core.object())
-        && (operation.is_some() || is_null(ty))
+        && may_operate_without_null(context, ty, operator.kind)
     {
         return report(operator.span, DiagnosticCode::UncheckedNullableUse, faults);
     }
@@ -115,8 +114,9 @@ fn result_type(
 {
     match operation {
         None => {
-            if is_never(receiver) {
-                return receiver.copy(context.alloc);
+            let members = member_type(context.rows, receiver);
+            if is_never(members) {
+                return members.copy(context.alloc);
             }
             Ok(invalid_type())
         }

@@ -174,7 +174,7 @@ fn judge_if(
         &tested.when_false,
         found,
     )?;
-    let after = Flow::meeting(context.alloc, &one, &other)?;
+    let after = Flow::meeting(context.alloc, context.rows, &one, &other)?;
     say(at, None, before, &after, found)?;
     Ok(after)
 }

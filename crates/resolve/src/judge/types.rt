@@ -1,14 +1,16 @@
 //! What the rows ask of types.
 
-ghost use Rattle.std.specs.Prelude.{◌≡◌, is_some, IfOk};
-ghost use Rattle.std.specs.Option.{option_copied};
+ghost use Rattle.std.specs.Prelude.{◌≡◌, ◌||◌, is_some, IfOk};
 ghost use Rattle.dart_types.specs.Ty.{invalid, never, null};
 ghost use Rattle.dart_types.specs.Same.{same_type};
 ghost use Rattle.dart_types.specs.SubTest.{sub};
+ghost use Rattle.type_bounds.specs.NonNull.{non_null_of};
 ghost use Rattle.judgement.specs.Given as given;
 ghost use Rattle.judgement.specs.ExpressionRows as row;
 
+use super::Context;
 use super::core_types::CoreTypes;
+use super::receivers::{member_type, member_type_without_null};
 use dart_tree::BinaryOperatorKind;
 use dart_types::{DartType, INT, Rows, TypeNode, is_subtype};
 use judgement::Operation;
@@ -43,16 +45,6 @@ pub(super) fn is_never(t: &DartType) -> bool
     matches!(&t.node, TypeNode::Never)
 }
 
-// What is left of a type without its `?`.
-fn bare(t: &DartType) -> &DartType
-    ensures { result.now ≡ row.bare_of t.now }
-{
-    match &t.node {
-        TypeNode::Nullable(bare) => bare,
-        _ => t,
-    }
-}
-
 // The operators of int.
 fn int_operation(
     alloc: Global,
@@ -74,19 +66,7 @@ fn int_operation(
     }
 }
 
-// Whether a type has the operator.
-pub(super) fn has_operation(t: &DartType, kind: BinaryOperatorKind) -> bool
-    ensures { result ≡ is_some (row.operation_in t.now kind) }
-{
-    match &t.node {
-        TypeNode::Interface { class, .. } => {
-            *class == INT && matches!(kind, BinaryOperatorKind::Add | BinaryOperatorKind::Less)
-        }
-        _ => false,
-    }
-}
-
-// The operator that a type has.
+// The operator that a class has, and none of the other types.
 fn operation_in(
     alloc: Global,
     core: &CoreTypes,
@@ -106,18 +86,58 @@ fn operation_in(
     }
 }
 
-// The operator that is used of a value of this type: its own, and else that of the type without its
-// `?`.
+// The operator that is used of a value of this type: its own, and else that of the type without null.
 pub(super) fn operation_of(
-    alloc: Global,
-    core: &CoreTypes,
+    context: Context,
     t: &DartType,
     kind: BinaryOperatorKind,
 ) -> Result<Option<Operation>, AllocError>
-    ensures { IfOk result (λ operation. operation ≡ row.operation_of t.now kind) }
+    ensures { IfOk result (λ operation. operation ≡ row.operation_of context.entry.rows.now.table t.now kind) }
 {
-    if let Some(own) = operation_in(alloc, core, t, kind)? {
-        return Ok(Some(own));
+    let own = member_type(context.rows, t);
+    if let Some(operation) = operation_in(context.alloc, context.core, own, kind)? {
+        return Ok(Some(operation));
     }
-    operation_in(alloc, core, bare(t), kind)
+    let bare = member_type_without_null(context.rows, context.core, t);
+    operation_in(context.alloc, context.core, bare, kind)
+}
+
+// Whether an operator may stand behind a value of a type, which has it, or of which none is looked for.
+pub(super) fn may_operate(context: Context, t: &DartType, kind: BinaryOperatorKind) -> bool
+    ensures { result ≡ row.may_operate context.entry.rows.now.table t.now kind }
+{
+    takes(member_type(context.rows, t), kind)
+}
+
+// Likewise without null.
+pub(super) fn may_operate_without_null(
+    context: Context,
+    t: &DartType,
+    kind: BinaryOperatorKind,
+) -> bool
+    ensures { let table = context.entry.rows.now.table in result ≡ row.may_operate table (non_null_of table t.now) kind }
+{
+    takes(
+        member_type_without_null(context.rows, context.core, t),
+        kind,
+    )
+}
+
+// Whether a type that has its own members takes an operator.
+fn takes(t: &DartType, kind: BinaryOperatorKind) -> bool
+    ensures { result ≡ (is_some (row.operation_in t.now kind) || row.takes_any t.now) }
+{
+    has_operation(t, kind) || is_never(t) || t.holds_invalid()
+}
+
+// Whether it has the operator.
+fn has_operation(t: &DartType, kind: BinaryOperatorKind) -> bool
+    ensures { result ≡ is_some (row.operation_in t.now kind) }
+{
+    match &t.node {
+        TypeNode::Interface { class, .. } => {
+            *class == INT && matches!(kind, BinaryOperatorKind::Add | BinaryOperatorKind::Less)
+        }
+        _ => false,
+    }
 }
