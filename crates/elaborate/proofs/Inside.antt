@@ -1,5 +1,5 @@
 -- The facts of points are of slots that the function has.
-use Rattle.std.proofs.Common.{◌-◌, Bool, true, false, cond, nat_eq, nat_lt, filter, fold, map, List, [], ◌∷◌}
+use Rattle.std.proofs.Common.{Bool, true, false, cond, nat_eq, nat_lt, filter, fold, map, List, [], ◌∷◌}
 use Rattle.std.specs.Prelude.{All}
 use Rattle.std.proofs.lemmas.List.Elements.{All-head, All-tail, All-cons, All-nil}
 use Rattle.dart_types.specs.Ty.{Ty}

@@ -1,5 +1,5 @@
 -- Which facts of a point tell at least as much as which.
-use Rattle.std.proofs.Common.{◌≡◌, ℕ, ◌-◌, ◌<◌, Bool, true, false, List, length, Option, Some, None, refl, sym, ◌∙◌, subst, arith, IsTrue}
+use Rattle.std.proofs.Common.{◌≡◌, ℕ, ◌<◌, Bool, true, false, List, length, Option, Some, None, refl, sym, ◌∙◌, subst, arith, IsTrue}
 use Rattle.dart_types.specs.Ty.{Ty}
 use Rattle.dart_types.specs.SubTest.{sub}
 use Rattle.flow_model.specs.Flow.{FlowModel, facts_of, current_of}

@@ -1,4 +1,4 @@
-use Rattle.std.proofs.Common.{◌-◌, ap, arith}
+use Rattle.std.proofs.Common.{ap, arith}
 use Rattle.elaborate.proofs.LookEntries.{indexes_none, indexes_step}
 use Rattle.elaborate.proofs.said.index.Goals as goal
 

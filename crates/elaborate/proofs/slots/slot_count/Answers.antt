@@ -1,4 +1,4 @@
-use Rattle.std.proofs.Common.{◌-◌, List, drop, sym, ap, ◌∙◌, arith}
+use Rattle.std.proofs.Common.{List, drop, sym, ap, ◌∙◌, arith}
 use Rattle.judgement.specs.NodeFacts.{NodeFacts}
 use Rattle.rule_laws.specs.Keys.{numbers_said}
 use Rattle.elaborate.specs.Elaborated.{past_all}
