@@ -1,5 +1,6 @@
 pub mod Cases
 pub mod Clauses
 pub mod Nearest
+pub mod Once
 pub mod Unread
 pub mod Untyped

@@ -1,11 +1,12 @@
 //! Blocks, and what is declared in them.
 
-ghost use Rattle.std.specs.Prelude.{◌≡◌, ◌≢◌, ◌+◌, ◌≤◌, length, None, Err, IfOk};
-ghost use Rattle.readings.specs.Descent.{take_token, take_maybe, take_before, take_inside, take_make, all_items, ◌▸◌};
+ghost use Rattle.std.specs.Prelude.{◌≡◌, ◌≢◌, ◌+◌, ◌≤◌, length, None, Some, Err, IfOk};
+ghost use Rattle.readings.specs.Readings.{made};
+ghost use Rattle.readings.specs.Descent.{bind, take_token, take_given, take_maybe, take_before, take_inside, take_make, all_items, ◌▸◌};
 ghost use Rattle.dart_tree.specs.Tree.{trees_of};
 ghost use Rattle.dart_tree.specs.Heights.{higher, height, heights};
 ghost use Rattle.grammar.specs.Tokens.{is, heads_name, width, past};
-ghost use Rattle.grammar.specs.Statements.{error_of, arrow_body_of};
+ghost use Rattle.grammar.specs.Statements.{error_of, variables_of, arrow_body_of};
 ghost use Rattle.grammar.specs.Descents.{lower, take_separated, take_unread, take_block, take_declared, take_variable, take_variables, take_variable_statement, take_local_body, take_local_rest, take_local_function, take_function_statement};
 ghost use Rattle.parse_leaves.specs.declared.miss.Miss.TheVariants.{NoReading};
 ghost use Rattle.parse_leaves.specs.Answers.{Gives, IsDeep, AreDeep};
@@ -206,6 +207,55 @@ fn variable_names<'k, B: Below<'k>>(
     Ok((list, height, rest))
 }
 
+/// Variables whose names come next, behind what stands before them, which begins at `start`.
+#[tactic(auto, using(parse_leaves::specs::Sizes::higher_within))]
+pub fn variables_behind<'k, B: Below<'k>>(
+    below: &B,
+    alloc: Global,
+    start: &[Token],
+    before: (bool, Option<WrittenType>),
+    reach: u32,
+    tokens: &'k [Token],
+) -> Result<(VariableList, u32, &'k [Token]), Miss>
+    requires limit { B.room below.now ≤ 200 }
+    requires sound { B.sound below.now }
+    requires known { IsPartDeep (B.room below.now) before.1 reach }
+    ensures reading { Gives (λ x. (x.0, x.2.now)) result
+        (bind ((take_given before ▸ take_separated (take_variable (lower (B.room below.now)))) tokens.now) (λ x. Some (made variables_of start.now x))) }
+    ensures deep { IfOk result (λ x. IsDeep (B.room below.now) x.0 x.1) }
+{
+    let (is_final, written) = before;
+    let (variables, height, rest) = variable_names(below, alloc, tokens)?;
+    let list = VariableList {
+        at: place_over(start, rest),
+        is_final,
+        written,
+        variables,
+    };
+    Ok((list, higher(reach, height), rest))
+}
+
+/// Variables that are declared together, of which what stands before their names has been read:
+/// `start` is where they begin.
+#[tactic(auto, unfolding(grammar::specs::Descents::take_variables))]
+pub fn declared_variables<'k, B: Below<'k>>(
+    below: &B,
+    alloc: Global,
+    start: &[Token],
+    before: (bool, Option<WrittenType>),
+    reach: u32,
+    tokens: &'k [Token],
+) -> Result<(VariableList, u32, &'k [Token]), Miss>
+    requires limit { B.room below.now ≤ 200 }
+    requires sound { B.sound below.now }
+    requires known { IsPartDeep (B.room below.now) before.1 reach }
+    requires read { take_declared (lower (B.room below.now)) start.now ≡ Some (before, tokens.now) }
+    ensures reading { Gives (λ x. (x.0, x.2.now)) result (take_variables (lower (B.room below.now)) start.now) }
+    ensures deep { IfOk result (λ x. IsDeep (B.room below.now) x.0 x.1) }
+{
+    variables_behind(below, alloc, start, before, reach, tokens)
+}
+
 /// Variables that are declared together.
 #[tactic(auto, unfolding(grammar::specs::Descents::take_variables))]
 pub fn variables<'k, B: Below<'k>>(
@@ -218,19 +268,37 @@ pub fn variables<'k, B: Below<'k>>(
     ensures reading { Gives (λ x. (x.0, x.2.now)) result (take_variables (lower (B.room below.now)) tokens.now) }
     ensures deep { IfOk result (λ x. IsDeep (B.room below.now) x.0 x.1) }
 {
-    let ((is_final, written), tall, rest) = declared(below, alloc, tokens)?;
-    let (variables, height, rest) = variable_names(below, alloc, rest)?;
-    let list = VariableList {
-        at: place_over(tokens, rest),
-        is_final,
-        written,
-        variables,
-    };
-    Ok((list, higher(tall, height), rest))
+    let (before, reach, rest) = declared(below, alloc, tokens)?;
+    declared_variables(below, alloc, tokens, before, reach, rest)
+}
+
+/// A statement that declares variables, of which what stands before their names has been read:
+/// `start` is where it begins.
+#[tactic(auto, unfolding(grammar::specs::Descents::take_variable_statement))]
+pub fn variable_statement_behind<'k, B: Below<'k>>(
+    below: &B,
+    alloc: Global,
+    start: &[Token],
+    before: (bool, Option<WrittenType>),
+    reach: u32,
+    tokens: &'k [Token],
+) -> Result<(Stmt, u32, &'k [Token]), Miss>
+    requires limit { B.room below.now ≤ 200 }
+    requires sound { B.sound below.now }
+    requires known { IsPartDeep (B.room below.now) before.1 reach }
+    requires read { take_declared (lower (B.room below.now)) start.now ≡ Some (before, tokens.now) }
+    ensures reading { Gives (λ x. (x.0, x.2.now)) result (take_variable_statement (lower (B.room below.now)) start.now) }
+    ensures deep { IfOk result (λ x. IsDeep (B.room below.now + 1) x.0 x.1) }
+{
+    let (variables, height, rest) = declared_variables(below, alloc, start, before, reach, tokens)?;
+    let (_, rest) = token(rest, Kind::Semicolon).ok_or(Miss::NoReading)?;
+    let at = place_over(start, rest);
+    let node = Box::new(alloc, StmtNode::Variables { at, variables })?;
+    Ok((Stmt { node }, height + 1, rest))
 }
 
 /// A statement that declares variables.
-#[tactic(auto, unfolding(grammar::specs::Descents::take_variable_statement))]
+#[tactic(auto, unfolding(grammar::specs::Descents::take_variable_statement, grammar::specs::Descents::take_variables))]
 pub fn variable_statement<'k, B: Below<'k>>(
     below: &B,
     alloc: Global,
@@ -241,11 +309,8 @@ pub fn variable_statement<'k, B: Below<'k>>(
     ensures reading { Gives (λ x. (x.0, x.2.now)) result (take_variable_statement (lower (B.room below.now)) tokens.now) }
     ensures deep { IfOk result (λ x. IsDeep (B.room below.now + 1) x.0 x.1) }
 {
-    let (variables, height, rest) = variables(below, alloc, tokens)?;
-    let (_, rest) = token(rest, Kind::Semicolon).ok_or(Miss::NoReading)?;
-    let at = place_over(tokens, rest);
-    let node = Box::new(alloc, StmtNode::Variables { at, variables })?;
-    Ok((Stmt { node }, height + 1, rest))
+    let (before, reach, rest) = declared(below, alloc, tokens)?;
+    variable_statement_behind(below, alloc, tokens, before, reach, rest)
 }
 
 /// `=>`, an expression and a `;` as a body.
@@ -311,27 +376,32 @@ fn local_rest<'k, B: Below<'k>>(
     Ok(((parameters, body), higher(tall, height), rest))
 }
 
-/// A function among statements.
+/// A function among statements, of which the type of the result has been read: `start` is where it
+/// begins.
 #[tactic(auto, unfolding(grammar::specs::Descents::take_local_function))]
-fn local_function<'k, B: Below<'k>>(
+fn function_behind<'k, B: Below<'k>>(
     below: &B,
     alloc: Global,
+    start: &[Token],
+    written: Option<WrittenType>,
+    highest: u32,
     tokens: &'k [Token],
 ) -> Result<(Function, u32, &'k [Token]), Miss>
     requires limit { B.room below.now ≤ 200 }
     requires sound { B.sound below.now }
-    ensures reading { Gives (λ x. (x.0, x.2.now)) result (take_local_function (lower (B.room below.now)) tokens.now) }
+    requires known { IsPartDeep (B.room below.now) written highest }
+    requires read { take_maybe (take_before heads_name (lower (B.room below.now)).named) start.now ≡ Some (written, tokens.now) }
+    ensures reading { Gives (λ x. (x.0, x.2.now)) result (take_local_function (lower (B.room below.now)) start.now) }
     ensures deep { IfOk result (λ x. IsDeep (B.room below.now) x.0 x.1) }
 {
-    let (result, highest, rest) = some_name_type(below, alloc, tokens)?;
-    let (word, rest) = name(rest).ok_or(Miss::NoReading)?;
+    let (word, rest) = name(tokens).ok_or(Miss::NoReading)?;
     let (found, reach, rest) = some_type_parameters(below, alloc, rest)?;
     let ((parameters, body), height, rest) = local_rest(below, alloc, rest)?;
     let node = Box::new(
         alloc,
         FunctionNode::Plain {
-            at: place_over(tokens, rest),
-            result,
+            at: place_over(start, rest),
+            result: written,
             name: name_at(word),
             type_parameters: listed_type_parameters(alloc, found),
             parameters,
@@ -342,8 +412,31 @@ fn local_function<'k, B: Below<'k>>(
     Ok((Function { node }, height, rest))
 }
 
-/// A function among statements, as one of them.
+/// A function among statements, as one of them, of which the type of the result has been read.
 #[tactic(auto, unfolding(grammar::specs::Descents::take_function_statement))]
+pub fn function_statement_behind<'k, B: Below<'k>>(
+    below: &B,
+    alloc: Global,
+    start: &[Token],
+    written: Option<WrittenType>,
+    highest: u32,
+    tokens: &'k [Token],
+) -> Result<(Stmt, u32, &'k [Token]), Miss>
+    requires limit { B.room below.now ≤ 200 }
+    requires sound { B.sound below.now }
+    requires known { IsPartDeep (B.room below.now) written highest }
+    requires read { take_maybe (take_before heads_name (lower (B.room below.now)).named) start.now ≡ Some (written, tokens.now) }
+    ensures reading { Gives (λ x. (x.0, x.2.now)) result (take_function_statement (lower (B.room below.now)) start.now) }
+    ensures deep { IfOk result (λ x. IsDeep (B.room below.now + 1) x.0 x.1) }
+{
+    let (function, height, rest) = function_behind(below, alloc, start, written, highest, tokens)?;
+    let at = place_over(start, rest);
+    let node = Box::new(alloc, StmtNode::Function { at, function })?;
+    Ok((Stmt { node }, height + 1, rest))
+}
+
+/// A function among statements, as one of them.
+#[tactic(auto, using(crate::proofs::Once::maybe_never))]
 pub fn function_statement<'k, B: Below<'k>>(
     below: &B,
     alloc: Global,
@@ -354,8 +447,6 @@ pub fn function_statement<'k, B: Below<'k>>(
     ensures reading { Gives (λ x. (x.0, x.2.now)) result (take_function_statement (lower (B.room below.now)) tokens.now) }
     ensures deep { IfOk result (λ x. IsDeep (B.room below.now + 1) x.0 x.1) }
 {
-    let (function, height, rest) = local_function(below, alloc, tokens)?;
-    let at = place_over(tokens, rest);
-    let node = Box::new(alloc, StmtNode::Function { at, function })?;
-    Ok((Stmt { node }, height + 1, rest))
+    let (written, highest, rest) = some_name_type(below, alloc, tokens)?;
+    function_statement_behind(below, alloc, tokens, written, highest, rest)
 }

@@ -9,6 +9,6 @@ mod tries;
 
 pub use blocks::{
     block_within, declared, function_statement, local_body, some_name_type, variable_statement,
-    variables,
+    variables, variables_behind,
 };
 pub use statements::statement_within;

@@ -4,7 +4,7 @@ ghost use Rattle.std.specs.Prelude.{◌≡◌, ◌≢◌, ◌+◌, ◌≤◌, So
 ghost use Rattle.readings.specs.Readings.{tokens_read};
 ghost use Rattle.readings.specs.Descent.{take_token, take_maybe, take_inside, take_turn, ◌▸◌, ◌⊘◌};
 ghost use Rattle.dart_tree.specs.Heights.{higher, height};
-ghost use Rattle.grammar.specs.Tokens.{is, width, past};
+ghost use Rattle.grammar.specs.Tokens.{is, is_name, width, past};
 ghost use Rattle.grammar.specs.Types.{listed_or_none};
 ghost use Rattle.grammar.specs.Statements.{ended, each_with, for_with};
 ghost use Rattle.grammar.specs.Descents.{lower, take_separated, take_declared, take_variables, take_each, take_start, take_counted, take_for};
@@ -12,7 +12,7 @@ ghost use Rattle.parse_leaves.specs.declared.miss.Miss.TheVariants.{NoReading};
 ghost use Rattle.parse_leaves.specs.Answers.{Gives, IsDeep, AreDeep};
 ghost use Rattle.parse_leaves.specs.Parts.{header_of, header_height, initial_of, declared_height, IsPartDeep};
 
-use crate::blocks::{declared, variables};
+use crate::blocks::{declared, declared_variables};
 use crate::statements::some_expression;
 use dart_tokens::Kind;
 use dart_tree::{Expr, ForInitializer, Stmt, StmtNode, WrittenType};
@@ -54,42 +54,43 @@ fn each_header(declared: Option<(bool, Option<WrittenType>)>, name: Token, itera
     }
 }
 
-/// A name, which may be declared, `in` and an expression.
-#[tactic(auto, unfolding(grammar::specs::Descents::take_each))]
-fn each<'k, B: Below<'k>>(
+/// A name, `in` and an expression.
+fn element<'k, B: Below<'k>>(
     below: &B,
     alloc: Global,
     tokens: &'k [Token],
-) -> Result<(Header, u32, &'k [Token]), Miss>
+) -> Result<((Token, Token, Expr), u32, &'k [Token]), Miss>
     requires limit { B.room below.now ≤ 200 }
     requires sound { B.sound below.now }
-    ensures reading { Gives (λ x. (header_of x.0, x.2.now)) result (take_each (lower (B.room below.now)) tokens.now) }
-    ensures deep { IfOk result (λ x. (x.1 ≡ header_height (header_of x.0)) × (x.1 ≤ (B.room below.now))) }
+    ensures reading { Gives (λ x. ((x.0.0, (x.0.1, x.0.2)), x.2.now)) result
+        ((take_token is_name ▸ take_token (is Kind.In) ▸ (lower (B.room below.now)).expression Setting.Plain) tokens.now) }
+    ensures deep { IfOk result (λ x. IsDeep (B.room below.now) x.0.2 x.1) }
 {
-    let (found, tall, rest) = some_declared(below, alloc, tokens)?;
-    let (word, rest) = name(rest).ok_or(Miss::NoReading)?;
-    let (_, rest) = token(rest, Kind::In).ok_or(Miss::NoReading)?;
+    let (name, rest) = name(tokens).ok_or(Miss::NoReading)?;
+    let (word, rest) = token(rest, Kind::In).ok_or(Miss::NoReading)?;
     let (iterable, height, rest) = below.expression(alloc, Setting::Plain, rest)?;
-    Ok((
-        each_header(found, word, iterable),
-        higher(tall, height),
-        rest,
-    ))
+    Ok(((name, word, iterable), height, rest))
 }
 
-/// Variables and a `;`.
+/// Variables and a `;`, of which what stands before the names has been read: `start` is where they
+/// begin.
 fn declaring_start<'k, B: Below<'k>>(
     below: &B,
     alloc: Global,
+    start: &[Token],
+    before: (bool, Option<WrittenType>),
+    reach: u32,
     tokens: &'k [Token],
 ) -> Result<(ForInitializer, u32, &'k [Token]), Miss>
     requires limit { B.room below.now ≤ 200 }
     requires sound { B.sound below.now }
+    requires known { IsPartDeep (B.room below.now) before.1 reach }
+    requires read { take_declared (lower (B.room below.now)) start.now ≡ Some (before, tokens.now) }
     ensures reading { Gives (λ x. (initial_of x.0, x.2.now)) result
-        (take_turn (λ x. Some (ended x)) (take_variables (lower (B.room below.now)) ▸ take_token (is Kind.Semicolon)) tokens.now) }
+        (take_turn (λ x. Some (ended x)) (take_variables (lower (B.room below.now)) ▸ take_token (is Kind.Semicolon)) start.now) }
     ensures deep { IfOk result (λ x. IsPartDeep (B.room below.now) (initial_of x.0) x.1) }
 {
-    let (variables, height, rest) = variables(below, alloc, tokens)?;
+    let (variables, height, rest) = declared_variables(below, alloc, start, before, reach, tokens)?;
     let (_, rest) = token(rest, Kind::Semicolon).ok_or(Miss::NoReading)?;
     Ok((ForInitializer::Variables(variables), height, rest))
 }
@@ -121,21 +122,30 @@ fn plain_start<'k, B: Below<'k>>(
     Ok((initial_expression(value), height, rest))
 }
 
-/// How a loop that counts begins.
-#[tactic(auto, unfolding(grammar::specs::Descents::take_start))]
+/// How a loop that counts begins, of which what stands before a name has been read: `begin` is where
+/// it begins.
+#[tactic(auto, unfolding(grammar::specs::Descents::take_start), using(crate::proofs::Once::maybe_some, crate::proofs::Once::maybe_none, crate::proofs::Once::undeclared_variables))]
 fn start<'k, B: Below<'k>>(
     below: &B,
     alloc: Global,
+    begin: &'k [Token],
+    found: Option<(bool, Option<WrittenType>)>,
+    reach: u32,
     tokens: &'k [Token],
 ) -> Result<(ForInitializer, u32, &'k [Token]), Miss>
     requires limit { B.room below.now ≤ 200 }
     requires sound { B.sound below.now }
-    ensures reading { Gives (λ x. (initial_of x.0, x.2.now)) result (take_start (lower (B.room below.now)) tokens.now) }
+    requires known { (reach ≡ declared_height found) × (reach ≤ B.room below.now) }
+    requires read { take_maybe (take_declared (lower (B.room below.now))) begin.now ≡ Some (found, tokens.now) }
+    ensures reading { Gives (λ x. (initial_of x.0, x.2.now)) result (take_start (lower (B.room below.now)) begin.now) }
     ensures deep { IfOk result (λ x. IsPartDeep (B.room below.now) (initial_of x.0) x.1) }
 {
-    match declaring_start(below, alloc, tokens) {
+    let Some(before) = found else {
+        return plain_start(below, alloc, begin);
+    };
+    match declaring_start(below, alloc, begin, before, reach, tokens) {
         Ok(found) => Ok(found),
-        Err(Miss::NoReading) => plain_start(below, alloc, tokens),
+        Err(Miss::NoReading) => plain_start(below, alloc, begin),
         Err(Miss::Memory) => Err(Miss::Memory),
     }
 }
@@ -203,19 +213,25 @@ fn listed_updates(alloc: Global, found: Option<Vec<Expr>>) -> Vec<Expr>
     }
 }
 
-/// What a loop that counts begins with.
+/// What a loop that counts begins with, of which what stands before a name has been read: `begin` is
+/// where it begins.
 #[tactic(auto, unfolding(grammar::specs::Descents::take_counted))]
 fn counted<'k, B: Below<'k>>(
     below: &B,
     alloc: Global,
+    begin: &'k [Token],
+    found: Option<(bool, Option<WrittenType>)>,
+    reach: u32,
     tokens: &'k [Token],
 ) -> Result<(Header, u32, &'k [Token]), Miss>
     requires limit { B.room below.now ≤ 200 }
     requires sound { B.sound below.now }
-    ensures reading { Gives (λ x. (header_of x.0, x.2.now)) result (take_counted (lower (B.room below.now)) tokens.now) }
+    requires known { (reach ≡ declared_height found) × (reach ≤ B.room below.now) }
+    requires read { take_maybe (take_declared (lower (B.room below.now))) begin.now ≡ Some (found, tokens.now) }
+    ensures reading { Gives (λ x. (header_of x.0, x.2.now)) result (take_counted (lower (B.room below.now)) begin.now) }
     ensures deep { IfOk result (λ x. (x.1 ≡ header_height (header_of x.0)) × (x.1 ≤ (B.room below.now))) }
 {
-    let (initializer, reach, rest) = start(below, alloc, tokens)?;
+    let (initializer, reach, rest) = start(below, alloc, begin, found, reach, tokens)?;
     let (condition, tall, rest) = some_expression(below, alloc, rest)?;
     let (_, rest) = token(rest, Kind::Semicolon).ok_or(Miss::NoReading)?;
     let (found, height, rest) = some_updates(below, alloc, rest)?;
@@ -227,7 +243,37 @@ fn counted<'k, B: Below<'k>>(
     Ok((header, higher(reach, higher(tall, height)), rest))
 }
 
-/// What stands between the parentheses of a `for`.
+/// What stands between the parentheses of a `for`, of which what stands before a name has been read:
+/// `begin` is where it begins.
+#[tactic(auto, unfolding(grammar::specs::Descents::take_each))]
+fn header_behind<'k, B: Below<'k>>(
+    below: &B,
+    alloc: Global,
+    begin: &'k [Token],
+    found: Option<(bool, Option<WrittenType>)>,
+    reach: u32,
+    tokens: &'k [Token],
+) -> Result<(Header, u32, &'k [Token]), Miss>
+    requires limit { B.room below.now ≤ 200 }
+    requires sound { B.sound below.now }
+    requires known { (reach ≡ declared_height found) × (reach ≤ B.room below.now) }
+    requires read { take_maybe (take_declared (lower (B.room below.now))) begin.now ≡ Some (found, tokens.now) }
+    ensures reading { Gives (λ x. (header_of x.0, x.2.now)) result
+        ((take_each (lower (B.room below.now)) ⊘ take_counted (lower (B.room below.now))) begin.now) }
+    ensures deep { IfOk result (λ x. (x.1 ≡ header_height (header_of x.0)) × (x.1 ≤ (B.room below.now))) }
+{
+    match element(below, alloc, tokens) {
+        Ok(((name, _, iterable), height, rest)) => {
+            let header = each_header(found, name, iterable);
+            Ok((header, higher(reach, height), rest))
+        }
+        Err(Miss::NoReading) => counted(below, alloc, begin, found, reach, tokens),
+        Err(Miss::Memory) => Err(Miss::Memory),
+    }
+}
+
+/// What stands between the parentheses of a `for`: what stands before a name is read once.
+#[tactic(auto, using(crate::proofs::Once::maybe_never))]
 fn header<'k, B: Below<'k>>(
     below: &B,
     alloc: Global,
@@ -239,11 +285,8 @@ fn header<'k, B: Below<'k>>(
         ((take_each (lower (B.room below.now)) ⊘ take_counted (lower (B.room below.now))) tokens.now) }
     ensures deep { IfOk result (λ x. (x.1 ≡ header_height (header_of x.0)) × (x.1 ≤ (B.room below.now))) }
 {
-    match each(below, alloc, tokens) {
-        Ok(found) => Ok(found),
-        Err(Miss::NoReading) => counted(below, alloc, tokens),
-        Err(Miss::Memory) => Err(Miss::Memory),
-    }
+    let (found, reach, rest) = some_declared(below, alloc, tokens)?;
+    header_behind(below, alloc, tokens, found, reach, rest)
 }
 
 /// The parentheses of a `for`.

@@ -1,25 +1,29 @@
 //! Statements.
 
-ghost use Rattle.std.specs.Prelude.{◌≡◌, ◌≢◌, ◌+◌, ◌≤◌, None, Err, option_map, IfOk};
-ghost use Rattle.readings.specs.Descent.{take_token, take_given, take_maybe, take_where, take_turn, ◌▸◌, ◌⊘◌};
+ghost use Rattle.std.specs.Prelude.{◌≡◌, ◌≢◌, ◌+◌, ◌≤◌, true, false, None, Some, Err, option_map, IfOk};
+ghost use Rattle.readings.specs.Readings.{next};
+ghost use Rattle.readings.specs.Descent.{take_token, take_given, take_maybe, take_where, take_before, take_turn, ◌▸◌, ◌⊘◌};
 ghost use Rattle.dart_tree.specs.Heights.{height};
-ghost use Rattle.grammar.specs.Tokens.{is};
+ghost use Rattle.grammar.specs.Tokens.{is, is_either, is_name, heads_name, first_then};
 ghost use Rattle.grammar.specs.Statements.{ends_open};
 ghost use Rattle.grammar.specs.Descents.{lower, take_expression_statement, take_return, take_break, take_continue, take_rethrow, take_labeled, take_condition, take_if, take_while, take_do, take_function_statement, take_variable_statement, take_other_statement, take_block, take_statement};
 ghost use Rattle.parse_leaves.specs.declared.miss.Miss.TheVariants.{NoReading};
 ghost use Rattle.parse_leaves.specs.Answers.{Gives, IsDeep};
 ghost use Rattle.parse_leaves.specs.Parts.{IsPartDeep};
 
-use crate::blocks::{block_group, function_statement, variable_statement};
+use crate::blocks::{
+    block_group, function_statement_behind, some_name_type, variable_statement,
+    variable_statement_behind,
+};
 use crate::loops::for_statement;
 use crate::switches::switch_statement;
 use crate::tries::try_statement;
 use dart_tokens::Kind;
-use dart_tree::{Expr, Stmt, StmtNode};
+use dart_tree::{Expr, Stmt, StmtNode, WrittenType};
 use grammar::{Setting, Token};
 use parse_leaves::{
-    Below, Miss, expression_group, heads, heads_label, higher, identifier_at, name, name_at,
-    place_over, some_name, token,
+    Below, Miss, expression_group, heads, heads_either, heads_label, higher, identifier_at, name,
+    name_at, place_over, some_name, token,
 };
 use std::alloc::Global;
 
@@ -326,7 +330,105 @@ fn variables_or_expression<'k, B: Below<'k>>(
     }
 }
 
-/// A statement that declares a function or variables, or is an expression.
+/// A name comes next, and behind it what the parameters of a function begin with.
+fn heads_function(tokens: &[Token]) -> bool
+    ensures { result ≡ first_then is_name (next (is_either Kind.OpenParenthesis Kind.Less)) tokens.now }
+{
+    match tokens.split_first() {
+        Some((first, rest)) => {
+            first.kind.is_identifier() && heads_either(rest, Kind::OpenParenthesis, Kind::Less)
+        }
+        None => false,
+    }
+}
+
+/// A function of which the type of the result has been read, or an expression: a `(` or `<` behind
+/// the name leaves no variables.
+fn function_or_expression<'k, B: Below<'k>>(
+    below: &B,
+    alloc: Global,
+    start: &'k [Token],
+    written: Option<WrittenType>,
+    reach: u32,
+    tokens: &'k [Token],
+) -> Result<(Stmt, u32, &'k [Token]), Miss>
+    requires limit { B.room below.now ≤ 200 }
+    requires sound { B.sound below.now }
+    requires known { IsPartDeep (B.room below.now) written reach }
+    requires plain { next (is_either Kind.Final Kind.Var) start.now ≡ false }
+    requires read { take_maybe (take_before heads_name (lower (B.room below.now)).named) start.now ≡ Some (written, tokens.now) }
+    requires called { first_then is_name (next (is_either Kind.OpenParenthesis Kind.Less)) tokens.now ≡ true }
+    ensures reading { Gives (λ x. (x.0, x.2.now)) result
+        ((take_function_statement (lower (B.room below.now)) ⊘ take_variable_statement (lower (B.room below.now))
+        ⊘ take_expression_statement (lower (B.room below.now))) start.now) }
+    ensures deep { IfOk result (λ x. IsDeep (B.room below.now + 1) x.0 x.1) }
+{
+    match function_statement_behind(below, alloc, start, written, reach, tokens) {
+        Ok(found) => Ok(found),
+        Err(Miss::NoReading) => expression_statement(below, alloc, start),
+        Err(Miss::Memory) => Err(Miss::Memory),
+    }
+}
+
+/// Variables of which the type has been read, or an expression.
+#[tactic(auto, using(crate::proofs::Once::typed_declared))]
+fn typed_or_expression<'k, B: Below<'k>>(
+    below: &B,
+    alloc: Global,
+    start: &'k [Token],
+    written: WrittenType,
+    reach: u32,
+    tokens: &'k [Token],
+) -> Result<(Stmt, u32, &'k [Token]), Miss>
+    requires limit { B.room below.now ≤ 200 }
+    requires sound { B.sound below.now }
+    requires known { IsDeep (B.room below.now) written reach }
+    requires plain { next (is_either Kind.Final Kind.Var) start.now ≡ false }
+    requires read { take_maybe (take_before heads_name (lower (B.room below.now)).named) start.now ≡ Some (Some written, tokens.now) }
+    ensures reading { Gives (λ x. (x.0, x.2.now)) result
+        ((take_variable_statement (lower (B.room below.now)) ⊘ take_expression_statement (lower (B.room below.now))) start.now) }
+    ensures deep { IfOk result (λ x. IsDeep (B.room below.now + 1) x.0 x.1) }
+{
+    let before = (false, Some(written));
+    match variable_statement_behind(below, alloc, start, before, reach, tokens) {
+        Ok(found) => Ok(found),
+        Err(Miss::NoReading) => expression_statement(below, alloc, start),
+        Err(Miss::Memory) => Err(Miss::Memory),
+    }
+}
+
+/// A statement that begins with a type or a name, of which a type in front of a name has been read.
+#[tactic(auto, using(crate::proofs::Once::uncalled_function, crate::proofs::Once::untyped_variables))]
+fn statement_behind<'k, B: Below<'k>>(
+    below: &B,
+    alloc: Global,
+    start: &'k [Token],
+    found: Option<WrittenType>,
+    reach: u32,
+    tokens: &'k [Token],
+) -> Result<(Stmt, u32, &'k [Token]), Miss>
+    requires limit { B.room below.now ≤ 200 }
+    requires sound { B.sound below.now }
+    requires known { IsPartDeep (B.room below.now) found reach }
+    requires plain { next (is_either Kind.Final Kind.Var) start.now ≡ false }
+    requires read { take_maybe (take_before heads_name (lower (B.room below.now)).named) start.now ≡ Some (found, tokens.now) }
+    ensures reading { Gives (λ x. (x.0, x.2.now)) result
+        ((take_function_statement (lower (B.room below.now)) ⊘ take_variable_statement (lower (B.room below.now))
+        ⊘ take_expression_statement (lower (B.room below.now))) start.now) }
+    ensures deep { IfOk result (λ x. IsDeep (B.room below.now + 1) x.0 x.1) }
+{
+    if heads_function(tokens) {
+        return function_or_expression(below, alloc, start, found, reach, tokens);
+    }
+    match found {
+        Some(written) => typed_or_expression(below, alloc, start, written, reach, tokens),
+        None => expression_statement(below, alloc, start),
+    }
+}
+
+/// A statement that declares a function or variables, or is an expression: a type in front of a name
+/// is read once.
+#[tactic(auto, using(crate::proofs::Once::word_function, crate::proofs::Once::maybe_never))]
 fn function_or_other<'k, B: Below<'k>>(
     below: &B,
     alloc: Global,
@@ -339,11 +441,11 @@ fn function_or_other<'k, B: Below<'k>>(
         ⊘ take_expression_statement (lower (B.room below.now))) tokens.now) }
     ensures deep { IfOk result (λ x. IsDeep (B.room below.now + 1) x.0 x.1) }
 {
-    match function_statement(below, alloc, tokens) {
-        Ok(found) => Ok(found),
-        Err(Miss::NoReading) => variables_or_expression(below, alloc, tokens),
-        Err(Miss::Memory) => Err(Miss::Memory),
+    if heads_either(tokens, Kind::Final, Kind::Var) {
+        return variables_or_expression(below, alloc, tokens);
     }
+    let (found, reach, rest) = some_name_type(below, alloc, tokens)?;
+    statement_behind(below, alloc, tokens, found, reach, rest)
 }
 
 /// A statement that no word tells.
