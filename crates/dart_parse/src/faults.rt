@@ -12,7 +12,7 @@ use dart_text::Text;
 use dart_tree::{Place, Span, Unit};
 use error_nodes::error_nodes;
 use grammar::Token;
-use parse_expr::{starts_before, tokens_over};
+use parse_expr::{starts_before_near, tokens_from};
 use segment_faults::{SegmentFault, deep_tokens, segment_fault};
 use std::alloc::{AllocError, Global};
 
@@ -25,21 +25,24 @@ pub struct TreeFault {
     pub fault: SegmentFault,
 }
 
-/// What is wrong with the segment over which an error stands.
-fn fault_over(text: &[Token], deep: &[bool], at: Place) -> TreeFault
+/// What is wrong with the segment over which an error stands, before which so many tokens begin.
+fn fault_over(text: &[Token], deep: &[bool], first: usize, at: Place) -> TreeFault
     requires ordered { IsNonDecreasingBy (λ t. t.start) text.now }
     requires deep { AreDeep text.now deep.now }
+    requires bound { first ≤ length text.now }
+    requires before { AllWithin (λ t. nat_lt t.start at.span.start ≡ true) text.now 0 first }
+    requires behind { AllWithin (λ t. nat_lt t.start at.span.start ≡ false) text.now first (length text.now) }
     ensures { result ≡ fault_over text.now at }
 {
-    let first = starts_before(text, at.span.start);
-    let count = tokens_over(text, &at).len();
+    let count = tokens_from(text, first, &at).len();
     TreeFault {
         span: at.span,
         fault: segment_fault(text, deep, first, count),
     }
 }
 
-/// What is wrong with the segments over which errors stand.
+/// What is wrong with the segments over which errors stand. Each is searched for from the one before
+/// it on.
 fn faults_over(
     alloc: Global,
     text: &[Token],
@@ -51,8 +54,11 @@ fn faults_over(
 {
     let deep = deep_tokens(alloc, text)?;
     let mut faults = Vec::new(alloc);
+    let mut near = 0;
     for at in errors {
-        faults.push(fault_over(text, &deep, *at))?;
+        let first = starts_before_near(text, near, at.span.start);
+        faults.push(fault_over(text, &deep, first, *at))?;
+        near = first;
     }
     Ok(faults)
 }

@@ -11,10 +11,7 @@ use work_counts::Work;
 
 /// The interface part of a text. The errors are a text that is too long, and want of memory.
 fn interface_of(alloc: Global, text: &str) -> Result<Interface, TextRefusal> {
-    let mut lines = String::new(alloc);
-    for letter in text.chars() {
-        lines.push(if letter == '¶' { '\n' } else { letter })?;
-    }
+    let lines = text.replace(alloc, "¶", "\n")?;
     let text = Text::from_str(alloc, &lines)?;
     let unit = parse_unit(alloc, &text, false, &mut Work::new())?;
     Ok(interface_part(alloc, &unit)?)

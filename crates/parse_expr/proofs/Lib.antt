@@ -2,8 +2,8 @@ pub mod Attempts
 pub mod Begun
 pub mod Found
 pub mod Levels
-pub mod Places
 pub mod Sections
 pub mod Segments
+pub mod Starts
 pub mod Types
 pub mod WholeLists

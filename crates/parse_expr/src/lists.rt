@@ -1,7 +1,6 @@
 //! Lists of statements, with errors among them, read where they stand.
 
-ghost use Rattle.std.specs.Prelude.{◌≡◌, ◌<◌, ◌≤◌, ℕ, true, false, nat_lt, suc, length, map, drop, IfOk, OnOk};
-ghost use Rattle.std.specs.List.{AllWithin};
+ghost use Rattle.std.specs.Prelude.{◌≡◌, ◌≤◌, suc, map, drop, IfOk};
 ghost use Rattle.std.specs.List.Sorted.{IsNonDecreasingBy};
 ghost use Rattle.readings.specs.Descent.{all_items};
 ghost use Rattle.dart_tree.specs.Tree.{trees_of};
@@ -15,10 +14,11 @@ ghost use Rattle.unread_lists.specs.WithLists.{with_lists, all_with_lists};
 use crate::items::next_item;
 use crate::node::part_at;
 use crate::part::{Node, Part};
+use crate::places::{starts_before, starts_before_near, tokens_from};
 use dart_tokens::Kind;
 use dart_tree::{Place, Stmt};
 use grammar::{Token, list_laws};
-use parse_leaves::{Miss, first_tokens, tokens_behind};
+use parse_leaves::{Miss, tokens_behind};
 use read_lists::{ReadsLists, read_stmts};
 use std::alloc::{AllocError, Global};
 
@@ -86,26 +86,6 @@ fn statements(alloc: Global, room: u32, tokens: &[Token]) -> Result<Vec<Stmt>, A
     Ok(list)
 }
 
-/// How many of the tokens begin before an offset.
-pub fn starts_before(tokens: &[Token], offset: u32) -> usize
-    requires ordered { IsNonDecreasingBy (λ t. t.start) tokens.now }
-    ensures bound { result ≤ length tokens.now }
-    ensures before { AllWithin (λ t. nat_lt t.start offset ≡ true) tokens.now 0 result }
-    ensures behind { AllWithin (λ t. nat_lt t.start offset ≡ false) tokens.now result (length tokens.now) }
-{
-    tokens.partition_point(|token| token.start < offset)
-}
-
-/// The tokens of a text that stand at a place.
-#[tactic(auto, using(crate::proofs::Places::tokens_at, crate::proofs::Places::ordered_behind))]
-pub fn tokens_over<'k>(text: &'k [Token], at: &Place) -> &'k [Token]
-    requires ordered { IsNonDecreasingBy (λ t. t.start) text.now }
-    ensures { result.now ≡ tokens_at text.now at.now }
-{
-    let behind = tokens_behind(text, starts_before(text, at.span.start));
-    first_tokens(behind, starts_before(behind, at.span.end))
-}
-
 /// Reads lists of statements by a function, which lie at most so many deep in each other.
 #[derive(Drop)]
 struct ListReader<'k, F: Drop> {
@@ -158,11 +138,13 @@ fn list_law(text: &[Token], less: u32, room: u32, at: Place)
 }
 
 /// The statements of the list at a place, where `room` nodes may lie on a way down from each, with the
-/// lists in them read: lists lie at most `depth` deep in each other.
+/// lists in them read: lists lie at most `depth` deep in each other. The list begins behind `near`
+/// tokens of the text or a few more, or else its place is searched for in all of the text.
 #[tactic(auto, using(crate::proofs::WholeLists::none_at, crate::proofs::WholeLists::some_at))]
 fn list_at(
     alloc: Global,
     text: &[Token],
+    near: usize,
     depth: u32,
     room: u32,
     at: Place,
@@ -176,16 +158,17 @@ fn list_at(
     }
     let less = depth - 1;
     list_law(text, less, room, at);
+    let first = starts_before_near(text, near, at.span.start);
     let reader = ListReader {
         read: |inner, place|
             requires limit { inner ≤ 201 }
             requires ordered { IsNonDecreasingBy (λ t. t.start) text.now }
             ensures { IfOk result (λ list. trees_of list.items ≡ statements_at less text.entry.now inner place) }
-        { list_at(alloc, text, less, inner, place) },
+        { list_at(alloc, text, first, less, inner, place) },
         text,
         lists: less,
     };
-    whole_statements(&reader, alloc, room, tokens_over(text, &at))
+    whole_statements(&reader, alloc, room, tokens_from(text, first, &at))
 }
 
 /// Reads the lists of statements of a text, each where it stands.
@@ -216,7 +199,8 @@ impl<'k> ReadsLists for TextLists<'k> {
         at: &Place,
         statements: &mut Vec<Stmt>,
     ) -> Result<(), AllocError> {
-        *statements = list_at(alloc, self.text, 201, room, *at)?;
+        let first = starts_before(self.text, at.span.start);
+        *statements = list_at(alloc, self.text, first, 201, room, *at)?;
         Ok(())
     }
 }

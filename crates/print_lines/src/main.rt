@@ -11,18 +11,11 @@ use work_counts::Work;
 
 /// What is printed for a line. The errors are a text that is too long, and want of memory.
 fn answer(alloc: Global, line: &str) -> Result<String, TextRefusal> {
-    let mut lines = String::new(alloc);
-    for letter in line.chars() {
-        lines.push(if letter == '¶' { '\n' } else { letter })?;
-    }
+    let lines = line.replace(alloc, "¶", "\n")?;
     let text = Text::from_str(alloc, &lines)?;
     let unit = parse_unit(alloc, &text, false, &mut Work::new())?;
     let printed = print(alloc, &unit)?;
-    let mut row = String::new(alloc);
-    for letter in printed.chars() {
-        row.push(if letter == '\n' { '¶' } else { letter })?;
-    }
-    Ok(row)
+    Ok(printed.replace(alloc, "\n", "¶")?)
 }
 
 fn main(rt: HostRuntime) -> io::Result<()> {

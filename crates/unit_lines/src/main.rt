@@ -10,15 +10,6 @@ use std::alloc::{AllocError, Global};
 use std::io::{self, Read};
 use work_counts::Work;
 
-/// A line with its line feeds.
-fn with_line_feeds(alloc: Global, line: &str) -> Result<String, AllocError> {
-    let mut text = String::new(alloc);
-    for letter in line.chars() {
-        text.push(if letter == '¶' { '\n' } else { letter })?;
-    }
-    Ok(text)
-}
-
 /// The faults in a row.
 fn row(alloc: Global, faults: &[TreeFault]) -> Result<String, AllocError> {
     let mut row = String::new(alloc);
@@ -33,8 +24,8 @@ fn row(alloc: Global, faults: &[TreeFault]) -> Result<String, AllocError> {
 
 /// What is printed for a line. The errors are a text that is too long, and want of memory.
 fn answer(alloc: Global, line: &str) -> Result<String, TextRefusal> {
-    let line = with_line_feeds(alloc, line)?;
-    let text = Text::from_str(alloc, &line)?;
+    let lines = line.replace(alloc, "¶", "\n")?;
+    let text = Text::from_str(alloc, &lines)?;
     let unit = parse_unit(alloc, &text, false, &mut Work::new())?;
     let faults = tree_faults(alloc, &text, &unit)?;
     if faults.is_empty() {

@@ -1,8 +1,8 @@
 use Rattle.std.proofs.Common.{nat_lt, rules}
 use Rattle.std.proofs.lemmas.List.Sorted.{IsPartitionPoint-from_clause}
 use Rattle.dart_tokens.specs.declared.grouped_token.GroupedToken.{GroupedToken as Token}
-use Rattle.parse_expr.proofs.Places.{parted}
-use Rattle.parse_expr.proofs.lists.starts_before.Goals as goal
+use Rattle.parse_expr.proofs.Starts.{parted}
+use Rattle.parse_expr.proofs.places.starts_before.Goals as goal
 
 pub returns-clause-before : goal.returns-clause-before
 returns-clause-before c =

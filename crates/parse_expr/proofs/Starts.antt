@@ -1,8 +1,9 @@
 -- The tokens that stand at a place, where tokens stand in the order of their starts.
-use Rattle.std.proofs.Common.{◌≡◌, ℕ, zero, suc, ◌+◌, ◌<◌, ◌≤◌, Bool, true, false, not, ◌&&◌, nat_lt, if◌then◌else◌, List, [], ◌∷◌, length, take, drop, get_or, refl, sym, ap, subst, ◌∙◌, arith}
+use Rattle.std.proofs.Common.{◌≡◌, ℕ, zero, suc, ◌+◌, ◌-◌, ◌<◌, ◌≤◌, Bool, true, false, not, ◌&&◌, nat_lt, nat_le, if◌then◌else◌, List, [], ◌∷◌, length, take, drop, get_or, refl, sym, ap, subst, ◌∙◌, arith}
 use Rattle.std.specs.List.{AllWithin, filter}
 use Rattle.std.specs.List.Sorted.{IsNonDecreasingBy, IsPartitionedBy}
 use Rattle.std.proofs.lemmas.Bool.Decides.{nat_tests}
+use Rattle.std.proofs.lemmas.List.{get_or_default}
 use Rattle.dart_tree.specs.declared.places.Place.{Place}
 use Rattle.dart_tokens.specs.declared.grouped_token.GroupedToken.{GroupedToken as Token}
 use Rattle.grammar.specs.Whole.{tokens_over}
@@ -44,6 +45,24 @@ parted offset ts ordered i j d le lt h =
     let no_more : (get_or ts i d).start ≤ (get_or ts j d).start = ordered i j d le lt in
     let first : (get_or ts i d).start < offset = omega (arith, below, no_more) in
     grind (arith, nat_tests, first)
+
+-- of tokens in order, up to one that begins before an offset all do
+pub all_before : (offset count : ℕ) (ts : List Token) (e : Token) → IsNonDecreasingBy (λ t. t.start) ts → 0 < count → count ≤ length ts → nat_lt (get_or ts (count - 1) e).start offset ≡ true → AllWithin (λ t. nat_lt t.start offset ≡ true) ts 0 count
+all_before offset count ts e ordered some few last k d low high =
+    let no_more : (get_or ts k d).start ≤ (get_or ts (count - 1) d).start = ordered k (count - 1) d (omega (arith, high)) (omega (arith, some, few)) in
+    let same : get_or ts (count - 1) d ≡ get_or ts (count - 1) e = get_or_default ts (count - 1) d e (omega (arith, some, few)) in
+    let first : (get_or ts (count - 1) e).start < offset = grind (arith, nat_tests, last) in
+    let before : (get_or ts k d).start < offset = omega (arith, no_more, ap (λ (t : Token). t.start) same, first) in
+    grind (arith, nat_tests, before)
+
+-- from one on that doesn't, none does
+pub none_behind : (offset count : ℕ) (ts : List Token) (e : Token) → IsNonDecreasingBy (λ t. t.start) ts → nat_le offset (get_or ts count e).start ≡ true → AllWithin (λ t. nat_lt t.start offset ≡ false) ts count (length ts)
+none_behind offset count ts e ordered next k d low high =
+    let no_less : (get_or ts count d).start ≤ (get_or ts k d).start = ordered count k d low high in
+    let same : get_or ts count d ≡ get_or ts count e = get_or_default ts count d e (omega (arith, low, high)) in
+    let first : offset ≤ (get_or ts count e).start = grind (arith, nat_tests, next) in
+    let not_before : offset ≤ (get_or ts k d).start = omega (arith, no_less, ap (λ (t : Token). t.start) same, first) in
+    grind (arith, nat_tests, not_before)
 
 -- the tokens at a place
 pub tokens_at : (text behind : List Token) (at : Place) (from to : ℕ) → behind ≡ drop from text → from ≤ length text → AllWithin (λ t. nat_lt t.start at.span.start ≡ true) text 0 from →
