@@ -1,6 +1,7 @@
 //! The table of what marks a construct that the language leaves out.
 
-ghost use Rattle.std.specs.Prelude.{◌≡◌, ◌≤◌, length};
+ghost use Rattle.std.specs.Prelude.{◌≡◌, ◌≤◌, ℕ, true, List, None, drop, length};
+ghost use Rattle.dart_tokens.specs.declared.grouped_token.GroupedToken.{GroupedToken as Token};
 ghost use Rattle.readings.specs.Readings.{either};
 ghost use Rattle.grammar.specs.Tokens.{first_then, heads, is, is_either, is_name};
 ghost use Rattle.segment_faults.specs.Table.{asynchronous, behind, continue_case, fault_at, forms, lexemes, mixin_application, one_right_behind, parameters_equals, redirecting_factory, row_at, triple_shift, two_right_behind, words};
@@ -254,6 +255,26 @@ fn form_at(tokens: &[Token], first: usize, place: usize) -> Option<SegmentFault>
     None
 }
 
+/// No row of the table fits where such a token comes next: a bracket or a separator, or an identifier
+/// that is no word of the language, where no label can be.
+fn heads_no_row(ahead: &[Token]) -> bool
+    ensures { result ≡ true → (text : List Token) (first place : ℕ) → ahead.now ≡ drop place text → fault_at text first place ≡ None }
+{
+    let Some((token, rest)) = ahead.split_first() else {
+        return false;
+    };
+    match token.kind {
+        Kind::Identifier => !heads(rest, Kind::Colon),
+        Kind::OpenParenthesis => true,
+        Kind::CloseParenthesis => true,
+        Kind::OpenBrace => true,
+        Kind::CloseBrace => true,
+        Kind::Semicolon => true,
+        Kind::Comma => true,
+        _ => false,
+    }
+}
+
 /// What is wrong by the table at a place of a text, in a segment that begins at the first place.
 pub fn fault_at(tokens: &[Token], first: usize, place: usize) -> Option<SegmentFault>
     requires segment { first ≤ length tokens.now }
@@ -261,6 +282,9 @@ pub fn fault_at(tokens: &[Token], first: usize, place: usize) -> Option<SegmentF
     ensures { result ≡ fault_at tokens.now first place }
 {
     let ahead = tokens_behind(tokens, place);
+    if heads_no_row(ahead) {
+        return None;
+    }
     if let Some(fault) = word_at(ahead) {
         return Some(fault);
     }
