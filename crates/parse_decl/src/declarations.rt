@@ -1,14 +1,15 @@
 //! Declarations of libraries.
 
-ghost use Rattle.std.specs.Prelude.{◌≡◌, ◌≤◌, false, IfOk, option_map};
+ghost use Rattle.std.specs.Prelude.{◌≡◌, ◌≤◌, IfOk, option_map};
 ghost use Rattle.readings.specs.Readings.{tokens_read};
-ghost use Rattle.readings.specs.Descent.{take_token, take_maybe, take_turn, take_where, ◌▸◌};
+ghost use Rattle.readings.specs.Descent.{take_token, take_maybe, take_where, ◌▸◌};
 ghost use Rattle.grammar.specs.Tokens.{is};
 ghost use Rattle.grammar.specs.Types.{behind_token, listed_or_none};
-ghost use Rattle.grammar.specs.Declarations.{declared_function_of, declared_variables_of, heads_class, heads_word, declaration_with};
-ghost use Rattle.grammar.specs.Descents.{lower, take_variables};
-ghost use Rattle.grammar.specs.DeclarationDescents.{take_body, take_function, take_types_behind, take_class_with, take_class, take_mixin, take_alias, take_plain_declaration, take_declaration};
+ghost use Rattle.grammar.specs.Declarations.{of_function, of_variables, heads_class, heads_word, declaration_with};
+ghost use Rattle.grammar.specs.Descents.{lower};
+ghost use Rattle.grammar.specs.DeclarationDescents.{take_types_behind, take_class_with, take_class, take_mixin, take_alias, take_plain_declaration, take_declaration};
 ghost use Rattle.parse_leaves.specs.Answers.{Gives};
+ghost use Rattle.parse_members.specs.Plain.{plain_with};
 ghost use Rattle.parse_decl.specs.Parts.{declaration_form_of};
 
 use crate::leaves::{class_word, heads_class};
@@ -17,8 +18,9 @@ use dart_tokens::Kind;
 use dart_tree::{Annotation, Item, ItemNode, ReadItem, WrittenType};
 use grammar::Token;
 use parse_leaves::{Below, Miss, name_at, place_over, token, type_word};
-use parse_members::{Bodies, function, heads_word, member_list, some_token};
-use parse_statements::variables;
+use parse_members::{
+    Bodies, FunctionOrVariables, function_or_variables, heads_word, member_list, some_token,
+};
 use parse_types::{annotations, listed_type_parameters, some_type_parameters, type_list};
 use std::alloc::{AllocError, Global};
 
@@ -204,44 +206,18 @@ fn type_alias<'k, B: Below<'k>>(
     Ok((DeclarationForm::TypeAlias { name, written }, rest))
 }
 
-/// A function of a library.
-fn declared_function<'k, B: Below<'k>>(
-    below: &B,
-    alloc: Global,
-    in_core: bool,
-    tokens: &'k [Token],
-) -> Result<(DeclarationForm, &'k [Token]), Miss>
-    requires limit { B.room below.now ≤ 200 }
-    requires sound { B.sound below.now }
-    ensures { Gives (λ x. (declaration_form_of x.0, x.1.now)) result
-        (take_turn declared_function_of (take_function (take_body in_core false (lower (B.room below.now))) (lower (B.room below.now))) tokens.now) }
+/// A function or variables as a declaration.
+fn plain_form(found: FunctionOrVariables) -> DeclarationForm
+    ensures { declaration_form_of result ≡ plain_with of_function of_variables found }
 {
-    let bodies = Bodies {
-        in_core,
-        without_body: false,
-    };
-    let (function, rest) = function(below, alloc, bodies, tokens)?;
-    Ok((DeclarationForm::Function { function }, rest))
-}
-
-/// Variables of a library.
-fn declared_variables<'k, B: Below<'k>>(
-    below: &B,
-    alloc: Global,
-    tokens: &'k [Token],
-) -> Result<(DeclarationForm, &'k [Token]), Miss>
-    requires limit { B.room below.now ≤ 200 }
-    requires sound { B.sound below.now }
-    ensures { Gives (λ x. (declaration_form_of x.0, x.1.now)) result
-        (take_turn declared_variables_of (take_variables (lower (B.room below.now)) ▸ take_token (is Kind.Semicolon)) tokens.now) }
-{
-    let (variables, _, rest) = variables(below, alloc, tokens)?;
-    let (_, rest) = token(rest, Kind::Semicolon).ok_or(Miss::NoReading)?;
-    Ok((DeclarationForm::Variables { variables }, rest))
+    match found {
+        FunctionOrVariables::Function { function } => DeclarationForm::Function { function },
+        FunctionOrVariables::Variables { variables } => DeclarationForm::Variables { variables },
+    }
 }
 
 /// A function or variables of a library.
-#[tactic(auto, unfolding(grammar::specs::DeclarationDescents::take_plain_declaration))]
+#[tactic(auto, using(crate::proofs::PlainDeclarations::plain_declaration_missing))]
 fn plain_declaration<'k, B: Below<'k>>(
     below: &B,
     alloc: Global,
@@ -252,11 +228,12 @@ fn plain_declaration<'k, B: Below<'k>>(
     requires sound { B.sound below.now }
     ensures { Gives (λ x. (declaration_form_of x.0, x.1.now)) result (take_plain_declaration in_core (lower (B.room below.now)) tokens.now) }
 {
-    match declared_function(below, alloc, in_core, tokens) {
-        Ok((found, rest)) => Ok((found, rest)),
-        Err(Miss::NoReading) => declared_variables(below, alloc, tokens),
-        Err(Miss::Memory) => Err(Miss::Memory),
-    }
+    let bodies = Bodies {
+        in_core,
+        without_body: false,
+    };
+    let (found, rest) = function_or_variables(below, alloc, bodies, tokens)?;
+    Ok((plain_form(found), rest))
 }
 
 /// A declaration without the annotations before it.

@@ -12,6 +12,7 @@ ghost use Rattle.parse_leaves.specs.Answers.{Finds, Gives};
 ghost use Rattle.parse_members.specs.Parts.{member_form_of};
 
 use crate::functions::{body, semicolon_body};
+use crate::leaves::heads_constructor;
 use crate::parts::{Bodies, MemberForm};
 use dart_tokens::Kind;
 use dart_tree::{ArgumentList, Body, ConstructorName, Identifier, Initializer, InitializerNode};
@@ -294,6 +295,9 @@ pub fn constructor<'k, B: Below<'k>>(
     ensures { Gives (λ x. (member_form_of x.0, x.1.now)) result (take_constructor class (lower (B.room below.now)) tokens.now) }
 {
     let (name, rest) = constructor_name(class, tokens).ok_or(Miss::NoReading)?;
+    if !heads_constructor(rest) {
+        return Err(Miss::NoReading);
+    }
     let (parameters, _, rest) = parameter_list(below, alloc, rest)?;
     let (found, rest) = some_initializer_list(below, alloc, rest)?;
     let (body, rest) = constructor_body(below, alloc, rest)?;

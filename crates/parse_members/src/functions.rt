@@ -1,6 +1,6 @@
 //! Functions of libraries and classes.
 
-ghost use Rattle.std.specs.Prelude.{◌≡◌, ◌≤◌, IfOk};
+ghost use Rattle.std.specs.Prelude.{◌≡◌, ◌≤◌, Some, IfOk};
 ghost use Rattle.readings.specs.Readings.{tokens_read};
 ghost use Rattle.readings.specs.Descent.{take_token, take_maybe, take_make, take_turn, ◌▸◌};
 ghost use Rattle.grammar.specs.Tokens.{is, is_name};
@@ -8,6 +8,7 @@ ghost use Rattle.grammar.specs.Declarations.{native_of, empty_of, getting_of, se
 ghost use Rattle.grammar.specs.Descents.{lower, take_parameter_list, take_type_parameters};
 ghost use Rattle.grammar.specs.DeclarationDescents.{take_allowed, take_body, take_signature, take_function};
 ghost use Rattle.parse_leaves.specs.Answers.{Gives};
+ghost use Rattle.parse_members.specs.Behind.{take_named};
 ghost use Rattle.parse_members.specs.Parts.{signature_of};
 
 use crate::leaves::heads_word;
@@ -16,7 +17,7 @@ use dart_tokens::Kind;
 use dart_tree::{Body, BodyNode, Function, FunctionNode, WrittenType};
 use grammar::Token;
 use parse_leaves::{Below, Miss, heads, name, name_at, place_of, place_over, token};
-use parse_statements::{local_body, some_name_type};
+use parse_statements::local_body;
 use parse_types::{listed_type_parameters, parameter_list, some_type_parameters};
 use std::alloc::{AllocError, Global};
 
@@ -222,21 +223,23 @@ fn function_with(
     Ok(Function { node })
 }
 
-/// A function of a library or a class.
+/// A function of a library or a class, behind the result type that was read where it starts.
 #[tactic(auto, unfolding(grammar::specs::DeclarationDescents::take_function))]
-pub fn function<'k, B: Below<'k>>(
+pub fn function_behind<'k, B: Below<'k>>(
     below: &B,
     alloc: Global,
     bodies: Bodies,
+    start: &[Token],
+    written: Option<WrittenType>,
     tokens: &'k [Token],
 ) -> Result<(Function, &'k [Token]), Miss>
     requires limit { B.room below.now ≤ 200 }
     requires sound { B.sound below.now }
+    requires read { take_named (lower (B.room below.now)) start.now ≡ Some (written, tokens.now) }
     ensures { Gives (λ x. (x.0, x.1.now)) result
-        (take_function (take_body bodies.in_core bodies.without_body (lower (B.room below.now))) (lower (B.room below.now)) tokens.now) }
+        (take_function (take_body bodies.in_core bodies.without_body (lower (B.room below.now))) (lower (B.room below.now)) start.now) }
 {
-    let (written, _, rest) = some_name_type(below, alloc, tokens)?;
-    let (signature, rest) = signature(below, alloc, bodies, rest)?;
-    let found = function_with(alloc, tokens, rest, written, signature)?;
+    let (signature, rest) = signature(below, alloc, bodies, tokens)?;
+    let found = function_with(alloc, start, rest, written, signature)?;
     Ok((found, rest))
 }

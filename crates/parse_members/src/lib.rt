@@ -12,8 +12,9 @@ mod leaves;
 mod members;
 mod operators;
 mod parts;
+mod plain;
 
-pub use functions::function;
 pub use leaves::{heads_word, some_token};
 pub use members::member_list;
-pub use parts::Bodies;
+pub use parts::{Bodies, FunctionOrVariables};
+pub use plain::function_or_variables;

@@ -1,27 +1,30 @@
 //! Members of classes and mixins.
 
-ghost use Rattle.std.specs.Prelude.{◌≡◌, ◌≤◌, IfOk};
+ghost use Rattle.std.specs.Prelude.{◌≡◌, ◌≤◌, Some, IfOk};
 ghost use Rattle.readings.specs.Readings.{tokens_read};
-ghost use Rattle.readings.specs.Descent.{take_token, take_turn, take_inside, take_items, all_items, ◌▸◌, ◌⊘◌};
+ghost use Rattle.readings.specs.Descent.{take_inside, take_items, all_items, ◌⊘◌};
 ghost use Rattle.grammar.specs.Tokens.{is, width, past};
 ghost use Rattle.grammar.specs.Statements.{segment, error_of};
-ghost use Rattle.grammar.specs.Declarations.{begins_static, heads_static, behind_word, method_of, fields_of, member_with};
-ghost use Rattle.grammar.specs.Descents.{lower, take_variables};
-ghost use Rattle.grammar.specs.DeclarationDescents.{take_body, take_function, take_constructor, take_factory, take_operator_member, take_plain_member, take_static_member, take_member, take_members};
+ghost use Rattle.grammar.specs.Declarations.{begins_static, heads_static, method, fields, member_with};
+ghost use Rattle.grammar.specs.Descents.{lower};
+ghost use Rattle.grammar.specs.DeclarationDescents.{take_constructor, take_factory, take_operator_member, take_plain_member, take_static_member, take_member, take_members};
 ghost use Rattle.parse_leaves.specs.Answers.{Gives};
+ghost use Rattle.parse_leaves.specs.Parts.{IsPartDeep};
 ghost use Rattle.parse_expr.specs.Items.{item_of};
+ghost use Rattle.parse_members.specs.Behind.{take_named};
 ghost use Rattle.parse_members.specs.Parts.{member_form_of};
+ghost use Rattle.parse_members.specs.Plain.{plain_with};
 
 use crate::constructors::{constructor, factory};
-use crate::functions::function;
-use crate::operators::operator_member;
-use crate::parts::{Bodies, MemberForm};
+use crate::operators::operator_behind;
+use crate::parts::{Bodies, FunctionOrVariables, MemberForm};
+use crate::plain::function_or_variables_behind;
 use dart_tokens::Kind;
-use dart_tree::{Annotation, Member, MemberNode, ReadMember};
+use dart_tree::{Annotation, Member, MemberNode, ReadMember, WrittenType};
 use grammar::Token;
 use parse_expr::behind_segment;
-use parse_leaves::{Below, Miss, group, place_over, token};
-use parse_statements::variables;
+use parse_leaves::{Below, Miss, group, heads, place_over, token};
+use parse_statements::some_name_type;
 use parse_types::annotations;
 use std::alloc::{AllocError, Global};
 
@@ -51,54 +54,47 @@ fn heads_static(tokens: &[Token]) -> bool
     }
 }
 
-/// A function of a class.
-fn method<'k, B: Below<'k>>(
+/// A function or variables as a member of a class.
+fn plain_form(is_static: bool, found: FunctionOrVariables) -> MemberForm
+    ensures { member_form_of result ≡ plain_with (method is_static) (fields is_static) found }
+{
+    match found {
+        FunctionOrVariables::Function { function } => MemberForm::Method {
+            is_static,
+            function,
+        },
+        FunctionOrVariables::Variables { variables } => MemberForm::Fields {
+            is_static,
+            variables,
+        },
+    }
+}
+
+/// A function or variables of a class, behind the type that was read where they start.
+#[tactic(auto, using(crate::proofs::PlainMembers::plain_member_missing))]
+fn plain_member_behind<'k, B: Below<'k>>(
     below: &B,
     alloc: Global,
     is_static: bool,
     bodies: Bodies,
+    start: &'k [Token],
+    written: Option<WrittenType>,
+    reach: u32,
     tokens: &'k [Token],
 ) -> Result<(MemberForm, &'k [Token]), Miss>
     requires limit { B.room below.now ≤ 200 }
     requires sound { B.sound below.now }
-    ensures { Gives (λ x. (member_form_of x.0, x.1.now)) result
-        (take_turn (method_of is_static) (take_function (take_body bodies.in_core bodies.without_body (lower (B.room below.now))) (lower (B.room below.now))) tokens.now) }
+    requires read { take_named (lower (B.room below.now)) start.now ≡ Some (written, tokens.now) }
+    requires known { IsPartDeep (B.room below.now) written reach }
+    ensures { Gives (λ x. (member_form_of x.0, x.1.now)) result (take_plain_member bodies.in_core is_static bodies.without_body (lower (B.room below.now)) start.now) }
 {
-    let (function, rest) = function(below, alloc, bodies, tokens)?;
-    Ok((
-        MemberForm::Method {
-            is_static,
-            function,
-        },
-        rest,
-    ))
-}
-
-/// Variables of a class.
-fn fields<'k, B: Below<'k>>(
-    below: &B,
-    alloc: Global,
-    is_static: bool,
-    tokens: &'k [Token],
-) -> Result<(MemberForm, &'k [Token]), Miss>
-    requires limit { B.room below.now ≤ 200 }
-    requires sound { B.sound below.now }
-    ensures { Gives (λ x. (member_form_of x.0, x.1.now)) result
-        (take_turn (fields_of is_static) (take_variables (lower (B.room below.now)) ▸ take_token (is Kind.Semicolon)) tokens.now) }
-{
-    let (variables, _, rest) = variables(below, alloc, tokens)?;
-    let (_, rest) = token(rest, Kind::Semicolon).ok_or(Miss::NoReading)?;
-    Ok((
-        MemberForm::Fields {
-            is_static,
-            variables,
-        },
-        rest,
-    ))
+    let (found, rest) = function_or_variables_behind(
+        below, alloc, bodies, start, written, reach, tokens,
+    )?;
+    Ok((plain_form(is_static, found), rest))
 }
 
 /// A function or variables of a class.
-#[tactic(auto, unfolding(grammar::specs::DeclarationDescents::take_plain_member))]
 fn plain_member<'k, B: Below<'k>>(
     below: &B,
     alloc: Global,
@@ -110,27 +106,32 @@ fn plain_member<'k, B: Below<'k>>(
     requires sound { B.sound below.now }
     ensures { Gives (λ x. (member_form_of x.0, x.1.now)) result (take_plain_member bodies.in_core is_static bodies.without_body (lower (B.room below.now)) tokens.now) }
 {
-    match method(below, alloc, is_static, bodies, tokens) {
-        Ok((found, rest)) => Ok((found, rest)),
-        Err(Miss::NoReading) => fields(below, alloc, is_static, tokens),
-        Err(Miss::Memory) => Err(Miss::Memory),
-    }
+    let (written, reach, rest) = some_name_type(below, alloc, tokens)?;
+    plain_member_behind(
+        below, alloc, is_static, bodies, tokens, written, reach, rest,
+    )
 }
 
-/// A function or variables of a class, `static` or not.
+/// A function or variables of a class, `static` or not, behind the type that was read where they
+/// start.
 #[tactic(auto, unfolding(grammar::specs::DeclarationDescents::take_static_member))]
-fn static_member<'k, B: Below<'k>>(
+fn static_member_behind<'k, B: Below<'k>>(
     below: &B,
     alloc: Global,
     in_core: bool,
+    start: &'k [Token],
+    written: Option<WrittenType>,
+    reach: u32,
     tokens: &'k [Token],
 ) -> Result<(MemberForm, &'k [Token]), Miss>
     requires limit { B.room below.now ≤ 200 }
     requires sound { B.sound below.now }
-    ensures { Gives (λ x. (member_form_of x.0, x.1.now)) result (take_static_member in_core (lower (B.room below.now)) tokens.now) }
+    requires read { take_named (lower (B.room below.now)) start.now ≡ Some (written, tokens.now) }
+    requires known { IsPartDeep (B.room below.now) written reach }
+    ensures { Gives (λ x. (member_form_of x.0, x.1.now)) result (take_static_member in_core (lower (B.room below.now)) start.now) }
 {
-    if heads_static(tokens) {
-        let (_, rest) = token(tokens, Kind::Static).ok_or(Miss::NoReading)?;
+    if heads_static(start) {
+        let (_, rest) = token(start, Kind::Static).ok_or(Miss::NoReading)?;
         let bodies = Bodies {
             in_core,
             without_body: false,
@@ -141,11 +142,51 @@ fn static_member<'k, B: Below<'k>>(
             in_core,
             without_body: true,
         };
-        plain_member(below, alloc, false, bodies, tokens)
+        plain_member_behind(below, alloc, false, bodies, start, written, reach, tokens)
+    }
+}
+
+/// A function or variables of a class, `static` or not.
+fn static_member<'k, B: Below<'k>>(
+    below: &B,
+    alloc: Global,
+    in_core: bool,
+    tokens: &'k [Token],
+) -> Result<(MemberForm, &'k [Token]), Miss>
+    requires limit { B.room below.now ≤ 200 }
+    requires sound { B.sound below.now }
+    ensures { Gives (λ x. (member_form_of x.0, x.1.now)) result (take_static_member in_core (lower (B.room below.now)) tokens.now) }
+{
+    let (written, reach, rest) = some_name_type(below, alloc, tokens)?;
+    static_member_behind(below, alloc, in_core, tokens, written, reach, rest)
+}
+
+/// An operator of a class, behind the type that was read where it starts, or else a function or
+/// variables, which may be named `operator`.
+#[tactic(auto, using(crate::proofs::OperatorMembers::operator_found, crate::proofs::OperatorMembers::operator_missing))]
+fn operator_or_named<'k, B: Below<'k>>(
+    below: &B,
+    alloc: Global,
+    in_core: bool,
+    start: &'k [Token],
+    written: Option<WrittenType>,
+    tokens: &'k [Token],
+) -> Result<(MemberForm, &'k [Token]), Miss>
+    requires limit { B.room below.now ≤ 200 }
+    requires sound { B.sound below.now }
+    requires read { take_named (lower (B.room below.now)) start.now ≡ Some (written, tokens.now) }
+    ensures { Gives (λ x. (member_form_of x.0, x.1.now)) result
+        ((take_operator_member in_core (lower (B.room below.now)) ⊘ take_static_member in_core (lower (B.room below.now))) start.now) }
+{
+    match operator_behind(below, alloc, in_core, written, tokens) {
+        Ok((found, rest)) => Ok((found, rest)),
+        Err(Miss::NoReading) => static_member(below, alloc, in_core, start),
+        Err(Miss::Memory) => Err(Miss::Memory),
     }
 }
 
 /// An operator of a class, or else a function or variables.
+#[tactic(auto, using(crate::proofs::OperatorMembers::operator_elsewhere))]
 fn member_without_constructors<'k, B: Below<'k>>(
     below: &B,
     alloc: Global,
@@ -157,11 +198,11 @@ fn member_without_constructors<'k, B: Below<'k>>(
     ensures { Gives (λ x. (member_form_of x.0, x.1.now)) result
         ((take_operator_member in_core (lower (B.room below.now)) ⊘ take_static_member in_core (lower (B.room below.now))) tokens.now) }
 {
-    match operator_member(below, alloc, in_core, tokens) {
-        Ok((found, rest)) => Ok((found, rest)),
-        Err(Miss::NoReading) => static_member(below, alloc, in_core, tokens),
-        Err(Miss::Memory) => Err(Miss::Memory),
+    let (written, reach, rest) = some_name_type(below, alloc, tokens)?;
+    if heads(rest, Kind::Operator) {
+        return operator_or_named(below, alloc, in_core, tokens, written, rest);
     }
+    static_member_behind(below, alloc, in_core, tokens, written, reach, rest)
 }
 
 /// A factory, or else a member that is no constructor.

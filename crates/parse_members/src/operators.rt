@@ -7,20 +7,20 @@ ghost use Rattle.grammar.specs.Tokens.{is, width, past};
 ghost use Rattle.grammar.specs.Operators.{heads_sign};
 ghost use Rattle.grammar.specs.Declarations.{declared_operator, is_declared, take_declared_sign, tilde_of, index_of};
 ghost use Rattle.grammar.specs.Descents.{lower};
-ghost use Rattle.grammar.specs.DeclarationDescents.{take_operator, take_operator_member};
+ghost use Rattle.grammar.specs.DeclarationDescents.{take_operator};
 ghost use Rattle.parse_leaves.specs.Answers.{Finds, Gives};
+ghost use Rattle.parse_members.specs.Behind.{take_operator_behind};
 ghost use Rattle.parse_members.specs.Parts.{member_form_of};
 
 use crate::functions::body;
 use crate::leaves::some_token;
 use crate::parts::{Bodies, MemberForm};
 use dart_tokens::Kind;
-use dart_tree::{BinaryOperatorKind, DeclaredOperator, NodeId, OperatorName, Place};
+use dart_tree::{BinaryOperatorKind, DeclaredOperator, NodeId, OperatorName, Place, WrittenType};
 use grammar::{Sign, Token};
 use parse_leaves::{
     Below, Miss, first_tokens, group, heads, place_over, sign_at, span_over, token, tokens_behind,
 };
-use parse_statements::some_name_type;
 use parse_types::parameter_list;
 use std::alloc::Global;
 
@@ -148,20 +148,20 @@ fn operator_name(tokens: &[Token]) -> Option<(OperatorName, &[Token])>
     }
 }
 
-/// An operator of a class.
-#[tactic(auto, unfolding(grammar::specs::DeclarationDescents::take_operator_member))]
-pub fn operator_member<'k, B: Below<'k>>(
+/// An operator of a class, behind its result type.
+#[tactic(auto, unfolding(crate::specs::Behind::take_operator_behind))]
+pub fn operator_behind<'k, B: Below<'k>>(
     below: &B,
     alloc: Global,
     in_core: bool,
+    written: Option<WrittenType>,
     tokens: &'k [Token],
 ) -> Result<(MemberForm, &'k [Token]), Miss>
     requires limit { B.room below.now ≤ 200 }
     requires sound { B.sound below.now }
-    ensures { Gives (λ x. (member_form_of x.0, x.1.now)) result (take_operator_member in_core (lower (B.room below.now)) tokens.now) }
+    ensures { Gives (λ x. (member_form_of x.0, x.1.now)) result (take_operator_behind in_core (lower (B.room below.now)) written tokens.now) }
 {
-    let (written, _, rest) = some_name_type(below, alloc, tokens)?;
-    let (_, rest) = token(rest, Kind::Operator).ok_or(Miss::NoReading)?;
+    let (_, rest) = token(tokens, Kind::Operator).ok_or(Miss::NoReading)?;
     let (name, rest) = operator_name(rest).ok_or(Miss::NoReading)?;
     let (parameters, _, rest) = parameter_list(below, alloc, rest)?;
     let bodies = Bodies {

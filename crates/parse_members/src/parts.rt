@@ -26,6 +26,13 @@ pub enum Signature {
     },
 }
 
+/// A function, or variables, of a library or a class.
+#[derive(Drop)]
+pub enum FunctionOrVariables {
+    Function { function: Function },
+    Variables { variables: VariableList },
+}
+
 /// What a member is, without the annotations before it.
 #[derive(Drop)]
 pub enum MemberForm {
