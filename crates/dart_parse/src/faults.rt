@@ -1,6 +1,7 @@
 //! What is wrong with the tree of a unit.
 
-ghost use Rattle.std.specs.Prelude.{◌≡◌, ◌<◌, ◌^◌, length, map, IfOk};
+ghost use Rattle.std.specs.Prelude.{◌≡◌, ◌<◌, ◌≤◌, ◌^◌, true, false, nat_lt, length, map, IfOk};
+ghost use Rattle.std.specs.List.{AllWithin};
 ghost use Rattle.std.specs.List.Sorted.{IsNonDecreasingBy};
 ghost use Rattle.dart_scan.specs.Scanned.{tokens_of};
 ghost use Rattle.grammar.specs.Tokens.{grammar_tokens};
