@@ -434,19 +434,3 @@ pub fn function_statement_behind<'k, B: Below<'k>>(
     let node = Box::new(alloc, StmtNode::Function { at, function })?;
     Ok((Stmt { node }, height + 1, rest))
 }
-
-/// A function among statements, as one of them.
-#[tactic(auto, using(crate::proofs::Once::maybe_never))]
-pub fn function_statement<'k, B: Below<'k>>(
-    below: &B,
-    alloc: Global,
-    tokens: &'k [Token],
-) -> Result<(Stmt, u32, &'k [Token]), Miss>
-    requires limit { B.room below.now ≤ 200 }
-    requires sound { B.sound below.now }
-    ensures reading { Gives (λ x. (x.0, x.2.now)) result (take_function_statement (lower (B.room below.now)) tokens.now) }
-    ensures deep { IfOk result (λ x. IsDeep (B.room below.now + 1) x.0 x.1) }
-{
-    let (written, highest, rest) = some_name_type(below, alloc, tokens)?;
-    function_statement_behind(below, alloc, tokens, written, highest, rest)
-}

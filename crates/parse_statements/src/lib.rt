@@ -7,8 +7,5 @@ mod statements;
 mod switches;
 mod tries;
 
-pub use blocks::{
-    block_within, declared, function_statement, local_body, some_name_type, variable_statement,
-    variables, variables_behind,
-};
+pub use blocks::{block_within, local_body, some_name_type, variables, variables_behind};
 pub use statements::statement_within;
