@@ -6,32 +6,29 @@
 
 use dart_parse::{TreeFault, parse_unit, tree_faults};
 use dart_text::{Text, TextRefusal};
-use std::alloc::{AllocError, Global};
+use std::alloc::Global;
 use std::io::{self, Read};
 use work_counts::Work;
 
-/// The faults in a row.
-fn row(alloc: Global, faults: &[TreeFault]) -> Result<String, AllocError> {
-    let mut row = String::new(alloc);
-    for fault in faults {
-        let length = fault.span.end.saturating_sub(fault.span.start);
-        let said = format!(in alloc; "{:?}@{}+{}", fault.fault, fault.span.start, length)?;
-        row.push_str(if row.is_empty() { "" } else { " " })?;
-        row.push_str(&said)?;
-    }
-    Ok(row)
-}
-
-/// What is printed for a line. The errors are a text that is too long, and want of memory.
-fn answer(alloc: Global, line: &str) -> Result<String, TextRefusal> {
+/// What is wrong with the tree of a line. The errors are a text that is too long, and want of memory.
+fn faults_of(alloc: Global, line: &str) -> Result<Vec<TreeFault>, TextRefusal> {
     let lines = line.replace(alloc, "¶", "\n")?;
     let text = Text::from_str(alloc, &lines)?;
     let unit = parse_unit(alloc, &text, false, &mut Work::new())?;
-    let faults = tree_faults(alloc, &text, &unit)?;
+    Ok(tree_faults(alloc, &text, &unit)?)
+}
+
+/// Prints the faults of a line in a row.
+fn print_row(rt: HostRuntime, faults: &[TreeFault]) -> io::Result<()> {
     if faults.is_empty() {
-        return Ok(String::from_str(alloc, "ok")?);
+        return println!(rt; "ok");
     }
-    Ok(row(alloc, &faults)?)
+    for (index, fault) in faults.iter().enumerate() {
+        let gap = if index == 0 { "" } else { " " };
+        let length = fault.span.end.saturating_sub(fault.span.start);
+        print!(rt; "{gap}{:?}@{}+{length}", fault.fault, fault.span.start)?;
+    }
+    println!(rt; "")
 }
 
 fn main(rt: HostRuntime) -> io::Result<()> {
@@ -39,8 +36,8 @@ fn main(rt: HostRuntime) -> io::Result<()> {
     let mut input = String::new(alloc);
     rt.stdin().read_to_string(&mut input)?;
     for line in input.lines() {
-        match answer(alloc, line) {
-            Ok(row) => println!(rt; "{row}")?,
+        match faults_of(alloc, line) {
+            Ok(faults) => print_row(rt, &faults)?,
             Err(refusal) => println!(rt; "{refusal}")?,
         }
     }
