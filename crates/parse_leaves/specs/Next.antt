@@ -32,14 +32,14 @@ next_level (t ∷ ts) = option_map_or (λ s. level_of_sign s.0) (sign_at (t ∷ 
 abbrev pub is_level : Level → Option Level → Bool
 is_level l found = option_map_or (λ k. sameb levels_of.the_type k l) found false
 
--- behind the name of a type: the type goes on with this token, or a name stands there
+-- behind the name of a type: the type goes on with this token, or a name or `this` stands there
 abbrev pub goes_on_type : Token → Bool
-goes_on_type t = is_name t || is kind.Less t || is kind.Question t
+goes_on_type t = is_name t || is kind.Less t || is kind.Question t || is kind.This t
 
 -- how many tokens the name of a type takes that would begin here
 abbrev pub type_name_size : List Token → ℕ
 type_name_size ts = if heads_qualified ts then 3 else 1
 
--- No type in front of a name comes next: the name of one would be the whole type, and no name stands behind it.
+-- No type in front of a name or of `this` comes next: the name of one would be the whole type, and neither stands behind it.
 abbrev pub heads_untyped : Test Token
 heads_untyped ts = not (heads kind.Function ts) && next (λ t. not (goes_on_type t)) (drop (type_name_size ts) ts)

@@ -110,11 +110,14 @@ pub fn heads_field(tokens: &[Token]) -> bool
     }
 }
 
-/// Behind the name of a type: the type goes on with this token, or a name stands there.
+/// Behind the name of a type: the type goes on with this token, or a name or `this` stands there.
 fn goes_on_type(token: Token) -> bool
     ensures { result ≡ goes_on_type token }
 {
-    token.kind.is_identifier() || token.kind == Kind::Less || token.kind == Kind::Question
+    token.kind.is_identifier()
+        || token.kind == Kind::Less
+        || token.kind == Kind::Question
+        || token.kind == Kind::This
 }
 
 /// How many tokens the name of a type takes that would begin here.
@@ -124,8 +127,8 @@ fn type_name_size(tokens: &[Token]) -> usize
     if heads_qualified(tokens) { 3 } else { 1 }
 }
 
-/// No type in front of a name comes next: the name of one would be the whole type, and no name stands
-/// behind it.
+/// No type in front of a name or of `this` comes next: the name of one would be the whole type, and
+/// neither stands behind it.
 pub fn heads_untyped(tokens: &[Token]) -> bool
     ensures { result ≡ heads_untyped tokens.now }
 {

@@ -3,4 +3,3 @@ pub mod Clauses
 pub mod Nearest
 pub mod Once
 pub mod Unread
-pub mod Untyped

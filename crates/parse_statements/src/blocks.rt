@@ -81,7 +81,7 @@ pub fn block_within(alloc: Global, tokens: &[Token]) -> Result<(Block, u32, &[To
 }
 
 /// A type in front of a name.
-#[tactic(auto, using(crate::proofs::Untyped::untyped_none))]
+#[tactic(auto, using(parse_types::specs::Untyped::untyped_name))]
 fn name_type<'k, B: Below<'k>>(
     below: &B,
     alloc: Global,

@@ -12,8 +12,8 @@ use dart_tokens::Kind;
 use dart_tree::{Annotation, Expr, Parameter, ParameterKind, ParameterList, WrittenType};
 use grammar::{Setting, Token};
 use parse_leaves::{
-    Below, Miss, annotation, either_token, group, heads, heads_field, heads_required, higher, name,
-    name_at, place_over, token,
+    Below, Miss, annotation, either_token, group, heads, heads_field, heads_required,
+    heads_untyped, higher, name, name_at, place_over, token,
 };
 use std::alloc::Global;
 
@@ -88,6 +88,7 @@ fn some_this_period(tokens: &[Token]) -> (Option<(Token, Token)>, &[Token])
 }
 
 /// A type in front of the name of a parameter.
+#[tactic(auto, using(crate::specs::Untyped::untyped_field))]
 fn field_type<'k, B: Below<'k>>(
     below: &B,
     alloc: Global,
@@ -98,6 +99,9 @@ fn field_type<'k, B: Below<'k>>(
     ensures reading { Gives (λ x. (x.0, x.2.now)) result (take_before heads_field (lower (B.room below.now)).named tokens.now) }
     ensures deep { IfOk result (λ x. IsDeep (B.room below.now) x.0 x.1) }
 {
+    if heads_untyped(tokens) {
+        return Err(Miss::NoReading);
+    }
     let (written, height, rest) = below.named(alloc, tokens)?;
     if !heads_field(rest) {
         return Err(Miss::NoReading);

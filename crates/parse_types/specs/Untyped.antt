@@ -1,4 +1,4 @@
--- Where the name of a type would be the whole of it, and no name stands behind, no type in front of a name is read.
+-- Where the name of a type would be the whole of it, and neither a name nor `this` stands behind, no type in front of one is read.
 use Rattle.std.proofs.Common.{◌≡◌, ℕ, zero, suc, Bool, true, false, not, ◌&&◌, ◌||◌, if◌then◌else◌, List, [], ◌∷◌, drop, Option, Some, None, refl, sym, ap, ◌∙◌, subst}
 use denote.Enum.Bare.{same_true}
 use Rattle.readings.specs.Readings.{Reading, Test, next, made, behind}
@@ -65,20 +65,27 @@ name_leaves ts = name_behind (heads_qualified ts) ts
 
 -- What stands behind it.
 
-no_first : (a b c : Bool) → not (a || b || c) ≡ true → a ≡ false
-no_first true b c e = absurd (cc)
-no_first false b c e = refl
+no_first : (a b c d : Bool) → not (a || b || c || d) ≡ true → a ≡ false
+no_first true b c d e = absurd (cc)
+no_first false b c d e = refl
 
-no_second : (a b c : Bool) → not (a || b || c) ≡ true → b ≡ false
-no_second true b c e = absurd (cc)
-no_second false true c e = absurd (cc)
-no_second false false c e = refl
+no_second : (a b c d : Bool) → not (a || b || c || d) ≡ true → b ≡ false
+no_second true b c d e = absurd (cc)
+no_second false true c d e = absurd (cc)
+no_second false false c d e = refl
 
-no_third : (a b c : Bool) → not (a || b || c) ≡ true → c ≡ false
-no_third true b c e = absurd (cc)
-no_third false true c e = absurd (cc)
-no_third false false true e = absurd (cc)
-no_third false false false e = refl
+no_third : (a b c d : Bool) → not (a || b || c || d) ≡ true → c ≡ false
+no_third true b c d e = absurd (cc)
+no_third false true c d e = absurd (cc)
+no_third false false true d e = absurd (cc)
+no_third false false false d e = refl
+
+no_fourth : (a b c d : Bool) → not (a || b || c || d) ≡ true → d ≡ false
+no_fourth true b c d e = absurd (cc)
+no_fourth false true c d e = absurd (cc)
+no_fourth false false true d e = absurd (cc)
+no_fourth false false false true e = absurd (cc)
+no_fourth false false false false e = refl
 
 -- a token of a kind that is a name
 named_kind : (k : Kind) (t : Token) → is_identifier k ≡ true → is_name t ≡ false → is k t ≡ false
@@ -92,9 +99,10 @@ named_kind k t so e = by (is k t) refl
 unnamed_kind : (k : Kind) (t : Token) → is_identifier k ≡ false → is k t ≡ true → is_name t ≡ false
 unnamed_kind k t so e = ap is_identifier (same_true kinds.the_type tt t.kind k e) ∙ so
 
--- no type arguments, no `?`, no tail and no name
+-- no type arguments, no `?`, no tail, and neither a name nor `this`
 record Ends (us : List Token) : Type 0 where
   plain : heads_name us ≡ false
+  field : heads_field us ≡ false
   tail : heads kind.Function us ≡ false
   arguments : (l : Lower) → Leaves (take_maybe (take_type_arguments l) us) us
   question : Leaves (take_question (heads kind.Question) us) us
@@ -103,11 +111,13 @@ ends : (us : List Token) → next (λ t. not (goes_on_type t)) us ≡ true → E
 unfolding take_type_arguments take_question
 ends [] e = absurd (cc)
 ends (u ∷ us) e =
-    let name : is_name u ≡ false = no_first (is_name u) (is kind.Less u) (is kind.Question u) e in
-    let less : is kind.Less u ≡ false = no_second (is_name u) (is kind.Less u) (is kind.Question u) e in
-    let question : is kind.Question u ≡ false = no_third (is_name u) (is kind.Less u) (is kind.Question u) e in
+    let name : is_name u ≡ false = no_first (is_name u) (is kind.Less u) (is kind.Question u) (is kind.This u) e in
+    let less : is kind.Less u ≡ false = no_second (is_name u) (is kind.Less u) (is kind.Question u) (is kind.This u) e in
+    let question : is kind.Question u ≡ false = no_third (is_name u) (is kind.Less u) (is kind.Question u) (is kind.This u) e in
+    let this : is kind.This u ≡ false = no_fourth (is_name u) (is kind.Less u) (is kind.Question u) (is kind.This u) e in
     record {
       plain = name;
+      field = rw (name, this) refl;
       tail = named_kind kind.Function u refl name;
       arguments = λ l. rw less refl;
       question = rw question refl;
@@ -142,21 +152,21 @@ plain_leaves l ts us e stop = by (heads kind.Void ts) refl
     by true d = void_behind ts us e d
     by false d = plain_behind l ts us e stop
 
--- no name stands behind the type
-unnamed : (n : ℕ) (l : Lower) (ends : Test Token) (us : List Token) (start : List Token) (o : Option (Reading Token Tree)) → Leaves o us → Ends us →
-    bind (bind o (λ x. take_onto start (every_time x.0 x.1) (fits n) next_tail_of (take_tail_before l (heads kind.Question) ends) x.0 x.1)) (λ x. if heads_name x.1 then Some x else None) ≡ None
-unnamed n l ends us start None e stop = refl
-unnamed n l ends us start (Some x) e stop =
-    let tail : take_tail_before l (heads kind.Question) ends x.1 ≡ None = no_tail l (heads kind.Question) ends x.1 (ap (heads kind.Function) e ∙ stop.tail) in
-    let plain : heads_name x.1 ≡ false = ap heads_name e ∙ stop.plain in
-    ap (λ o. bind o (λ x. if heads_name x.1 then Some x else None)) (onto_stays start (every_time x.0 x.1) (fits n) next_tail_of (take_tail_before l (heads kind.Question) ends) x.0 x.1 tail) ∙ rw plain refl
+-- what is asked for doesn't stand behind the type
+unmet : (stop : Test Token) (n : ℕ) (l : Lower) (ends : Test Token) (us : List Token) (start : List Token) (o : Option (Reading Token Tree)) → Leaves o us → Ends us → stop us ≡ false →
+    bind (bind o (λ x. take_onto start (every_time x.0 x.1) (fits n) next_tail_of (take_tail_before l (heads kind.Question) ends) x.0 x.1)) (λ x. if stop x.1 then Some x else None) ≡ None
+unmet stop n l ends us start None e end d = refl
+unmet stop n l ends us start (Some x) e end d =
+    let tail : take_tail_before l (heads kind.Question) ends x.1 ≡ None = no_tail l (heads kind.Question) ends x.1 (ap (heads kind.Function) e ∙ end.tail) in
+    let plain : stop x.1 ≡ false = ap stop e ∙ d in
+    ap (λ o. bind o (λ x. if stop x.1 then Some x else None)) (onto_stays start (every_time x.0 x.1) (fits n) next_tail_of (take_tail_before l (heads kind.Question) ends) x.0 x.1 tail) ∙ rw plain refl
 
-no_type : (n : ℕ) (l : Lower) (ends : Test Token) (ts us : List Token) → us ≡ drop (type_name_size ts) ts → Ends us → heads kind.Function ts ≡ false → take_before heads_name (take_type n l (heads kind.Question) ends) ts ≡ None
+no_type : (stop : Test Token) (n : ℕ) (l : Lower) (ends : Test Token) (ts us : List Token) → us ≡ drop (type_name_size ts) ts → Ends us → stop us ≡ false → heads kind.Function ts ≡ false → take_before stop (take_type n l (heads kind.Question) ends) ts ≡ None
 unfolding take_type
-no_type n l ends ts us e stop first =
-    ap (λ (o : Option (Reading Token Tree)). bind (bind o (λ x. take_onto ts (every_time x.0 x.1) (fits n) next_tail_of (take_tail_before l (heads kind.Question) ends) x.0 x.1)) (λ x. if heads_name x.1 then Some x else None))
+no_type stop n l ends ts us e end d first =
+    ap (λ (o : Option (Reading Token Tree)). bind (bind o (λ x. take_onto ts (every_time x.0 x.1) (fits n) next_tail_of (take_tail_before l (heads kind.Question) ends) x.0 x.1)) (λ x. if stop x.1 then Some x else None))
     (ap (λ o. or_else (bind o (λ x. Some (made first_tail_of ts x))) (take_plain_type l (heads kind.Question) ts)) (no_tail l (heads kind.Question) ends ts first))
-    ∙ unnamed n l ends us ts (take_plain_type l (heads kind.Question) ts) (plain_leaves l ts us e stop) stop
+    ∙ unmet stop n l ends us ts (take_plain_type l (heads kind.Question) ts) (plain_leaves l ts us e end) end d
 
 both_first : (a b : Bool) → (not a && b) ≡ true → a ≡ false
 both_first true b e = absurd (cc)
@@ -166,9 +176,18 @@ both_second : (a b : Bool) → (not a && b) ≡ true → b ≡ true
 both_second true b e = absurd (cc)
 both_second false b e = e
 
-pub untyped_none : (n : ℕ) (ts : List Token) → heads_untyped ts ≡ true → take_before heads_name (lower n).named ts ≡ None
+untyped_before : (stop : Test Token) (n : ℕ) (ts : List Token) → ((us : List Token) → Ends us → stop us ≡ false) → heads_untyped ts ≡ true → take_before stop (lower n).named ts ≡ None
 unfolding lower
-untyped_none zero ts e = refl
-untyped_none (suc n) ts e =
+untyped_before stop zero ts ended e = refl
+untyped_before stop (suc n) ts ended e =
     let rest : Bool = next (λ t. not (goes_on_type t)) (drop (type_name_size ts) ts) in
-    no_type n (lower n) heads_field ts (drop (type_name_size ts) ts) refl (ends (drop (type_name_size ts) ts) (both_second (heads kind.Function ts) rest e)) (both_first (heads kind.Function ts) rest e)
+    let end : Ends (drop (type_name_size ts) ts) = ends (drop (type_name_size ts) ts) (both_second (heads kind.Function ts) rest e) in
+    no_type stop n (lower n) heads_field ts (drop (type_name_size ts) ts) refl end (ended (drop (type_name_size ts) ts) end) (both_first (heads kind.Function ts) rest e)
+
+-- in front of a name
+pub untyped_name : (n : ℕ) (ts : List Token) → heads_untyped ts ≡ true → take_before heads_name (lower n).named ts ≡ None
+untyped_name n ts e = untyped_before heads_name n ts (λ us end. end.plain) e
+
+-- in front of a parameter's name
+pub untyped_field : (n : ℕ) (ts : List Token) → heads_untyped ts ≡ true → take_before heads_field (lower n).named ts ≡ None
+untyped_field n ts e = untyped_before heads_field n ts (λ us end. end.field) e
