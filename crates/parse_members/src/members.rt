@@ -16,7 +16,7 @@ ghost use Rattle.parse_members.specs.Parts.{member_form_of};
 ghost use Rattle.parse_members.specs.Plain.{plain_with};
 
 use crate::constructors::{constructor, factory};
-use crate::operators::operator_behind;
+use crate::operators::operator_rest;
 use crate::parts::{Bodies, FunctionOrVariables, MemberForm};
 use crate::plain::function_or_variables_behind;
 use dart_tokens::Kind;
@@ -146,21 +146,6 @@ fn static_member_behind<'k, B: Below<'k>>(
     }
 }
 
-/// A function or variables of a class, `static` or not.
-fn static_member<'k, B: Below<'k>>(
-    below: &B,
-    alloc: Global,
-    in_core: bool,
-    tokens: &'k [Token],
-) -> Result<(MemberForm, &'k [Token]), Miss>
-    requires limit { B.room below.now ≤ 200 }
-    requires sound { B.sound below.now }
-    ensures { Gives (λ x. (member_form_of x.0, x.1.now)) result (take_static_member in_core (lower (B.room below.now)) tokens.now) }
-{
-    let (written, reach, rest) = some_name_type(below, alloc, tokens)?;
-    static_member_behind(below, alloc, in_core, tokens, written, reach, rest)
-}
-
 /// An operator of a class, behind the type that was read where it starts, or else a function or
 /// variables, which may be named `operator`.
 #[tactic(auto, using(crate::proofs::OperatorMembers::operator_found, crate::proofs::OperatorMembers::operator_missing))]
@@ -170,17 +155,29 @@ fn operator_or_named<'k, B: Below<'k>>(
     in_core: bool,
     start: &'k [Token],
     written: Option<WrittenType>,
+    reach: u32,
     tokens: &'k [Token],
 ) -> Result<(MemberForm, &'k [Token]), Miss>
     requires limit { B.room below.now ≤ 200 }
     requires sound { B.sound below.now }
     requires read { take_named (lower (B.room below.now)) start.now ≡ Some (written, tokens.now) }
+    requires known { IsPartDeep (B.room below.now) written reach }
     ensures { Gives (λ x. (member_form_of x.0, x.1.now)) result
         ((take_operator_member in_core (lower (B.room below.now)) ⊘ take_static_member in_core (lower (B.room below.now))) start.now) }
 {
-    match operator_behind(below, alloc, in_core, written, tokens) {
-        Ok((found, rest)) => Ok((found, rest)),
-        Err(Miss::NoReading) => static_member(below, alloc, in_core, start),
+    match operator_rest(below, alloc, in_core, tokens) {
+        Ok(((name, parameters, body), rest)) => {
+            let found = MemberForm::Operator {
+                result: written,
+                name,
+                parameters,
+                body,
+            };
+            Ok((found, rest))
+        }
+        Err(Miss::NoReading) => {
+            static_member_behind(below, alloc, in_core, start, written, reach, tokens)
+        }
         Err(Miss::Memory) => Err(Miss::Memory),
     }
 }
@@ -200,7 +197,7 @@ fn member_without_constructors<'k, B: Below<'k>>(
 {
     let (written, reach, rest) = some_name_type(below, alloc, tokens)?;
     if heads(rest, Kind::Operator) {
-        return operator_or_named(below, alloc, in_core, tokens, written, rest);
+        return operator_or_named(below, alloc, in_core, tokens, written, reach, rest);
     }
     static_member_behind(below, alloc, in_core, tokens, written, reach, rest)
 }

@@ -9,14 +9,15 @@ ghost use Rattle.grammar.specs.Declarations.{declared_operator, is_declared, tak
 ghost use Rattle.grammar.specs.Descents.{lower};
 ghost use Rattle.grammar.specs.DeclarationDescents.{take_operator};
 ghost use Rattle.parse_leaves.specs.Answers.{Finds, Gives};
-ghost use Rattle.parse_members.specs.Behind.{take_operator_behind};
-ghost use Rattle.parse_members.specs.Parts.{member_form_of};
+ghost use Rattle.parse_members.specs.Behind.{take_operator_rest};
 
 use crate::functions::body;
 use crate::leaves::some_token;
-use crate::parts::{Bodies, MemberForm};
+use crate::parts::Bodies;
 use dart_tokens::Kind;
-use dart_tree::{BinaryOperatorKind, DeclaredOperator, NodeId, OperatorName, Place, WrittenType};
+use dart_tree::{
+    BinaryOperatorKind, Body, DeclaredOperator, NodeId, OperatorName, ParameterList, Place,
+};
 use grammar::{Sign, Token};
 use parse_leaves::{
     Below, Miss, first_tokens, group, heads, place_over, sign_at, span_over, token, tokens_behind,
@@ -148,18 +149,17 @@ fn operator_name(tokens: &[Token]) -> Option<(OperatorName, &[Token])>
     }
 }
 
-/// An operator of a class, behind its result type.
-#[tactic(auto, unfolding(crate::specs::Behind::take_operator_behind))]
-pub fn operator_behind<'k, B: Below<'k>>(
+/// What an operator of a class has behind its result type: its name, its parameters and its body.
+#[tactic(auto, unfolding(crate::specs::Behind::take_operator_rest))]
+pub fn operator_rest<'k, B: Below<'k>>(
     below: &B,
     alloc: Global,
     in_core: bool,
-    written: Option<WrittenType>,
     tokens: &'k [Token],
-) -> Result<(MemberForm, &'k [Token]), Miss>
+) -> Result<((OperatorName, ParameterList, Body), &'k [Token]), Miss>
     requires limit { B.room below.now ≤ 200 }
     requires sound { B.sound below.now }
-    ensures { Gives (λ x. (member_form_of x.0, x.1.now)) result (take_operator_behind in_core (lower (B.room below.now)) written tokens.now) }
+    ensures { Gives (λ x. ((x.0.0, (x.0.1, x.0.2)), x.1.now)) result (take_operator_rest in_core (lower (B.room below.now)) tokens.now) }
 {
     let (_, rest) = token(tokens, Kind::Operator).ok_or(Miss::NoReading)?;
     let (name, rest) = operator_name(rest).ok_or(Miss::NoReading)?;
@@ -169,13 +169,5 @@ pub fn operator_behind<'k, B: Below<'k>>(
         without_body: true,
     };
     let (body, rest) = body(below, alloc, bodies, rest)?;
-    Ok((
-        MemberForm::Operator {
-            result: written,
-            name,
-            parameters,
-            body,
-        },
-        rest,
-    ))
+    Ok(((name, parameters, body), rest))
 }
