@@ -7,7 +7,7 @@
 use dart_parse::{TreeFault, parse_unit, tree_faults};
 use dart_text::{Text, TextRefusal};
 use std::alloc::Global;
-use std::io::{self, Read};
+use std::io::{self, BufWriter, Read, Write};
 use work_counts::Work;
 
 /// What is wrong with the tree of a line. The errors are a text that is too long, and want of memory.
@@ -18,28 +18,29 @@ fn faults_of(alloc: Global, line: &str) -> Result<Vec<TreeFault>, TextRefusal> {
     Ok(tree_faults(alloc, &text, &unit)?)
 }
 
-/// Prints the faults of a line in a row.
-fn print_row(rt: HostRuntime, faults: &[TreeFault]) -> io::Result<()> {
+/// Writes the faults of a line in a row.
+fn write_row<W: Write>(out: &mut W, faults: &[TreeFault]) -> io::Result<()> {
     if faults.is_empty() {
-        return println!(rt; "ok");
+        return writeln!(out, "ok");
     }
     for (index, fault) in faults.iter().enumerate() {
         let gap = if index == 0 { "" } else { " " };
         let length = fault.span.end.saturating_sub(fault.span.start);
-        print!(rt; "{gap}{:?}@{}+{length}", fault.fault, fault.span.start)?;
+        write!(out, "{gap}{:?}@{}+{length}", fault.fault, fault.span.start)?;
     }
-    println!(rt; "")
+    writeln!(out, "")
 }
 
 fn main(rt: HostRuntime) -> io::Result<()> {
     let alloc = rt.alloc();
     let mut input = String::new(alloc);
     rt.stdin().read_to_string(&mut input)?;
+    let mut out = BufWriter::new(alloc, io::writer(&rt))?;
     for line in input.lines() {
         match faults_of(alloc, line) {
-            Ok(faults) => print_row(rt, &faults)?,
-            Err(refusal) => println!(rt; "{refusal}")?,
+            Ok(faults) => write_row(&mut out, &faults)?,
+            Err(refusal) => writeln!(out, "{refusal}")?,
         }
     }
-    Ok(())
+    out.flush()
 }
