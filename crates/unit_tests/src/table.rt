@@ -93,6 +93,10 @@ class C{int get a=>b;get c;static get d{}} :: (class C {(get int a => b) (get c 
 class C{set a(int b){}void set c(d);static set e(f)=>g;} :: (class C {(set a (b int) {}) (set void c (d) ;) static (set e (f) => g)})
 class C{void f();int g(a)=>a;T h<T>(T a){}} :: (class C {(function void f ;) (function int g (a) => a) (function T h <T> (a T) {})})
 class C{get(){}set(a);static(){}operator(){}static static(){}} :: (class C {(function get {}) (function set (a) ;) (function static {}) (function operator {}) static (function static {})})
+class C{A<B>operator;A<B>operator(a){}p.A?operator=b,c;A<B>operator+(d);} :: (class C {(var A<B> operator) (function A<B> operator (a) {}) (var p.A? operator=b c) (operator A<B> + (d) ;)})
+class C{A<B>operator+e;int f;} :: (class C {(error) (var int f)}) :: Syntax@8+15
+f(a,A<B>b,this.c,A this.d,p.A?this.e,[f,g=1,void h]){} :: (function f (a) (b A<B>) (this.c) (this.d A) (this.e p.A?) [f] [g = 1] [h void] {})
+f(A<B>){}int g; :: (error) (var int g) :: Syntax@0+9
 class C{C operator+(C a)=>a;bool operator==(Object a){return b;}} :: (class C {(operator C + (a C) => a) (operator bool == (a Object) {(return b)})})
 class C{T operator[](int a);void operator[]=(int a,T b){}operator~();} :: (class C {(operator T [] (a int) ;) (operator void []= (a int) (b T) {}) (operator ~ ;)})
 class C{operator-();operator*(a);operator/(a);operator~/(a);operator%(a);} :: (class C {(operator - ;) (operator * (a) ;) (operator / (a) ;) (operator ~/ (a) ;) (operator % (a) ;)})
