@@ -6,8 +6,8 @@
     bench/units.py ordinary ..  some of the families alone
     options: --binary PATH of another program, --runs N (3), of which the fastest counts
 
-Each run is one of `unit_lines`, which is fed one line and prints what is wrong with its tree. There is a table for each
-family of texts, and a line in it for each size:
+Each run is one of `unit_lines`, which is fed one line and prints what is wrong with the tree of its text. There is a
+table for each family of texts, and a line in it for each size:
 
     size    what the family counts
     bytes   of the text
@@ -102,7 +102,7 @@ def measure(binary: str, family: Family, start_up: float, runs: int) -> bool:
     right = True
     for size in family.sizes:
         text, faults = family.text(size)
-        run = best(binary, text.replace("\n", "¶").encode() + b"\n", runs)
+        run = best(binary, b"faults " + text.replace("\n", "¶").encode() + b"\n", runs)
         found = run.output.count(b"@")
         if run.status != 0 or found != faults:
             right = False
