@@ -33,33 +33,34 @@ fn text_of(alloc: Global, written: &str) -> Result<Text, TextRefusal> {
     Text::from_str(alloc, &lines)
 }
 
-/// The unit of a text.
-fn unit_of(alloc: Global, text: &Text) -> Result<Unit, TextRefusal> {
-    Ok(parse_unit(alloc, text, false, &mut Work::new())?)
+/// The unit of the text that is written so.
+fn unit_of(alloc: Global, written: &str) -> Result<Unit, TextRefusal> {
+    let text = text_of(alloc, written)?;
+    Ok(parse_unit(alloc, &text, false, &mut Work::new())?)
 }
 
 /// What is wrong with the tree of a text.
 fn faults_of(alloc: Global, written: &str) -> Result<Vec<TreeFault>, TextRefusal> {
     let text = text_of(alloc, written)?;
-    let unit = unit_of(alloc, &text)?;
+    let unit = parse_unit(alloc, &text, false, &mut Work::new())?;
     Ok(tree_faults(alloc, &text, &unit)?)
 }
 
 /// A text as its tokens are printed.
 fn printed(alloc: Global, written: &str) -> Result<String, TextRefusal> {
-    let unit = unit_of(alloc, &text_of(alloc, written)?)?;
+    let unit = unit_of(alloc, written)?;
     let printed = print(alloc, &unit)?;
     Ok(printed.replace(alloc, "\n", "¶")?)
 }
 
 /// The interface part of a text.
 fn interface_of(alloc: Global, written: &str) -> Result<Interface, TextRefusal> {
-    let unit = unit_of(alloc, &text_of(alloc, written)?)?;
+    let unit = unit_of(alloc, written)?;
     Ok(interface_part(alloc, &unit)?)
 }
 
 /// What a line is answered. The errors are a text that is too long, and want of memory.
-fn answer(alloc: Global, line: &str) -> Result<Answer, TextRefusal> {
+fn answered(alloc: Global, line: &str) -> Result<Answer, TextRefusal> {
     if let Some(text) = line.strip_prefix("faults ") {
         return Ok(Answer::Faults(faults_of(alloc, text)?));
     }
@@ -106,7 +107,7 @@ fn main(rt: HostRuntime) -> io::Result<()> {
     rt.stdin().read_to_string(&mut input)?;
     let mut out = BufWriter::new(alloc, io::writer(&rt))?;
     for line in input.lines() {
-        match answer(alloc, line) {
+        match answered(alloc, line) {
             Ok(answer) => write_answer(&mut out, &answer)?,
             Err(refusal) => writeln!(out, "{refusal}")?,
         }
