@@ -17,7 +17,6 @@ test:
 
 bench:
 	@cd crates/dart_serve && mkdir -p out && { rt run -- serve < /dev/null > /dev/null 2> out/bench.log || { cat out/bench.log >&2; exit 1; }; }
-	@cd crates/parse_lines && mkdir -p out && { rt run < /dev/null > /dev/null 2> out/bench.log || { cat out/bench.log >&2; exit 1; }; }
 	@cd crates/unit_lines && mkdir -p out && { rt run < /dev/null > /dev/null 2> out/bench.log || { cat out/bench.log >&2; exit 1; }; }
 	@python3 bench/parse.py
 	@python3 bench/units.py

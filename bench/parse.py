@@ -7,7 +7,7 @@
     bench/parse.py --list       the families
     options: --binary PATH of another program, --runs N (3), of which the fastest counts, --limit SECONDS (300) of a run
 
-Each run is one of `parse_lines`, which is fed one line and prints what it reads as. There is a table for each family of
+Each run is one of `unit_lines`, which is fed one line and prints what it reads as. There is a table for each family of
 texts, and a line in it for each size:
 
     size    what the family counts
@@ -32,7 +32,7 @@ from typing import Callable, List, Optional, Tuple
 from check import Sizes, shared_words, slope, with_program
 
 # Where `rt run` builds the program.
-BINARY = os.path.join(os.path.dirname(os.path.abspath(__file__)), os.pardir, "crates", "parse_lines", "out", "parse_lines")
+BINARY = os.path.join(os.path.dirname(os.path.abspath(__file__)), os.pardir, "crates", "unit_lines", "out", "unit_lines")
 
 # Texts, each with its notation.
 
@@ -225,7 +225,7 @@ def measure(binary: str, family: Family, start_up: float, runs: int, limit: floa
     right = True
     for size in family.sizes:
         text, notation = family.text(size)
-        run = best(binary, text.encode() + b"\n", runs, limit)
+        run = best(binary, b"read " + text.encode() + b"\n", runs, limit)
         if run.status is None:
             print(f"{size:>12} {len(text):>10} not done in {limit:g} seconds", flush=True)
             break

@@ -1,10 +1,9 @@
 //! Texts that are nested as deep as a tree may be, and deeper.
 //!
 //! 201 nodes may lie on a way down from a root at depth 0, itself among them. The table is a text: a
-//! line is a case, `TEXT :: NOTATION`, and both are written `COUNT BEFORE MIDDLE BEHIND LAST`: so many
-//! times what stands before the middle, the middle, as often what stands behind it, and what stands
-//! last. There `_` is a blank, and `~` is nothing.
+//! line is a case, `TEXT :: NOTATION`, both as `nesting` has them.
 
+use crate::nesting::written_out;
 use crate::reading::read;
 use std::alloc::Global;
 use std::test::Fail;
@@ -12,56 +11,42 @@ use std::test::Fail;
 // What is read while there is room. An operator, a selector or a section deepens what stands on its
 // left, so a chain of them ends where it has no room; a block without room is an error.
 const NESTED: &str = "\
-200 ( a ) ~ :: 200 (parenthesis_ a ) ~
-201 ( a ) ~ :: 0 ~ none ~ ~
-10000 ( a ) ~ :: 0 ~ none ~ ~
-201 [ ~ ] ~ :: 200 (list_ (list) ) ~
-202 [ ~ ] ~ :: 0 ~ none ~ ~
-200 -_ a ~ ; :: 200 (-_ a ) _..
-199 -_ a ~ ; :: 199 (-_ a ) ;
-200 -_ a ~ ~ :: 200 (-_ a ) ~
-201 -_ a ~ ~ :: 0 ~ none ~ ~
-200 throw_ a ~ ~ :: 200 (throw_ a ) ~
-201 throw_ a ~ ~ :: 0 ~ none ~ ~
-200 ()=> a ~ ~ :: 200 (closure_=>_ a ) ~
-201 ()=> a ~ ~ :: 0 ~ none ~ ~
-200 ~ a -a ~ :: 200 (-_ a _a) ~
-201 ~ a -a ~ :: 200 (-_ a _a) _..
-10000 ~ a -a ~ :: 200 (-_ a _a) _..
-300 ~ a .b ~ :: 200 (._ a _b) _..
-300 ~ a ..b ~ :: 200 (.._ a _.b) _..
-300 a?b: a ~ ~ :: 200 (?_a_b_ a ) _..
-300 a= a ~ ~ :: 200 (=_a_ a ) _..
-150 ()=>f( ~ ~ ; :: 0 ~ (closure_=>_f) ~ _..
-150 ()=>a? ~ ~ a; :: 0 ~ (closure_=>_a) ~ _..
-150 ()=>a+( ~ ~ ; :: 0 ~ (closure_=>_a) ~ _..
-150 a?b:c..[ @ ] ; :: 0 ~ (?_a_b_c) ~ _..
-60 ()=>f( a ) ; :: 60 (closure_=>_(call_f_ a )) ;
-200 if(a) ; ~ ~ :: 200 (if_a_ ; ) ~
-201 if(a) ; ~ ~ :: 0 ~ none ~ ~
-200 a: ; ~ ~ :: 200 (label_a_ ; ) ~
-201 a: ; ~ ~ :: 0 ~ a ~ _..
-201 { ~ } ~ :: 200 (block_{ (block_{}) }) ~
-202 { ~ } ~ :: 201 (block_{ (error) }) ~
-10000 { ~ } ~ :: 201 (block_{ (error) }) ~
-201 { ~ }@; ~ :: 200 (block_{ (block_{}) _(error)}) _..
-202 { ~ }@; ~ :: 201 (block_{ (error) _(error)}) _..
-10000 { ~ }@; ~ :: 201 (block_{ (error) _(error)}) _..
-100 {(){ ~ };} ~ :: 50 (block_{(closure_{ (block_{(error)_(error)}) });}) ~";
-
-// A side of a line, written out.
-fn written_out(alloc: Global, side: &str) -> Result<String, Fail> {
-    let side = side.replace(alloc, "~", "")?;
-    let side = side.replace(alloc, " ", "\n")?;
-    let side = side.replace(alloc, "_", " ")?;
-    let mut parts = side.split("\n");
-    let count = parts.next().ok_or("no count")?.parse::<usize>()?;
-    let before = parts.next().ok_or("nothing before")?.repeat(alloc, count)?;
-    let middle = parts.next().ok_or("no middle")?;
-    let behind = parts.next().ok_or("nothing behind")?.repeat(alloc, count)?;
-    let last = parts.next().ok_or("nothing last")?;
-    Ok(format!(in alloc; "{before}{middle}{behind}{last}")?)
-}
+~ 200 ( a ) ~ :: ~ 200 (parenthesis_ a ) ~
+~ 201 ( a ) ~ :: ~ 0 ~ none ~ ~
+~ 10000 ( a ) ~ :: ~ 0 ~ none ~ ~
+~ 201 [ ~ ] ~ :: ~ 200 (list_ (list) ) ~
+~ 202 [ ~ ] ~ :: ~ 0 ~ none ~ ~
+~ 200 -_ a ~ ; :: ~ 200 (-_ a ) _..
+~ 199 -_ a ~ ; :: ~ 199 (-_ a ) ;
+~ 200 -_ a ~ ~ :: ~ 200 (-_ a ) ~
+~ 201 -_ a ~ ~ :: ~ 0 ~ none ~ ~
+~ 200 throw_ a ~ ~ :: ~ 200 (throw_ a ) ~
+~ 201 throw_ a ~ ~ :: ~ 0 ~ none ~ ~
+~ 200 ()=> a ~ ~ :: ~ 200 (closure_=>_ a ) ~
+~ 201 ()=> a ~ ~ :: ~ 0 ~ none ~ ~
+~ 200 ~ a -a ~ :: ~ 200 (-_ a _a) ~
+~ 201 ~ a -a ~ :: ~ 200 (-_ a _a) _..
+~ 10000 ~ a -a ~ :: ~ 200 (-_ a _a) _..
+~ 300 ~ a .b ~ :: ~ 200 (._ a _b) _..
+~ 300 ~ a ..b ~ :: ~ 200 (.._ a _.b) _..
+~ 300 a?b: a ~ ~ :: ~ 200 (?_a_b_ a ) _..
+~ 300 a= a ~ ~ :: ~ 200 (=_a_ a ) _..
+~ 150 ()=>f( ~ ~ ; :: ~ 0 ~ (closure_=>_f) ~ _..
+~ 150 ()=>a? ~ ~ a; :: ~ 0 ~ (closure_=>_a) ~ _..
+~ 150 ()=>a+( ~ ~ ; :: ~ 0 ~ (closure_=>_a) ~ _..
+~ 150 a?b:c..[ @ ] ; :: ~ 0 ~ (?_a_b_c) ~ _..
+~ 60 ()=>f( a ) ; :: ~ 60 (closure_=>_(call_f_ a )) ;
+~ 200 if(a) ; ~ ~ :: ~ 200 (if_a_ ; ) ~
+~ 201 if(a) ; ~ ~ :: ~ 0 ~ none ~ ~
+~ 200 a: ; ~ ~ :: ~ 200 (label_a_ ; ) ~
+~ 201 a: ; ~ ~ :: ~ 0 ~ a ~ _..
+~ 201 { ~ } ~ :: ~ 200 (block_{ (block_{}) }) ~
+~ 202 { ~ } ~ :: ~ 201 (block_{ (error) }) ~
+~ 10000 { ~ } ~ :: ~ 201 (block_{ (error) }) ~
+~ 201 { ~ }@; ~ :: ~ 200 (block_{ (block_{}) _(error)}) _..
+~ 202 { ~ }@; ~ :: ~ 201 (block_{ (error) _(error)}) _..
+~ 10000 { ~ }@; ~ :: ~ 201 (block_{ (error) _(error)}) _..
+~ 100 {(){ ~ };} ~ :: ~ 50 (block_{(closure_{ (block_{(error)_(error)}) });}) ~";
 
 // The notation of a line's text is that of the line.
 fn is_right(alloc: Global, line: &str) -> Result<bool, Fail> {

@@ -1,7 +1,9 @@
-//! Tests of the rules and of elaboration, over texts: diagnostics of bodies, what their typed trees say,
-//! and the points and runs of their core programs, all worked out by hand.
+//! Tests of the rules and of elaboration, over texts: diagnostics of texts and of bodies, what is judged
+//! of them, what their typed trees say, and the points and runs of their core programs, all worked out
+//! by hand.
 //!
-//! It holds nothing else, so that the judge and elaboration are proved without their tests.
+//! It holds nothing else, so that the check of a library, the judge and elaboration are proved without
+//! their tests.
 #![tactic(auto)]
 
 #[cfg(test)]
@@ -10,5 +12,7 @@ mod libraries;
 mod node_tests;
 #[cfg(test)]
 mod program_tests;
+#[cfg(test)]
+mod text_tests;
 #[cfg(test)]
 mod unit_tests;

@@ -1,5 +1,7 @@
 //! Answers each line of its input, which asks something of a text. In a text `¶` stands for a line feed.
 //!
+//!     read TEXT           what it begins with, a statement or else an expression, in the notation of
+//!                         `tree_notation`: `none` where it is neither, and ` ..` behind it where more follows
 //!     faults TEXT         what is wrong with its tree: `ok`, or a fault behind the other, each as
 //!                         `CODE@OFFSET+LENGTH` in UTF-16 code units from 0
 //!     print TEXT          the text as its tokens are printed
@@ -12,16 +14,21 @@ use dart_parse::{TreeFault, parse_unit, tree_faults};
 use dart_text::{Text, TextRefusal};
 use dart_tree::Unit;
 use interface_part::{Interface, interface_part};
+use parse_tests::read;
 use std::alloc::Global;
 use std::io::{self, BufWriter, Read, Write};
 use tree_print::print;
 use work_counts::Work;
 
+/// How far the root of what a text begins with lies below a unit: it stands in the block of a function.
+const DEPTH: u32 = 3;
+
 /// What a line is answered.
 #[derive(Drop)]
 enum Answer {
     Faults(Vec<TreeFault>),
-    Printed(String),
+    /// A notation, or a text as its tokens are printed.
+    Written(String),
     Compared(bool),
     /// The line asks nothing that is known here.
     Unknown,
@@ -31,6 +38,12 @@ enum Answer {
 fn text_of(alloc: Global, written: &str) -> Result<Text, TextRefusal> {
     let lines = written.replace(alloc, "¶", "\n")?;
     Text::from_str(alloc, &lines)
+}
+
+/// What a text begins with.
+fn beginning(alloc: Global, written: &str) -> Result<String, TextRefusal> {
+    let lines = written.replace(alloc, "¶", "\n")?;
+    read(alloc, &lines, DEPTH)
 }
 
 /// The unit of the text that is written so.
@@ -61,11 +74,14 @@ fn interface_of(alloc: Global, written: &str) -> Result<Interface, TextRefusal> 
 
 /// What a line is answered. The errors are a text that is too long, and want of memory.
 fn answered(alloc: Global, line: &str) -> Result<Answer, TextRefusal> {
+    if let Some(text) = line.strip_prefix("read ") {
+        return Ok(Answer::Written(beginning(alloc, text)?));
+    }
     if let Some(text) = line.strip_prefix("faults ") {
         return Ok(Answer::Faults(faults_of(alloc, text)?));
     }
     if let Some(text) = line.strip_prefix("print ") {
-        return Ok(Answer::Printed(printed(alloc, text)?));
+        return Ok(Answer::Written(printed(alloc, text)?));
     }
     let Some(texts) = line.strip_prefix("same ") else {
         return Ok(Answer::Unknown);
@@ -94,7 +110,7 @@ fn write_faults<W: Write>(out: &mut W, faults: &[TreeFault]) -> io::Result<()> {
 fn write_answer<W: Write>(out: &mut W, answer: &Answer) -> io::Result<()> {
     match answer {
         Answer::Faults(faults) => write_faults(out, faults),
-        Answer::Printed(text) => writeln!(out, "{text}"),
+        Answer::Written(text) => writeln!(out, "{text}"),
         Answer::Compared(true) => writeln!(out, "same"),
         Answer::Compared(false) => writeln!(out, "other"),
         Answer::Unknown => writeln!(out, "no question"),

@@ -1,10 +1,9 @@
 //! Texts that are nested as deep as a tree may be, and deeper.
 //!
-//! A line is a case, `TEXT :: READING`, and both are written `FIRST COUNT BEFORE MIDDLE BEHIND LAST`:
-//! what stands first, so many times what stands before the middle, the middle, as often what stands
-//! behind it, and what stands last. There `_` is a blank, and `~` is nothing.
+//! A line is a case, `TEXT :: READING`, both as `nesting` has them.
 
-use crate::reading::read;
+use crate::nesting::written_out;
+use crate::units::reading::read;
 use std::alloc::Global;
 use std::test::Fail;
 use unit_notation::Ranges;
@@ -22,21 +21,6 @@ class_C{var_a= 197 ( 1 ) ;} :: (class_C_{(var_a= 197 (parenthesis_ 1 ) )})
 class_C{var_a= 198 ( 1 ) ;} :: (class_C_{ 0 ~ (error) ~ })_::_Nesting@8+404
 f() 199 { ~ } ~ :: (function_f_{ 198 (block_{ ~ }) })
 f() 200 { ~ } ~ :: (function_f_{ 198 (block_{ (error) }) })_::_Nesting@202+2";
-
-// A side of a line, written out.
-fn written_out(alloc: Global, side: &str) -> Result<String, Fail> {
-    let side = side.replace(alloc, "~", "")?;
-    let side = side.replace(alloc, " ", "\n")?;
-    let side = side.replace(alloc, "_", " ")?;
-    let mut parts = side.split("\n");
-    let first = parts.next().ok_or("nothing first")?;
-    let count = parts.next().ok_or("no count")?.parse::<usize>()?;
-    let before = parts.next().ok_or("nothing before")?.repeat(alloc, count)?;
-    let middle = parts.next().ok_or("no middle")?;
-    let behind = parts.next().ok_or("nothing behind")?.repeat(alloc, count)?;
-    let last = parts.next().ok_or("nothing last")?;
-    Ok(format!(in alloc; "{first}{before}{middle}{behind}{last}")?)
-}
 
 // The reading of a line's text is that of the line.
 fn is_right(alloc: Global, line: &str) -> Result<bool, Fail> {

@@ -5,7 +5,7 @@
 //! UTF-16 code units from 0; those of lexemes come first, then those of brackets, and then those of
 //! errors in the tree.
 
-use crate::reading::{read, read_printed};
+use crate::units::reading::{read, read_printed};
 use std::test::Fail;
 use unit_notation::Ranges;
 
