@@ -142,7 +142,7 @@ parameter_follows r l a which =
     (follows_seq (follows_maybe (follows_token r (is_either kind.Final kind.Var) (either_marks r.moves kind.Final kind.Var refl refl refl refl)))
     (follows_seq (follows_maybe (follows_before heads_field (blind_field r) (a.named r)))
     (follows_seq (follows_maybe (follows_seq (mark r kind.This refl refl) (mark r kind.Period refl refl)))
-    (follows_seq (named r) (follows_maybe (follows_then (mark r kind.Equals refl refl) (a.expression r setting.Plain)))))))))
+    (follows_seq (named r) (follows_maybe (follows_then (mark r kind.Equals refl refl) (a.expression r setting.Default)))))))))
     (λ read other x y q p.
     let written = part_same r.moves x.1.1.1.0 y.1.1.1.0 p.1.1.1.0 in
     let value = behind_same r.moves x.1.1.1.1.1.1 y.1.1.1.1.1.1 p.1.1.1.1.1.1 in record { stands = over r.moves read other q; high = rw (written, value) refl; last = refl })

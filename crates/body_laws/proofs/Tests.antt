@@ -17,11 +17,12 @@ use Rattle.dart_tree.specs.declared.operators.BinaryOperatorKind.TheVariants.{Gr
 use Rattle.grammar.specs.Tokens.{adjoins, is, is_either, is_name, is_type_name, heads, heads_name, first_then, group_then, anything, past, span_over}
 use Rattle.grammar.specs.Types.{heads_qualified, heads_required, heads_field, goes_on_parameter}
 use Rattle.grammar.specs.Outline.{Way, onward, ◌⨾◌, way_or, either_way, behind_or, perhaps, go_on, repeated, some_more, over, over_group, over_name, over_angles, over_parameter, over_tail, over_plain, over_type, behind_arguments}
+use Rattle.grammar.specs.Parameters.{at_end, group_holds, over_piece, over_value, over_field, over_declared, over_untyped, begins_parameter, heads_name_end, heads_parameter, fills_brackets, heads_optional, fills_parentheses}
 use Rattle.grammar.specs.Operators.{signs, sign_in, shift_at, greater_at, sign_at, heads_sign, read_sign, take_sign}
-use Rattle.grammar.specs.Expressions.{goes_on, heads_cast, heads_rest, heads_brace, heads_body, heads_closure, begins_expression, heads_tail, heads_choice, heads_nullable, heads_label, heads_use, heads_generic, behind_call, heads_call}
+use Rattle.grammar.specs.Expressions.{goes_on, heads_cast, heads_rest, heads_brace, heads_body, heads_parentheses, heads_closure, begins_expression, heads_tail, heads_choice, heads_nullable, heads_label, heads_use, heads_generic, behind_call, heads_call}
 use Rattle.grammar.specs.Declarations.{heads_getter, heads_setter, is_class, begins_static, heads_static, heads_class, heads_word}
-use Rattle.body_laws.specs.Bodies.{Moves, Twins}
-use Rattle.body_laws.proofs.Follow.{Kin, Like, first_twins, one_empty, other_empty, both_empty, adjoin_alike, behind_group, behind_any, behind_mark, Went, went_on, went_token, Both, Found, Follows, Blind, Marks, Tries, fewer_tries, no_left, no_right, if_known, option_found}
+use Rattle.body_laws.specs.Bodies.{Moves, Twins, Freedom, none, in_braces}
+use Rattle.body_laws.proofs.Follow.{Kin, Like, inner, and_none, no_body, is_kind, held_in, first_twins, one_empty, other_empty, both_empty, adjoin_alike, behind_group, behind_any, behind_mark, Went, went_on, went_token, Both, Found, Follows, Blind, Marks, Tries, fewer_tries, no_left, no_right, if_known, option_found}
 
 -- Tokens.
 
@@ -460,14 +461,110 @@ unfolding behind_arguments
 way_arguments r = let all = way_angles r (over_type 200) (way_type r 200) in record { each = λ p ts us k. all.each p ts us k }
 
 -- a test of what comes behind a way
-blind_way : (r : Kin) (c : Test Token) (w : Way) → Blind r c → Goes r true w → Blind r (λ ts. option_map_or c (w ts) false)
-blind_way r c w b g p ts us k = by (w ts) (w us) (g.each p ts us k)
+blind_behind_way : (r : Kin) (some : Bool) (c : Test Token) (w : Way) → Blind r c → Goes r some w → Blind r (λ ts. option_map_or c (w ts) false)
+blind_behind_way r some c w b g p ts us k = by (w ts) (w us) (g.each p ts us k)
   where
-    by : (o q : Option (List Token)) → Both (Onward r true ts us) o q → option_map_or c o false ≡ option_map_or c q false
+    by : (o q : Option (List Token)) → Both (Onward r some ts us) o q → option_map_or c o false ≡ option_map_or c q false
     by None None h = refl
     by None (Some y) h = absurd h
     by (Some x) None h = absurd h
     by (Some x) (Some y) h = b true x y h.like
+
+blind_way : (r : Kin) (c : Test Token) (w : Way) → Blind r c → Goes r true w → Blind r (λ ts. option_map_or c (w ts) false)
+blind_way r c w b g = blind_behind_way r true c w b g
+
+-- Parameters by their tokens, in parentheses, where no body differs.
+
+blind_end : (r : Kin) → Blind r at_end
+blind_end r p [] [] a = refl
+blind_end r p [] (u ∷ us) a = one_empty r p u us a
+blind_end r p (t ∷ ts) [] a = other_empty r p t ts a
+blind_end r p (t ∷ ts) (u ∷ us) a = refl
+
+none_either : (b : Bool) → (if b then none else none) ≡ none
+none_either true = refl
+none_either false = refl
+
+held_calm : (r : Kin) (p : Bool) (t u : Token) (ts us : List Token) → Like (inner r) p (t ∷ ts) (u ∷ us) → Like (inner r) false (take t.width ts) (take u.width us)
+held_calm r p t u ts us a =
+    subst (λ (f : Freedom). Like (record { moves = r.moves; freedom = f }) false (take t.width ts) (take u.width us)) (none_either (is kind.OpenBrace t)) (held_in (inner r) p t u ts us a (and_none p false refl))
+
+blind_calm : (r : Kin) (f : Token → Bool) (c : Test Token) → BlindTo r.moves f → Blind (inner r) c → Blind (inner r) (group_holds f c)
+blind_calm r f c b d p [] [] a = refl
+blind_calm r f c b d p [] (u ∷ us) a = one_empty (inner r) p u us a
+blind_calm r f c b d p (t ∷ ts) [] a = other_empty (inner r) p t ts a
+blind_calm r f c b d p (t ∷ ts) (u ∷ us) a = rw (b t u (first_twins (inner r) p t u ts us a), d false (take t.width ts) (take u.width us) (held_calm r p t u ts us a)) refl
+
+way_piece : (r : Kin) → Goes r true over_piece
+way_piece r = record { each = follow }
+  where
+    follow : (p : Bool) (ts us : List Token) → Like r p ts us → Both (Onward r true ts us) (over_piece ts) (over_piece us)
+    follow p [] [] a = tt
+    follow p [] (u ∷ us) a = one_empty r p u us a
+    follow p (t ∷ ts) [] a = other_empty r p t ts a
+    follow p (t ∷ ts) (u ∷ us) a =
+        if_known (Onward r true (t ∷ ts) (u ∷ us)) (is kind.Comma t || is_either kind.Question kind.Colon t) (is kind.Comma u || is_either kind.Question kind.Colon u) None (Some (drop (past t) ts)) None (Some (drop (past u) us))
+        (ap (λ (k : Kind). sameb kinds.the_type k kind.Comma || (sameb kinds.the_type k kind.Question || sameb kinds.the_type k kind.Colon)) (first_twins r p t u ts us a).kind) (λ e. tt)
+        (record { like = behind_any r (is kind.OpenParenthesis t) (drop (past t) ts) (drop (past u) us) (behind_group r p t u ts us a); left = omega (arith, drop_fewer (past t) ts); right = omega (arith, drop_fewer (past u) us) })
+
+way_value : (r : Kin) → Goes r false over_value
+way_value r = way_more r (either_way behind_arguments over_piece) (way_either r true true behind_arguments over_piece (way_arguments r) (way_piece r))
+
+way_field : (r : Kin) → Goes r true over_field
+way_field r =
+    way_then r false true (perhaps (over (is kind.This) ⨾ over (is kind.Period))) (over is_name)
+    (way_perhaps r true (over (is kind.This) ⨾ over (is kind.Period)) (way_then r true true (over (is kind.This)) (over (is kind.Period)) (way_kind r kind.This refl refl) (way_kind r kind.Period refl refl)))
+    (way_over r is_name (name_marks r.moves))
+
+way_declared : (r : Kin) → Goes r true over_declared
+way_declared r = way_either r true true (over_type 200 ⨾ over_field) over_field (way_then r true true (over_type 200) over_field (way_type r 200) (way_field r)) (way_field r)
+
+way_untyped : (r : Kin) → Goes r true over_untyped
+way_untyped r =
+    way_then r true true over_field (perhaps (over (is kind.Equals) ⨾ over_value) ⨾ over (is kind.Comma)) (way_field r)
+    (way_then r false true (perhaps (over (is kind.Equals) ⨾ over_value)) (over (is kind.Comma))
+    (way_perhaps r true (over (is kind.Equals) ⨾ over_value) (way_then r true false (over (is kind.Equals)) over_value (way_kind r kind.Equals refl refl) (way_value r))) (way_kind r kind.Comma refl refl))
+
+blind_default : (r : Kin) → Blind r (λ us. option_map_or (λ vs. not (heads kind.Colon vs)) (over_value us) false)
+blind_default r = blind_behind_way r false (λ vs. not (heads kind.Colon vs)) over_value (blind_not r (heads kind.Colon) (blind_heads r kind.Colon)) (way_value r)
+
+blind_name_end : (r : Kin) → Blind r heads_name_end
+blind_name_end r p ts us a =
+    rw (
+      blind_end r p ts us a,
+      blind_next r (is_either kind.Comma kind.OpenBrace) (λ t u w. rw w.kind refl) p ts us a,
+      blind_first r (is kind.Equals) (λ us. option_map_or (λ vs. not (heads kind.Colon vs)) (over_value us) false) (kind_marks r.moves kind.Equals refl refl) (blind_default r) p ts us a,
+    ) refl
+
+blind_parameter : (r : Kin) (c : Test Token) → Blind r c → Blind r (heads_parameter c)
+blind_parameter r c b p ts us a =
+    rw (blind_next r begins_parameter (λ t u w. rw w.kind refl) p ts us a, blind_required r p ts us a, blind_way r c over_declared b (way_declared r) p ts us a) refl
+
+blind_brackets : (r : Kin) → Blind r fills_brackets
+blind_brackets r =
+    blind_behind_way r false (λ us. at_end us || heads_parameter heads_name_end us) (some_more over_untyped) (blind_or r at_end (heads_parameter heads_name_end) (blind_end r) (blind_parameter r heads_name_end (blind_name_end r))) (way_more r over_untyped (way_untyped r))
+
+blind_optional : (r : Kin) → Blind (inner r) heads_optional
+blind_optional r p ts us a =
+    let f : Token → Bool = is_either kind.OpenBracket kind.OpenBrace in
+    rw (blind_calm r f fills_brackets (λ t u w. rw w.kind refl) (blind_brackets (inner r)) p ts us a, blind_group (inner r) f at_end (λ t u w. rw w.kind refl) (blind_end (inner r)) p ts us a) refl
+
+blind_parentheses : (r : Kin) → Blind (inner r) fills_parentheses
+unfolding fills_parentheses
+blind_parentheses r p ts us a =
+    let s : Kin = inner r in
+    rw (blind_end s p ts us a, blind_optional r p ts us a, blind_parameter s (λ us. heads_name_end us || heads_optional us) (blind_or s heads_name_end heads_optional (blind_name_end s) (blind_optional r)) p ts us a) refl
+
+-- what parentheses hold
+blind_held : (r : Kin) (c : Test Token) → Blind (inner r) c → Blind r (group_holds (is kind.OpenParenthesis) c)
+blind_held r c d p [] [] a = refl
+blind_held r c d p [] (u ∷ us) a = one_empty r p u us a
+blind_held r c d p (t ∷ ts) [] a = other_empty r p t ts a
+blind_held r c d p (t ∷ ts) (u ∷ us) a =
+    and_known (is kind.OpenParenthesis t) (is kind.OpenParenthesis u) (c (take t.width ts)) (c (take u.width us)) (ap (λ (k : Kind). sameb kinds.the_type k kind.OpenParenthesis) (first_twins r p t u ts us a).kind)
+    (λ e. let brace : is kind.OpenBrace t ≡ false = ap (λ (j : Kind). sameb kinds.the_type j kind.OpenBrace) (is_kind kind.OpenParenthesis t e) in
+    d false (take t.width ts) (take u.width us)
+    (subst (λ (b : Bool). Like (record { moves = r.moves; freedom = if b then in_braces r.freedom else none }) false (take t.width ts) (take u.width us)) brace (held_in r p t u ts us a (no_body r.freedom p t brace))))
 
 -- Tests of expressions.
 
@@ -489,17 +586,25 @@ blind_brace : (r : Kin) (m : Setting) → Blind r (heads_brace m)
 blind_brace r setting.Plain = blind_heads r kind.OpenBrace
 blind_brace r setting.Listed = blind_heads r kind.OpenBrace
 blind_brace r setting.Initializer = blind_group r (is kind.OpenBrace) heads_rest (λ t u w. rw w.kind refl) (blind_rest r)
+blind_brace r setting.Default = blind_heads r kind.OpenBrace
 
 blind_heads_body : (r : Kin) (m : Setting) → Blind r (heads_body m)
 blind_heads_body r m = blind_or r (heads kind.Arrow) (heads_brace m) (blind_heads r kind.Arrow) (blind_brace r m)
 
+blind_before_body : (r : Kin) (m : Setting) → Blind r (heads_parentheses m)
+blind_before_body r setting.Plain = blind_anything r
+blind_before_body r setting.Listed = blind_anything r
+blind_before_body r setting.Initializer = blind_anything r
+blind_before_body r setting.Default = blind_held r fills_parentheses (blind_parentheses r)
+
 pub blind_closure : (r : Kin) (m : Setting) → Blind r (heads_closure m)
-blind_closure r m = blind_group r (is kind.OpenParenthesis) (heads_body m) (λ t u w. rw w.kind refl) (blind_heads_body r m)
+blind_closure r m p ts us a = rw (blind_group r (is kind.OpenParenthesis) (heads_body m) (λ t u w. rw w.kind refl) (blind_heads_body r m) p ts us a, blind_before_body r m p ts us a) refl
 
 blind_behind : (r : Kin) (m : Setting) → Blind r (behind_call m)
 blind_behind r setting.Plain = blind_anything r
 blind_behind r setting.Listed = blind_not r (heads_body setting.Plain) (blind_heads_body r setting.Plain)
 blind_behind r setting.Initializer = blind_anything r
+blind_behind r setting.Default = blind_anything r
 
 pub blind_call : (r : Kin) (m : Setting) → Blind r (heads_call m)
 unfolding heads_call

@@ -114,7 +114,7 @@ parameter_low n d a which =
     (gives_seq (gives_any (where_next heads_required (turn (λ t. Some t) (token (is kind.Required))) (given None)))
     (gives_seq (gives_any (maybe (token (is_either kind.Final kind.Var))))
     (gives_seq (gives_exactly (gives_before heads_field a.named))
-    (gives_seq (gives_any (maybe (token (is kind.This) ▹ token (is kind.Period)))) (gives_seq (tok is_name) (gives_maybe (gives_seq (tok (is kind.Equals)) (a.expression setting.Plain)))))))))
+    (gives_seq (gives_any (maybe (token (is kind.This) ▹ token (is kind.Period)))) (gives_seq (tok is_name) (gives_maybe (gives_seq (tok (is kind.Equals)) (a.expression setting.Default)))))))))
 
 parameters_low : (n : ℕ) (d : Below) → Lows n d → (which : ParameterKind) → Gives (Each (Low n)) (parameters_rule d which)
 parameters_low n d a which = gives_elements (token (is kind.Comma)) (parameter_low n d a which)

@@ -161,7 +161,7 @@ parameter_parses d l a which =
     (parses_offered (offers_maybe (parses_token (is_either kind.Final kind.Var)))
     (parses_offered (offers_type d l a heads_field)
     (parses_offered (offers_maybe this_parses)
-    (parses_last (parses_token is_name) (offers_maybe (value_parses setting.Plain d l a)) (still _)) (far _ _ refl (λ t ts. refl))) (still _)) (far _ _ refl (λ t ts. refl))) (still _)) (far _ _ refl (λ t ts. refl))))
+    (parses_last (parses_token is_name) (offers_maybe (value_parses setting.Default d l a)) (still _)) (far _ _ refl (λ t ts. refl))) (still _)) (far _ _ refl (λ t ts. refl))) (still _)) (far _ _ refl (λ t ts. refl))))
     refl (λ t ts. refl) refl (λ t ts. refl)
 
 -- the parameters of a list

@@ -69,7 +69,7 @@ unfoldable pub take_annotation : Descent Token Tree
 take_annotation = take_make annotation_of (take_token (is kind.At) ▸ take_token is_name)
 
 unfoldable pub take_parameter : Lower → ParameterKind → Descent Token Tree
-take_parameter l which = take_make (parameter_of which) (take_many take_annotation ▸ take_where heads_required (take_turn (λ t. Some t) (take_token (is kind.Required))) (take_given None) ▸ take_maybe (take_token (is_either kind.Final kind.Var)) ▸ take_maybe (take_before heads_field l.named) ▸ take_maybe (take_token (is kind.This) ▸ take_token (is kind.Period)) ▸ take_token is_name ▸ take_maybe (take_token (is kind.Equals) ▸ l.expression setting.Plain))
+take_parameter l which = take_make (parameter_of which) (take_many take_annotation ▸ take_where heads_required (take_turn (λ t. Some t) (take_token (is kind.Required))) (take_given None) ▸ take_maybe (take_token (is_either kind.Final kind.Var)) ▸ take_maybe (take_before heads_field l.named) ▸ take_maybe (take_token (is kind.This) ▸ take_token (is kind.Period)) ▸ take_token is_name ▸ take_maybe (take_token (is kind.Equals) ▸ l.expression setting.Default))
 
 abbrev pub take_parameters : Lower → ParameterKind → Descent Token (List Tree)
 take_parameters l which = take_elements (take_parameter l which) (take_token (is kind.Comma))

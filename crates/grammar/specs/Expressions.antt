@@ -20,6 +20,7 @@ use Rattle.grammar.specs.Tokens.{is, is_either, is_name, heads, first_then, grou
 use Rattle.grammar.specs.Tokens.{heads_name}
 use Rattle.grammar.specs.Operators.{table, sign_at, binary_rule, assignment_rule, prefix_rule, postfix_rule}
 use Rattle.grammar.specs.Outline.{behind_arguments}
+use Rattle.grammar.specs.Parameters.{group_holds, fills_parentheses}
 use Rattle.grammar.specs.Types.{Below, every_time, inner, behind_token, type_arguments_rule, parameter_list_rule}
 
 -- What comes next.
@@ -44,14 +45,22 @@ abbrev pub heads_brace : Setting → Test Token
 heads_brace setting.Plain = heads kind.OpenBrace
 heads_brace setting.Listed = heads kind.OpenBrace
 heads_brace setting.Initializer = group_then (is kind.OpenBrace) heads_rest
+heads_brace setting.Default = heads kind.OpenBrace
 
 -- the body of a closure comes next
 abbrev pub heads_body : Setting → Test Token
 heads_body m ts = heads kind.Arrow ts || heads_brace m ts
 
--- the parameters of a closure come next: a parenthesis, and a body behind it
+-- Parentheses that come next may be a closure's: in a default value a `{` behind them may also begin optional parameters, so there they must hold parameters.
+abbrev pub heads_parentheses : Setting → Test Token
+heads_parentheses setting.Plain = anything
+heads_parentheses setting.Listed = anything
+heads_parentheses setting.Initializer = anything
+heads_parentheses setting.Default = group_holds (is kind.OpenParenthesis) fills_parentheses
+
+-- the parameters of a closure come next: parentheses, and a body behind them
 abbrev pub heads_closure : Setting → Test Token
-heads_closure m = group_then (is kind.OpenParenthesis) (heads_body m)
+heads_closure m ts = group_then (is kind.OpenParenthesis) (heads_body m) ts && heads_parentheses m ts
 
 -- an expression begins with this token, whatever comes behind it
 abbrev pub begins_expression : Token → Bool
@@ -282,6 +291,7 @@ abbrev pub behind_call : Setting → Test Token
 behind_call setting.Plain = anything
 behind_call setting.Listed = λ ts. not (heads_body setting.Plain ts)
 behind_call setting.Initializer = anything
+behind_call setting.Default = anything
 
 -- A call with type arguments comes next: a `<` opens them, and arguments stand behind them.
 unfoldable pub heads_call : Setting → Test Token

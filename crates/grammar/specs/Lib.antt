@@ -2,6 +2,7 @@ pub mod Tokens
 pub mod Types
 pub mod Operators
 pub mod Outline
+pub mod Parameters
 pub mod Expressions
 pub mod Statements
 pub mod Below

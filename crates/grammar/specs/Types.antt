@@ -142,7 +142,7 @@ unfoldable pub parameter_rule : Below → ParameterKind → Rule Token Tree
 parameter_rule d which =
     make (parameter_of which)
     (many annotation_rule ▹ where_next heads_required (turn (λ t. Some t) (token (is kind.Required))) (given None) ▹ maybe (token (is_either kind.Final kind.Var))
-    ▹ exactly (before heads_field d.named) ▹ maybe (token (is kind.This) ▹ token (is kind.Period)) ▹ token is_name ▹ maybe (token (is kind.Equals) ▹ d.expression setting.Plain))
+    ▹ exactly (before heads_field d.named) ▹ maybe (token (is kind.This) ▹ token (is kind.Period)) ▹ token is_name ▹ maybe (token (is kind.Equals) ▹ d.expression setting.Default))
 
 -- what stands between brackets
 abbrev pub inner : {A : Type 0} → Token × A → A

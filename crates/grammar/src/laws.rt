@@ -11,7 +11,8 @@ ghost use Rattle.dart_tree.specs.declared.places.Place.{Place};
 ghost use Rattle.unread_lists.specs.WithLists.{with_lists};
 ghost use Rattle.grammar.specs.Below.{below};
 ghost use Rattle.grammar.specs.Declarations.{unit_below};
-ghost use Rattle.grammar.specs.Descents.{lower};
+ghost use Rattle.grammar.specs.Types.{parameter_list_rule};
+ghost use Rattle.grammar.specs.Descents.{lower, take_parameter_list};
 ghost use Rattle.grammar.specs.DeclarationDescents.{lower_unit};
 ghost use Rattle.grammar.specs.Statements.{segment, error_of};
 ghost use Rattle.grammar.specs.Whole.{statements_below, statements_at, tokens_over, most_nodes, whole, unit_of};
@@ -20,9 +21,9 @@ ghost use Rattle.grammar.specs.Rows.{ReadsExpression, ReadsStatement, ReadsUnit,
 ghost use Rattle.readings.specs.Leading.{Each};
 
 /// A parser that goes down the tokens and never gives a reading up for another finds what the
-/// grammar reads: of each type, expression, operand, block and statement, however many nodes may lie
-/// on a way down and whatever the tokens are, the first of the longest readings. Lists of statements
-/// in them aren't read yet.
+/// grammar reads: of each type, expression, operand, block, statement and list of parameters, however
+/// many nodes may lie on a way down and whatever the tokens are, the first of the longest readings.
+/// Lists of statements in them aren't read yet.
 pub fn parser_laws()
     ensures written { (room : ℕ) (tokens : List Token) → longest ((below room).written tokens) ≡ (lower room).written tokens }
     ensures tested { (room : ℕ) (setting : Setting) (tokens : List Token) → longest ((below room).tested setting tokens) ≡ (lower room).tested setting tokens }
@@ -38,6 +39,7 @@ pub fn parser_laws()
     ensures simple { (room : ℕ) (tokens : List Token) → longest ((below room).simple tokens) ≡ (lower room).simple tokens }
     ensures block { (room : ℕ) (tokens : List Token) → longest ((below room).block tokens) ≡ (lower room).block tokens }
     ensures statement { (room : ℕ) (tokens : List Token) → longest ((below room).statement tokens) ≡ (lower room).statement tokens }
+    ensures parameters { (room : ℕ) (tokens : List Token) → longest (parameter_list_rule (below room) tokens) ≡ take_parameter_list (lower room) tokens }
 {}
 
 /// Each type, expression, operand, cascade section, block and statement has one reading at most at

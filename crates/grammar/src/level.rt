@@ -49,4 +49,6 @@ pub enum Setting {
     Listed,
     /// In the initializer list of a constructor, where the constructor's body may come next.
     Initializer,
+    /// In the default value of a parameter, where optional parameters may come next.
+    Default,
 }

@@ -122,7 +122,7 @@ parameter_left l a which =
     (leaves_seq (leaves_maybe (leaves_token (is_either kind.Final kind.Var)))
     (leaves_seq (leaves_maybe (leaves_before heads_field a.named))
     (leaves_seq (leaves_maybe (leaves_seq (leaves_token (is kind.This)) (leaves_token (is kind.Period))))
-    (leaves_seq (leaves_token is_name) (leaves_maybe (leaves_seq (leaves_token (is kind.Equals)) (a.expression setting.Plain)))))))))
+    (leaves_seq (leaves_token is_name) (leaves_maybe (leaves_seq (leaves_token (is kind.Equals)) (a.expression setting.Default)))))))))
 
 pub parameter_type_left : (l : Lower) → LeavesBelow l → Leaves (take_parameter_type l)
 unfolding take_parameter_type

@@ -130,7 +130,7 @@ parameter_pays c l a which =
     (pays_seq (pays_maybe (pays_token c (is_either kind.Final kind.Var)))
     (pays_seq (pays_maybe (pays_before heads_field a.named))
     (pays_seq (pays_maybe (pays_seq (pays_token c (is kind.This)) (pays_token c (is kind.Period))))
-    (pays_seq (pays_token c is_name) (pays_maybe (pays_seq (pays_token c (is kind.Equals)) (a.expression setting.Plain)))))))))
+    (pays_seq (pays_token c is_name) (pays_maybe (pays_seq (pays_token c (is kind.Equals)) (a.expression setting.Default)))))))))
     (λ read x. omega (arith, all_nodes x.0, part_weight c x.1.1.1.0, behind_weight c x.1.1.1.1.1.1))
 
 parameters_pay : (c : Place → ℕ) (l : Lower) → Affordable c l → (which : ParameterKind) → Pays c (total (weight c)) 0 (take_parameters l which)

@@ -4,7 +4,7 @@ ghost use Rattle.std.specs.Prelude.{◌≡◌, ◌||◌};
 ghost use Rattle.readings.specs.Readings.{next};
 ghost use Rattle.grammar.specs.Tokens.{is, is_name, is_type_name, is_either, heads, heads_name, first_then, group_then};
 ghost use Rattle.grammar.specs.Types.{heads_qualified, heads_required, heads_field, goes_on_parameter};
-ghost use Rattle.grammar.specs.Expressions.{goes_on, heads_cast, heads_rest, heads_brace, heads_body, heads_closure, begins_expression, heads_tail, heads_choice, heads_nullable, heads_label, heads_use, behind_call};
+ghost use Rattle.grammar.specs.Expressions.{goes_on, heads_cast, heads_rest, heads_brace, heads_body, begins_expression, heads_tail, heads_choice, heads_nullable, heads_label, heads_use, behind_call};
 ghost use Rattle.grammar.specs.Descents.{begins_string, begins_prefix};
 ghost use Rattle.parse_leaves.specs.Next.{goes_on_type, type_name_size, heads_untyped};
 
@@ -207,6 +207,7 @@ fn heads_brace(setting: Setting, tokens: &[Token]) -> bool
         Setting::Plain => heads(tokens, Kind::OpenBrace),
         Setting::Listed => heads(tokens, Kind::OpenBrace),
         Setting::Initializer => heads_braced_rest(tokens),
+        Setting::Default => heads(tokens, Kind::OpenBrace),
     }
 }
 
@@ -217,9 +218,9 @@ fn heads_body(setting: Setting, tokens: &[Token]) -> bool
     heads(tokens, Kind::Arrow) || heads_brace(setting, tokens)
 }
 
-/// The parameters of a closure come next: a parenthesis, and a body behind it.
-pub fn heads_closure(setting: Setting, tokens: &[Token]) -> bool
-    ensures { result ≡ heads_closure setting tokens.now }
+/// Parentheses come next, and the body of a closure behind them.
+pub fn heads_group_and_body(setting: Setting, tokens: &[Token]) -> bool
+    ensures { result ≡ group_then (is Kind.OpenParenthesis) (heads_body setting) tokens.now }
 {
     match tokens.split_first() {
         Some((first, rest)) => {
@@ -317,6 +318,7 @@ pub fn behind_call(setting: Setting, tokens: &[Token]) -> bool
         Setting::Plain => true,
         Setting::Listed => !heads_body(Setting::Plain, tokens),
         Setting::Initializer => true,
+        Setting::Default => true,
     }
 }
 

@@ -3,7 +3,7 @@
 //!
 //! `leaves.rt` reads single tokens and groups, `operators.rt` operators, also those whose lexemes
 //! stand side by side, and `type_leaves.rt` the parts of types that hold no other node; `ahead.rt`
-//! has the tests of the tokens that come next, `outline.rt` the one of type arguments, `behind.rt` whether anything, or a selector, may stand
+//! has the tests of the tokens that come next, `outline.rt` the one of type arguments, `parameters.rt` the one of a closure, `behind.rt` whether anything, or a selector, may stand
 //! behind an expression, and `places.rt` where what was read stands. Each
 //! contract states that the answer is exactly what the way down of `grammar` finds or tests there
 //! (`specs/Answers.antt` says how answers and findings agree).
@@ -23,13 +23,14 @@ mod leaves;
 mod miss;
 mod operators;
 mod outline;
+mod parameters;
 mod parts;
 mod places;
 mod type_leaves;
 
 pub use ahead::{
-    heads, heads_closure, heads_either, heads_field, heads_label, heads_name, heads_nullable,
-    heads_prefix, heads_qualified, heads_required, heads_string, heads_untyped,
+    heads, heads_either, heads_field, heads_label, heads_name, heads_nullable, heads_prefix,
+    heads_qualified, heads_required, heads_string, heads_untyped,
 };
 pub use behind::{is_incremented, is_open};
 pub use below::Below;
@@ -43,6 +44,7 @@ pub use operators::{
     prefix_operator, sign_at,
 };
 pub use outline::{heads_call, heads_generic};
+pub use parameters::heads_closure;
 pub use parts::{Contents, Header, Selector, Side, Tail};
 pub use places::{higher, identifier_at, name_at, place_of, place_over, span_of, span_over};
 pub use type_leaves::{TypePlace, annotation, heads_end, question, type_name};

@@ -24,7 +24,7 @@ enum Angles {
 }
 
 /// Over one token of the kind.
-fn over(tokens: &[Token], kind: Kind) -> Option<&[Token]>
+pub fn over(tokens: &[Token], kind: Kind) -> Option<&[Token]>
     ensures { Finds (λ x. x.now) result (over (is kind) tokens.now) }
 {
     match tokens.split_first() {
@@ -34,7 +34,7 @@ fn over(tokens: &[Token], kind: Kind) -> Option<&[Token]>
 }
 
 /// Over one token of the kind, if it comes next.
-fn perhaps_over(tokens: &[Token], kind: Kind) -> &[Token]
+pub fn perhaps_over(tokens: &[Token], kind: Kind) -> &[Token]
     ensures { perhaps (over (is kind)) tokens.now ≡ Some result.now }
 {
     match over(tokens, kind) {
@@ -56,7 +56,7 @@ fn over_group(tokens: &[Token]) -> Option<&[Token]>
 }
 
 /// Over an identifier.
-fn over_word(tokens: &[Token]) -> Option<&[Token]>
+pub fn over_word(tokens: &[Token]) -> Option<&[Token]>
     ensures { Finds (λ x. x.now) result (over is_name tokens.now) }
 {
     match tokens.split_first() {
@@ -256,9 +256,16 @@ fn over_type(tokens: &[Token], depth: u32) -> Option<&[Token]>
     over_type_within(tokens, depth - 1)
 }
 
+/// Over a type, at most 200 in one another.
+pub fn over_written(tokens: &[Token]) -> Option<&[Token]>
+    ensures { Finds (λ x. x.now) result (over_type 200 tokens.now) }
+{
+    over_type(tokens, 200)
+}
+
 /// What comes behind type arguments, at most 200 in one another.
 #[tactic(auto, unfolding(grammar::specs::Outline::behind_arguments))]
-fn behind_arguments(tokens: &[Token]) -> Option<&[Token]>
+pub fn behind_arguments(tokens: &[Token]) -> Option<&[Token]>
     ensures { Finds (λ x. x.now) result (behind_arguments tokens.now) }
 {
     over_angles(tokens, 200, Angles::Arguments)

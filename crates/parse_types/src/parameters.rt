@@ -135,11 +135,11 @@ fn initializer<'k, B: Below<'k>>(
 ) -> Result<((Token, Expr), u32, &'k [Token]), Miss>
     requires limit { B.room below.now ≤ 200 }
     requires sound { B.sound below.now }
-    ensures reading { Gives (λ x. (x.0, x.2.now)) result ((take_token (is Kind.Equals) ▸ (lower (B.room below.now)).expression Setting.Plain) tokens.now) }
+    ensures reading { Gives (λ x. (x.0, x.2.now)) result ((take_token (is Kind.Equals) ▸ (lower (B.room below.now)).expression Setting.Default) tokens.now) }
     ensures deep { IfOk result (λ x. IsDeep (B.room below.now) x.0.1 x.1) }
 {
     let (equals, rest) = token(tokens, Kind::Equals).ok_or(Miss::NoReading)?;
-    let (value, height, rest) = below.expression(alloc, Setting::Plain, rest)?;
+    let (value, height, rest) = below.expression(alloc, Setting::Default, rest)?;
     Ok(((equals, value), height, rest))
 }
 
@@ -151,7 +151,7 @@ pub fn some_initializer<'k, B: Below<'k>>(
 ) -> Result<(Option<(Token, Expr)>, u32, &'k [Token]), Miss>
     requires limit { B.room below.now ≤ 200 }
     requires sound { B.sound below.now }
-    ensures reading { Gives (λ x. (x.0, x.2.now)) result (take_maybe (take_token (is Kind.Equals) ▸ (lower (B.room below.now)).expression Setting.Plain) tokens.now) }
+    ensures reading { Gives (λ x. (x.0, x.2.now)) result (take_maybe (take_token (is Kind.Equals) ▸ (lower (B.room below.now)).expression Setting.Default) tokens.now) }
     ensures deep { IfOk result (λ x. IsPartDeep (B.room below.now) (behind_token x.0) x.1) }
 {
     match initializer(below, alloc, tokens) {

@@ -150,7 +150,7 @@ parameter_laid c l a which =
     (lays_seq (lays_perhaps (lays_token c (is_either kind.Final kind.Var)))
     (lays_seq (lays_maybe (lays_before heads_field a.named))
     (lays_seq (lays_perhaps (lays_seq (lays_token c (is kind.This)) (lays_token c (is kind.Period))))
-    (lays_seq (lays_token c is_name) (lays_maybe (lays_seq (lays_token c (is kind.Equals)) (a.expression setting.Plain)))))))))
+    (lays_seq (lays_token c is_name) (lays_maybe (lays_seq (lays_token c (is kind.Equals)) (a.expression setting.Default)))))))))
     (λ read x n. (refl, (n, rw (part_read c n x.1.1.1.0, behind_read c n x.1.1.1.1.1.1) refl)))
 
 parameters_laid : (c : Text) (l : Lower) → Ordered c l → (which : ParameterKind) → Lays c (total (one c)) false (take_parameters l which)

@@ -163,7 +163,7 @@ parameter_follows r l a which =
     (follows_seq (follows_maybe (follows_token r (is_either kind.Final kind.Var) (blind_either kind.Final kind.Var)))
     (follows_seq (follows_maybe (follows_before heads_field (blind_field r) a.named))
     (follows_seq (follows_maybe (follows_seq (mark r kind.This) (mark r kind.Period)))
-    (follows_seq (named r) (follows_maybe (follows_seq (mark r kind.Equals) (a.expression setting.Plain)))))))))
+    (follows_seq (named r) (follows_maybe (follows_seq (mark r kind.Equals) (a.expression setting.Default)))))))))
     (λ read other x y p.
     let written = part_same r x.1.1.1.0 y.1.1.1.0 p.1.1.1.0 in
     let value = behind_same r x.1.1.1.1.1.1 y.1.1.1.1.1.1 p.1.1.1.1.1.1 in

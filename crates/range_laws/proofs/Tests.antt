@@ -14,12 +14,13 @@ use Rattle.dart_tree.specs.declared.operators.BinaryOperatorKind.TheVariants.{Gr
 use Rattle.grammar.specs.Tokens.{adjoins, is, is_either, is_name, is_type_name, heads, heads_name, first_then, group_then, anything, past, span_over}
 use Rattle.grammar.specs.Types.{heads_qualified, heads_required, heads_field, goes_on_parameter}
 use Rattle.grammar.specs.Outline.{Way, onward, ◌⨾◌, way_or, either_way, behind_or, perhaps, go_on, repeated, some_more, over, over_group, over_name, over_angles, over_parameter, over_tail, over_plain, over_type, behind_arguments}
+use Rattle.grammar.specs.Parameters.{at_end, group_holds, over_piece, over_value, over_field, over_declared, over_untyped, begins_parameter, heads_name_end, heads_parameter, fills_brackets, heads_optional, fills_parentheses}
 use Rattle.grammar.specs.Operators.{shift_at, greater_at, sign_at, heads_sign, read_sign, take_sign}
-use Rattle.grammar.specs.Expressions.{goes_on, heads_cast, heads_rest, heads_brace, heads_body, heads_closure, begins_expression, heads_tail, heads_choice, heads_nullable, heads_label, heads_use, heads_generic, behind_call, heads_call}
+use Rattle.grammar.specs.Expressions.{goes_on, heads_cast, heads_rest, heads_brace, heads_body, heads_parentheses, heads_closure, begins_expression, heads_tail, heads_choice, heads_nullable, heads_label, heads_use, heads_generic, behind_call, heads_call}
 use Rattle.grammar.specs.Statements.{segment_at, segment, case_size_at, case_size}
 use Rattle.grammar.specs.Declarations.{heads_getter, heads_setter, is_class, begins_static, heads_static, word_at, class_word, heads_class, heads_word}
 use Rattle.grammar.specs.Descents.{begins_string, begins_prefix}
-use Rattle.range_laws.proofs.Follow.{Matched, Readers, Alike, agree_length, alike_behind, alike_drop, Both, Found, Follows, Blind, BlindTo, option_found}
+use Rattle.range_laws.proofs.Follow.{Matched, Readers, Alike, agree_length, alike_behind, alike_drop, alike_take, Both, Found, Follows, Blind, BlindTo, option_found}
 
 -- Tokens.
 
@@ -283,6 +284,79 @@ map_blind r c b None (Some y) h = absurd h
 map_blind r c b (Some x) None h = absurd h
 map_blind r c b (Some x) (Some y) h = b x y h
 
+-- Parameters by their tokens.
+
+blind_end : (r : Readers) → Blind r at_end
+blind_end r [] [] a = refl
+blind_end r [] (u ∷ us) a = absurd a.agree
+blind_end r (t ∷ ts) [] a = absurd a.agree
+blind_end r (t ∷ ts) (u ∷ us) a = refl
+
+blind_held : (r : Readers) (f : Token → Bool) (c : Test Token) → BlindTo f → Blind r c → Blind r (group_holds f c)
+blind_held r f c b d [] [] a = refl
+blind_held r f c b d [] (u ∷ us) a = absurd a.agree
+blind_held r f c b d (t ∷ ts) [] a = absurd a.agree
+blind_held r f c b d (t ∷ ts) (u ∷ us) a = rw (b t u a.agree.0, a.agree.0.width, d (take u.width ts) (take u.width us) (alike_take r u.width ts us (alike_behind r t u ts us a))) refl
+
+piece_goes : (r : Readers) → Goes r over_piece
+piece_goes r [] [] a = tt
+piece_goes r [] (u ∷ us) a = absurd a.agree
+piece_goes r (t ∷ ts) [] a = absurd a.agree
+piece_goes r (t ∷ ts) (u ∷ us) a =
+    if_goes r (is kind.Comma t || is_either kind.Question kind.Colon t) (is kind.Comma u || is_either kind.Question kind.Colon u) None (Some (drop (past t) ts)) None (Some (drop (past u) us)) (rw a.agree.0.kind refl) tt
+    (subst (λ (n : ℕ). Alike r (drop (past t) ts) (drop n us)) a.agree.0.past (alike_drop r (past t) ts us (alike_behind r t u ts us a)))
+
+value_goes : (r : Readers) → Goes r over_value
+value_goes r = more_goes r (either_way behind_arguments over_piece) (either_goes r behind_arguments over_piece (arguments_go r) (piece_goes r))
+
+field_goes : (r : Readers) → Goes r over_field
+field_goes r =
+    seq_goes r (perhaps (over (is kind.This) ⨾ over (is kind.Period))) (over is_name)
+    (perhaps_goes r (over (is kind.This) ⨾ over (is kind.Period)) (seq_goes r (over (is kind.This)) (over (is kind.Period)) (kind_goes r kind.This) (kind_goes r kind.Period))) (over_goes r is_name blind_name)
+
+declared_goes : (r : Readers) → Goes r over_declared
+declared_goes r = either_goes r (over_type 200 ⨾ over_field) over_field (seq_goes r (over_type 200) over_field (type_goes r 200) (field_goes r)) (field_goes r)
+
+untyped_goes : (r : Readers) → Goes r over_untyped
+untyped_goes r =
+    seq_goes r over_field (perhaps (over (is kind.Equals) ⨾ over_value) ⨾ over (is kind.Comma)) (field_goes r)
+    (seq_goes r (perhaps (over (is kind.Equals) ⨾ over_value)) (over (is kind.Comma))
+    (perhaps_goes r (over (is kind.Equals) ⨾ over_value) (seq_goes r (over (is kind.Equals)) over_value (kind_goes r kind.Equals) (value_goes r))) (kind_goes r kind.Comma))
+
+blind_default : (r : Readers) → Blind r (λ us. option_map_or (λ vs. not (heads kind.Colon vs)) (over_value us) false)
+blind_default r ts us a = map_blind r (λ vs. not (heads kind.Colon vs)) (blind_not r (heads kind.Colon) (blind_heads r kind.Colon)) (over_value ts) (over_value us) (value_goes r ts us a)
+
+blind_name_end : (r : Readers) → Blind r heads_name_end
+blind_name_end r ts us a =
+    rw (
+      blind_end r ts us a,
+      blind_next r (is_either kind.Comma kind.OpenBrace) (blind_either kind.Comma kind.OpenBrace) ts us a,
+      blind_first r (is kind.Equals) (λ us. option_map_or (λ vs. not (heads kind.Colon vs)) (over_value us) false) (blind_is kind.Equals) (blind_default r) ts us a,
+    ) refl
+
+blind_parameter : (r : Readers) (c : Test Token) → Blind r c → Blind r (heads_parameter c)
+blind_parameter r c b ts us a =
+    rw (blind_next r begins_parameter (λ t u w. rw w.kind refl) ts us a, blind_required r ts us a, map_blind r c b (over_declared ts) (over_declared us) (declared_goes r ts us a)) refl
+
+blind_brackets : (r : Readers) → Blind r fills_brackets
+blind_brackets r ts us a =
+    map_blind r (λ us. at_end us || heads_parameter heads_name_end us) (blind_or r at_end (heads_parameter heads_name_end) (blind_end r) (blind_parameter r heads_name_end (blind_name_end r)))
+    (some_more over_untyped ts) (some_more over_untyped us) (more_goes r over_untyped (untyped_goes r) ts us a)
+
+blind_optional : (r : Readers) → Blind r heads_optional
+blind_optional r =
+    let f : Token → Bool = is_either kind.OpenBracket kind.OpenBrace in
+    blind_and r (group_holds f fills_brackets) (group_then f at_end) (blind_held r f fills_brackets (blind_either kind.OpenBracket kind.OpenBrace) (blind_brackets r)) (blind_group r f at_end (blind_either kind.OpenBracket kind.OpenBrace) (blind_end r))
+
+blind_parentheses : (r : Readers) → Blind r fills_parentheses
+unfolding fills_parentheses
+blind_parentheses r ts us a =
+    rw (
+      blind_end r ts us a,
+      blind_optional r ts us a,
+      blind_parameter r (λ us. heads_name_end us || heads_optional us) (blind_or r heads_name_end heads_optional (blind_name_end r) (blind_optional r)) ts us a,
+    ) refl
+
 -- Tests of expressions.
 
 pub blind_generic : (r : Readers) → Blind r heads_generic
@@ -303,17 +377,27 @@ blind_brace : (r : Readers) (m : Setting) → Blind r (heads_brace m)
 blind_brace r setting.Plain = blind_heads r kind.OpenBrace
 blind_brace r setting.Listed = blind_heads r kind.OpenBrace
 blind_brace r setting.Initializer = blind_group r (is kind.OpenBrace) heads_rest (blind_is kind.OpenBrace) (blind_rest r)
+blind_brace r setting.Default = blind_heads r kind.OpenBrace
 
 blind_heads_body : (r : Readers) (m : Setting) → Blind r (heads_body m)
 blind_heads_body r m = blind_or r (heads kind.Arrow) (heads_brace m) (blind_heads r kind.Arrow) (blind_brace r m)
 
+blind_before_body : (r : Readers) (m : Setting) → Blind r (heads_parentheses m)
+blind_before_body r setting.Plain = blind_anything r
+blind_before_body r setting.Listed = blind_anything r
+blind_before_body r setting.Initializer = blind_anything r
+blind_before_body r setting.Default = blind_held r (is kind.OpenParenthesis) fills_parentheses (blind_is kind.OpenParenthesis) (blind_parentheses r)
+
 pub blind_closure : (r : Readers) (m : Setting) → Blind r (heads_closure m)
-blind_closure r m = blind_group r (is kind.OpenParenthesis) (heads_body m) (blind_is kind.OpenParenthesis) (blind_heads_body r m)
+blind_closure r m =
+    blind_and r (group_then (is kind.OpenParenthesis) (heads_body m)) (heads_parentheses m)
+    (blind_group r (is kind.OpenParenthesis) (heads_body m) (blind_is kind.OpenParenthesis) (blind_heads_body r m)) (blind_before_body r m)
 
 blind_behind : (r : Readers) (m : Setting) → Blind r (behind_call m)
 blind_behind r setting.Plain = blind_anything r
 blind_behind r setting.Listed = blind_not r (heads_body setting.Plain) (blind_heads_body r setting.Plain)
 blind_behind r setting.Initializer = blind_anything r
+blind_behind r setting.Default = blind_anything r
 
 pub blind_call : (r : Readers) (m : Setting) → Blind r (heads_call m)
 unfolding heads_call

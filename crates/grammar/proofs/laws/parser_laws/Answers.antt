@@ -1,5 +1,8 @@
 use Rattle.readings.specs.Longest.{parses_longest}
 use Rattle.readings.specs.Combinators.{parses_sole}
+use Rattle.grammar.specs.Below.{below}
+use Rattle.grammar.specs.Descents.{lower}
+use Rattle.grammar.proofs.TypesParse.{parameter_list_parses}
 use Rattle.grammar.proofs.Agreement.{all_parse}
 use Rattle.grammar.proofs.laws.parser_laws.Goals as goal
 
@@ -16,4 +19,5 @@ returns c = record {
   simple = λ room tokens. parses_longest (parses_sole (all_parse room).simple) tokens;
   block = λ room tokens. parses_longest (parses_sole (all_parse room).block) tokens;
   statement = λ room tokens. parses_longest (parses_sole (all_parse room).statement) tokens;
+  parameters = λ room tokens. parses_longest (parameter_list_parses (below room) (lower room) (all_parse room)) tokens;
 }
