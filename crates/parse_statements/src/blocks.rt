@@ -158,7 +158,7 @@ fn variable<'k, B: Below<'k>>(
     ensures deep { IfOk result (λ x. IsDeep (B.room below.now) x.0 x.1) }
 {
     let (word, rest) = name(tokens).ok_or(Miss::NoReading)?;
-    let (found, height, rest) = some_initializer(below, alloc, rest)?;
+    let (found, height, rest) = some_initializer(below, alloc, Setting::Plain, rest)?;
     let at = place_over(tokens, rest);
     let name = name_at(word);
     let initializer = found.map(|(_, value)| value);

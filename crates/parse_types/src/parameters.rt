@@ -131,15 +131,16 @@ fn some_field_type<'k, B: Below<'k>>(
 fn initializer<'k, B: Below<'k>>(
     below: &B,
     alloc: Global,
+    setting: Setting,
     tokens: &'k [Token],
 ) -> Result<((Token, Expr), u32, &'k [Token]), Miss>
     requires limit { B.room below.now ≤ 200 }
     requires sound { B.sound below.now }
-    ensures reading { Gives (λ x. (x.0, x.2.now)) result ((take_token (is Kind.Equals) ▸ (lower (B.room below.now)).expression Setting.Default) tokens.now) }
+    ensures reading { Gives (λ x. (x.0, x.2.now)) result ((take_token (is Kind.Equals) ▸ (lower (B.room below.now)).expression setting) tokens.now) }
     ensures deep { IfOk result (λ x. IsDeep (B.room below.now) x.0.1 x.1) }
 {
     let (equals, rest) = token(tokens, Kind::Equals).ok_or(Miss::NoReading)?;
-    let (value, height, rest) = below.expression(alloc, Setting::Default, rest)?;
+    let (value, height, rest) = below.expression(alloc, setting, rest)?;
     Ok(((equals, value), height, rest))
 }
 
@@ -147,14 +148,15 @@ fn initializer<'k, B: Below<'k>>(
 pub fn some_initializer<'k, B: Below<'k>>(
     below: &B,
     alloc: Global,
+    setting: Setting,
     tokens: &'k [Token],
 ) -> Result<(Option<(Token, Expr)>, u32, &'k [Token]), Miss>
     requires limit { B.room below.now ≤ 200 }
     requires sound { B.sound below.now }
-    ensures reading { Gives (λ x. (x.0, x.2.now)) result (take_maybe (take_token (is Kind.Equals) ▸ (lower (B.room below.now)).expression Setting.Default) tokens.now) }
+    ensures reading { Gives (λ x. (x.0, x.2.now)) result (take_maybe (take_token (is Kind.Equals) ▸ (lower (B.room below.now)).expression setting) tokens.now) }
     ensures deep { IfOk result (λ x. IsPartDeep (B.room below.now) (behind_token x.0) x.1) }
 {
-    match initializer(below, alloc, tokens) {
+    match initializer(below, alloc, setting, tokens) {
         Ok((found, height, rest)) => Ok((Some(found), height, rest)),
         Err(Miss::NoReading) => Ok((None, 0, tokens)),
         Err(Miss::Memory) => Err(Miss::Memory),
@@ -180,7 +182,7 @@ fn parameter<'k, B: Below<'k>>(
     let (written, tall, rest) = some_field_type(below, alloc, rest)?;
     let (field, rest) = some_this_period(rest);
     let (declared, rest) = name(rest).ok_or(Miss::NoReading)?;
-    let (default, height, rest) = some_initializer(below, alloc, rest)?;
+    let (default, height, rest) = some_initializer(below, alloc, Setting::Default, rest)?;
     let parameter = Parameter {
         at: place_over(tokens, rest),
         metadata,
