@@ -15,6 +15,7 @@ pub mod OneMore
 pub mod OneMoreNamed
 pub mod BoundFalls
 pub mod SomeParts
+pub mod Knowns
 pub mod ChainSteps
 pub mod MeetingSteps
 pub mod UpperSteps

@@ -7,7 +7,7 @@ use Rattle.dart_types.specs.Heads.{object, is_plain}
 use Rattle.dart_types.specs.Normal.{normal}
 use Rattle.dart_types.specs.Substitution.{put, by_params}
 use Rattle.dart_types.specs.Sizes.{size_of}
-use Rattle.dart_types.specs.Superinterfaces.{IsSuperinterface, direct, further, Inherits, supertype, handed_on, Keeps}
+use Rattle.dart_types.specs.Superinterfaces.{IsSuperinterface, direct, further, supertype, handed_on, Keeps}
 use Rattle.dart_types.specs.Tables.{Table, class_of, depth_of, depth_above, head_depth}
 use Rattle.dart_types.specs.WellFormed.{IsSupertype, HasArguments, IsOver}
 use Rattle.dart_types.specs.Sub.{Sub, right_object}

@@ -10,6 +10,7 @@ pub mod Common
 pub mod Bounds
 pub mod CommonOf
 pub mod BoundsOf
+pub mod KnownView
 pub mod Valid
 pub mod Above
 pub mod Chains

@@ -12,6 +12,7 @@ mod chains;
 mod counts;
 mod factors;
 mod function_parts;
+mod known;
 mod laws;
 mod meetings;
 mod named_parts;

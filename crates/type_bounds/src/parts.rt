@@ -1,6 +1,6 @@
 //! Types that are formed as far as they aren't too large.
 
-ghost use Rattle.std.specs.Prelude.{◌≤◌, IfOk};
+ghost use Rattle.std.specs.Prelude.{◌≡◌, ◌≤◌, IfOk};
 ghost use Rattle.dart_types.specs.Ty.{Ty, Types, invalid, never, variable, interface, no_more, more, join};
 ghost use Rattle.dart_types.specs.Sizes.{size_of};
 ghost use Rattle.dart_types.specs.Normal.{nullable_of};
@@ -44,6 +44,20 @@ impl Part {
         Ok(Part {
             count,
             formed: Some(copied),
+        })
+    }
+
+    /// A second value of the same type and count.
+    pub(crate) fn copy(&self, alloc: Global) -> Result<Part, AllocError>
+        ensures { IfOk result (λ copied. copied ≡ self.now) }
+    {
+        let formed = match &self.formed {
+            None => None,
+            Some(formed) => Some(formed.copy(alloc)?),
+        };
+        Ok(Part {
+            count: self.count,
+            formed,
         })
     }
 

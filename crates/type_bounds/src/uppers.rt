@@ -14,10 +14,12 @@ ghost use Rattle.type_bounds.specs.Bounds.{Upper, UpperApart, Uppers, UpperNamed
 ghost use Rattle.type_bounds.specs.Signatures.{have_upper_function, have_lower_function, same_names};
 ghost use Rattle.type_bounds.specs.BoundsOf.{upper_of, lower_of};
 ghost use Rattle.type_bounds.specs.PartsView.{IsSomePart, AreSomeParts};
+ghost use Rattle.type_bounds.specs.KnownView.{AreBounds};
 ghost use Rattle.type_bounds.specs.NamedView.{AreSomeNamed};
 ghost use Rattle.type_bounds.specs.Valid.{IsValid};
 
 use crate::function_parts::function_part;
+use crate::known::{KnownBounds, leads_to_variable};
 use crate::meetings::{End, meet};
 use crate::named_parts::NamedParts;
 use crate::parts::{Part, Parts};
@@ -43,7 +45,8 @@ pub fn upper(
     ensures above { IfOk result (λ bound. IsValid bound → Sub rows.now.table s.now bound × Sub rows.now.table t.now bound) }
 {
     row_laws(rows);
-    let part = upper_part(alloc, rows, s, t)?;
+    let mut known = KnownBounds::new(alloc);
+    let part = upper_part(alloc, rows, &mut known, s, t)?;
     part.finish()
 }
 
@@ -59,36 +62,95 @@ pub fn lower(
     ensures below { IfOk result (λ bound. IsValid bound → Sub rows.now.table bound s.now × Sub rows.now.table bound t.now) }
 {
     row_laws(rows);
-    let part = lower_part(alloc, rows, s, t)?;
+    let mut known = KnownBounds::new(alloc);
+    let part = lower_part(alloc, rows, &mut known, s, t)?;
     part.finish()
 }
 
 // The upper bound of two types.
 #[cycle(bounds)]
-fn upper_part(alloc: Global, rows: &Rows, s: &DartType, t: &DartType) -> Result<Part, AllocError>
-    ensures { IfOk result (IsSomePart (Upper rows.now.table s.now t.now)) }
+fn upper_part(
+    alloc: Global,
+    rows: &Rows,
+    known: &mut KnownBounds,
+    s: &DartType,
+    t: &DartType,
+) -> Result<Part, AllocError>
+    requires known { AreBounds rows.now.table known.old }
+    ensures bound { IfOk result (IsSomePart (Upper rows.now.table s.now t.now)) }
+    ensures known { AreBounds rows.now.table known.new }
+{
+    if leads_to_variable(s) | leads_to_variable(t) {
+        return upper_once(alloc, rows, known, s, t);
+    }
+    upper_met(alloc, rows, known, s, t)
+}
+
+// The upper bound of two types, which is kept: it is looked for once.
+#[cycle(bounds)]
+#[inline(never)]
+fn upper_once(
+    alloc: Global,
+    rows: &Rows,
+    known: &mut KnownBounds,
+    s: &DartType,
+    t: &DartType,
+) -> Result<Part, AllocError>
+    requires known { AreBounds rows.now.table known.old }
+    ensures bound { IfOk result (IsSomePart (Upper rows.now.table s.now t.now)) }
+    ensures known { AreBounds rows.now.table known.new }
+{
+    let found = known.find(alloc, s, t)?;
+    if let Some(part) = found {
+        return Ok(part);
+    }
+    let bound = upper_met(alloc, rows, known, s, t)?;
+    known.keep(alloc, s, t, &bound)?;
+    Ok(bound)
+}
+
+// The upper bound of two types, which meet first.
+#[cycle(bounds)]
+fn upper_met(
+    alloc: Global,
+    rows: &Rows,
+    known: &mut KnownBounds,
+    s: &DartType,
+    t: &DartType,
+) -> Result<Part, AllocError>
+    requires known { AreBounds rows.now.table known.old }
+    ensures bound { IfOk result (IsSomePart (Upper rows.now.table s.now t.now)) }
+    ensures known { AreBounds rows.now.table known.new }
 {
     let meeting = meet(rows, s, t);
     let part = match meeting.end {
         End::At(bound) => Part::of(alloc, bound)?,
         End::Var(var) => Part::variable(var),
         End::Nowhere => Part::invalid(),
-        End::Apart(left, right) => upper_settled(alloc, rows, left, right)?,
+        End::Apart(left, right) => upper_settled(alloc, rows, known, left, right)?,
     };
     part.with_mark(alloc, meeting.marked)
 }
 
 // The upper bound of two types that are no variables.
 #[cycle(bounds)]
-fn upper_settled(alloc: Global, rows: &Rows, s: &DartType, t: &DartType) -> Result<Part, AllocError>
+fn upper_settled(
+    alloc: Global,
+    rows: &Rows,
+    known: &mut KnownBounds,
+    s: &DartType,
+    t: &DartType,
+) -> Result<Part, AllocError>
+    requires known { AreBounds rows.now.table known.old }
     requires apart { AreApart rows.now.table s.now t.now }
     requires left { is_settled s.now ≡ true }
     requires right { is_settled t.now ≡ true }
-    ensures { IfOk result (IsSomePart (UpperApart rows.now.table s.now t.now)) }
+    ensures bound { IfOk result (IsSomePart (UpperApart rows.now.table s.now t.now)) }
+    ensures known { AreBounds rows.now.table known.new }
 {
     match &s.node {
-        TypeNode::Interface { class, args } => upper_of_class(alloc, rows, *class, args, t),
-        TypeNode::Function(function) => upper_of_function(alloc, rows, function, t),
+        TypeNode::Interface { class, args } => upper_of_class(alloc, rows, known, *class, args, t),
+        TypeNode::Function(function) => upper_of_function(alloc, rows, known, function, t),
         _ => Ok(Part::invalid()),
     }
 }
@@ -98,13 +160,16 @@ fn upper_settled(alloc: Global, rows: &Rows, s: &DartType, t: &DartType) -> Resu
 fn upper_of_class(
     alloc: Global,
     rows: &Rows,
+    known: &mut KnownBounds,
     class: ClassId,
     args: &TypeList,
     t: &DartType,
 ) -> Result<Part, AllocError>
+    requires known { AreBounds rows.now.table known.old }
     requires apart { AreApart rows.now.table (interface class (types_of args.now)) t.now }
     requires right { is_settled t.now ≡ true }
-    ensures { IfOk result (IsSomePart (UpperApart rows.now.table (interface class (types_of args.now)) t.now)) }
+    ensures bound { IfOk result (IsSomePart (UpperApart rows.now.table (interface class (types_of args.now)) t.now)) }
+    ensures known { AreBounds rows.now.table known.new }
 {
     match &t.node {
         TypeNode::Function(_) => Part::class(alloc, OBJECT),
@@ -118,7 +183,7 @@ fn upper_of_class(
             if args.as_slice().len() != others.as_slice().len() {
                 return Ok(Part::invalid());
             }
-            let uppers = upper_all(alloc, rows, args.as_slice(), others.as_slice())?;
+            let uppers = upper_all(alloc, rows, known, args.as_slice(), others.as_slice())?;
             Part::interface(alloc, class, uppers)
         }
         _ => Ok(Part::invalid()),
@@ -131,19 +196,22 @@ fn upper_of_class(
 fn upper_of_function(
     alloc: Global,
     rows: &Rows,
+    known: &mut KnownBounds,
     function: &FunctionType,
     t: &DartType,
 ) -> Result<Part, AllocError>
+    requires known { AreBounds rows.now.table known.old }
     requires apart { AreApart rows.now.table (function_type function.now) t.now }
     requires right { is_settled t.now ≡ true }
-    ensures { IfOk result (IsSomePart (UpperApart rows.now.table (function_type function.now) t.now)) }
+    ensures bound { IfOk result (IsSomePart (UpperApart rows.now.table (function_type function.now) t.now)) }
+    ensures known { AreBounds rows.now.table known.new }
 {
     match &t.node {
         TypeNode::Function(other) => {
             if !have_upper(function, other) {
                 return Part::class(alloc, FUNCTION);
             }
-            upper_of_functions(alloc, rows, function, other)
+            upper_of_functions(alloc, rows, known, function, other)
         }
         TypeNode::Interface { .. } => Part::class(alloc, OBJECT),
         _ => Ok(Part::invalid()),
@@ -156,26 +224,31 @@ fn upper_of_function(
 fn upper_of_functions(
     alloc: Global,
     rows: &Rows,
+    known: &mut KnownBounds,
     function: &FunctionType,
     other: &FunctionType,
 ) -> Result<Part, AllocError>
-    requires { have_upper_function function.now other.now ≡ true }
-    ensures { IfOk result (IsSomePart (UpperApart rows.now.table (function_type function.now) (function_type other.now))) }
+    requires known { AreBounds rows.now.table known.old }
+    requires has { have_upper_function function.now other.now ≡ true }
+    ensures bound { IfOk result (IsSomePart (UpperApart rows.now.table (function_type function.now) (function_type other.now))) }
+    ensures known { AreBounds rows.now.table known.new }
 {
     let required = lower_all(
         alloc,
         rows,
+        known,
         function.required.as_slice(),
         other.required.as_slice(),
     )?;
     let optional = lower_all(
         alloc,
         rows,
+        known,
         function.optional.as_slice(),
         other.optional.as_slice(),
     )?;
-    let named = lower_named(alloc, rows, function.named.as_slice(), &other.named)?;
-    let result = upper_part(alloc, rows, &function.result, &other.result)?;
+    let named = lower_named(alloc, rows, known, function.named.as_slice(), &other.named)?;
+    let result = upper_part(alloc, rows, known, &function.result, &other.result)?;
     function_part(alloc, required, optional, named, result)
 }
 
@@ -184,15 +257,18 @@ fn upper_of_functions(
 fn upper_all(
     alloc: Global,
     rows: &Rows,
+    known: &mut KnownBounds,
     types: &[DartType],
     others: &[DartType],
 ) -> Result<Parts, AllocError>
-    requires { length types.now ≡ length others.now }
-    ensures { IfOk result (AreSomeParts (Uppers rows.now.table (types_of types.now) (types_of others.now))) }
+    requires known { AreBounds rows.now.table known.old }
+    requires same { length types.now ≡ length others.now }
+    ensures bound { IfOk result (AreSomeParts (Uppers rows.now.table (types_of types.now) (types_of others.now))) }
+    ensures known { AreBounds rows.now.table known.new }
 {
     let mut uppers = Parts::new(alloc);
     for i in 0..types.len() {
-        let part = upper_part(alloc, rows, &types[i], &others[i])?;
+        let part = upper_part(alloc, rows, known, &types[i], &others[i])?;
         uppers = uppers.with(part)?;
     }
     Ok(uppers)
@@ -203,17 +279,20 @@ fn upper_all(
 fn lower_all(
     alloc: Global,
     rows: &Rows,
+    known: &mut KnownBounds,
     types: &[DartType],
     others: &[DartType],
 ) -> Result<Parts, AllocError>
-    ensures { IfOk result (AreSomeParts (LowerParams rows.now.table (types_of types.now) (types_of others.now))) }
+    requires known { AreBounds rows.now.table known.old }
+    ensures bound { IfOk result (AreSomeParts (LowerParams rows.now.table (types_of types.now) (types_of others.now))) }
+    ensures known { AreBounds rows.now.table known.new }
 {
     let mut lowers = Parts::new(alloc);
     for i in 0..types.len() {
         if i >= others.len() {
             return Ok(lowers);
         }
-        let part = lower_part(alloc, rows, &types[i], &others[i])?;
+        let part = lower_part(alloc, rows, known, &types[i], &others[i])?;
         lowers = lowers.with(part)?;
     }
     Ok(lowers)
@@ -224,11 +303,14 @@ fn lower_all(
 fn lower_named(
     alloc: Global,
     rows: &Rows,
+    known: &mut KnownBounds,
     named: &[NamedType],
     others: &NamedTypes,
 ) -> Result<NamedParts, AllocError>
-    requires { AreInOrder (names_of named.now) }
-    ensures { IfOk result (AreSomeNamed (LowerNamed rows.now.table (named_of named.now) (named_of others.now))) }
+    requires known { AreBounds rows.now.table known.old }
+    requires in_order { AreInOrder (names_of named.now) }
+    ensures bound { IfOk result (AreSomeNamed (LowerNamed rows.now.table (named_of named.now) (named_of others.now))) }
+    ensures known { AreBounds rows.now.table known.new }
 {
     named_parameter_laws();
     let mut lowers = NamedParts::new(alloc);
@@ -236,7 +318,7 @@ fn lower_named(
         let own = &named[i];
         if let Some(other) = others.get(&own.name) {
             let required = own.required | other.required;
-            let part = lower_part(alloc, rows, &own.ty, &other.ty)?;
+            let part = lower_part(alloc, rows, known, &own.ty, &other.ty)?;
             lowers = lowers.with(&own.name, required, part)?;
         }
     }
@@ -248,19 +330,22 @@ fn lower_named(
 fn upper_named(
     alloc: Global,
     rows: &Rows,
+    known: &mut KnownBounds,
     named: &[NamedType],
     others: &[NamedType],
 ) -> Result<NamedParts, AllocError>
+    requires known { AreBounds rows.now.table known.old }
     requires in_order { AreInOrder (names_of named.now) }
     requires same { same_names (named_of named.now) (named_of others.now) ≡ true }
-    ensures { IfOk result (AreSomeNamed (UpperNamed rows.now.table (named_of named.now) (named_of others.now))) }
+    ensures bound { IfOk result (AreSomeNamed (UpperNamed rows.now.table (named_of named.now) (named_of others.now))) }
+    ensures known { AreBounds rows.now.table known.new }
 {
     let mut uppers = NamedParts::new(alloc);
     for i in 0..named.len() {
         let own = &named[i];
         let other = &others[i];
         let required = own.required & other.required;
-        let part = upper_part(alloc, rows, &own.ty, &other.ty)?;
+        let part = upper_part(alloc, rows, known, &own.ty, &other.ty)?;
         uppers = uppers.with(&own.name, required, part)?;
     }
     Ok(uppers)
@@ -268,8 +353,16 @@ fn upper_named(
 
 // The lower bound of two types.
 #[cycle(bounds)]
-fn lower_part(alloc: Global, rows: &Rows, s: &DartType, t: &DartType) -> Result<Part, AllocError>
-    ensures { IfOk result (IsSomePart (Lower rows.now.table s.now t.now)) }
+fn lower_part(
+    alloc: Global,
+    rows: &Rows,
+    known: &mut KnownBounds,
+    s: &DartType,
+    t: &DartType,
+) -> Result<Part, AllocError>
+    requires known { AreBounds rows.now.table known.old }
+    ensures bound { IfOk result (IsSomePart (Lower rows.now.table s.now t.now)) }
+    ensures known { AreBounds rows.now.table known.new }
 {
     if is_subtype(rows, s, t) {
         return Part::of(alloc, s);
@@ -277,23 +370,31 @@ fn lower_part(alloc: Global, rows: &Rows, s: &DartType, t: &DartType) -> Result<
     if is_subtype(rows, t, s) {
         return Part::of(alloc, t);
     }
-    lower_apart(alloc, rows, s, t)
+    lower_apart(alloc, rows, known, s, t)
 }
 
 // The lower bound of two types that aren't subtypes of each other.
 #[cycle(bounds)]
-fn lower_apart(alloc: Global, rows: &Rows, s: &DartType, t: &DartType) -> Result<Part, AllocError>
+fn lower_apart(
+    alloc: Global,
+    rows: &Rows,
+    known: &mut KnownBounds,
+    s: &DartType,
+    t: &DartType,
+) -> Result<Part, AllocError>
+    requires known { AreBounds rows.now.table known.old }
     requires apart { AreApart rows.now.table s.now t.now }
-    ensures { IfOk result (IsSomePart (LowerApart rows.now.table s.now t.now)) }
+    ensures bound { IfOk result (IsSomePart (LowerApart rows.now.table s.now t.now)) }
+    ensures known { AreBounds rows.now.table known.new }
 {
     if is_marked(s) & is_marked(t) {
-        return lower_part(alloc, rows, bare(s), bare(t))?.nullable(alloc);
+        return lower_part(alloc, rows, known, bare(s), bare(t))?.nullable(alloc);
     }
     if is_marked(s) | is_marked(t) {
-        return lower_part(alloc, rows, bare(s), bare(t));
+        return lower_part(alloc, rows, known, bare(s), bare(t));
     }
     match &s.node {
-        TypeNode::Function(function) => lower_of_function(alloc, rows, function, t),
+        TypeNode::Function(function) => lower_of_function(alloc, rows, known, function, t),
         _ => Ok(Part::never()),
     }
 }
@@ -304,18 +405,21 @@ fn lower_apart(alloc: Global, rows: &Rows, s: &DartType, t: &DartType) -> Result
 fn lower_of_function(
     alloc: Global,
     rows: &Rows,
+    known: &mut KnownBounds,
     function: &FunctionType,
     t: &DartType,
 ) -> Result<Part, AllocError>
-    requires { is_marked t.now ≡ false }
-    ensures { IfOk result (IsSomePart (LowerApart rows.now.table (function_type function.now) t.now)) }
+    requires known { AreBounds rows.now.table known.old }
+    requires bare { is_marked t.now ≡ false }
+    ensures bound { IfOk result (IsSomePart (LowerApart rows.now.table (function_type function.now) t.now)) }
+    ensures known { AreBounds rows.now.table known.new }
 {
     match &t.node {
         TypeNode::Function(other) => {
             if !have_lower(function, other) {
                 return Ok(Part::never());
             }
-            lower_of_functions(alloc, rows, function, other)
+            lower_of_functions(alloc, rows, known, function, other)
         }
         _ => Ok(Part::never()),
     }
@@ -327,30 +431,36 @@ fn lower_of_function(
 fn lower_of_functions(
     alloc: Global,
     rows: &Rows,
+    known: &mut KnownBounds,
     function: &FunctionType,
     other: &FunctionType,
 ) -> Result<Part, AllocError>
-    requires { have_lower_function function.now other.now ≡ true }
-    ensures { IfOk result (IsSomePart (LowerApart rows.now.table (function_type function.now) (function_type other.now))) }
+    requires known { AreBounds rows.now.table known.old }
+    requires has { have_lower_function function.now other.now ≡ true }
+    ensures bound { IfOk result (IsSomePart (LowerApart rows.now.table (function_type function.now) (function_type other.now))) }
+    ensures known { AreBounds rows.now.table known.new }
 {
     let required = upper_all(
         alloc,
         rows,
+        known,
         function.required.as_slice(),
         other.required.as_slice(),
     )?;
     let optional = upper_all(
         alloc,
         rows,
+        known,
         function.optional.as_slice(),
         other.optional.as_slice(),
     )?;
     let named = upper_named(
         alloc,
         rows,
+        known,
         function.named.as_slice(),
         other.named.as_slice(),
     )?;
-    let result = lower_part(alloc, rows, &function.result, &other.result)?;
+    let result = lower_part(alloc, rows, known, &function.result, &other.result)?;
     function_part(alloc, required, optional, named, result)
 }

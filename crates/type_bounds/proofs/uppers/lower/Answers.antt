@@ -6,8 +6,8 @@ use Rattle.type_bounds.proofs.uppers.lower.Goals as goal
 
 pub returns-clause-forms : goal.returns-clause-forms
 returns-clause-forms c =
-    subst (Forms c.finish.result) (lower_is c.args.rows.now.table c.row_laws.ensures c.in_ok-part.ensures.1) (c.finish.ensures c.in_ok-part.ensures.0 c.in_ok-part.ensures.2)
+    subst (Forms c.finish.result) (lower_is c.args.rows.now.table c.row_laws.ensures c.in_ok-part.ensures.bound.1) (c.finish.ensures c.in_ok-part.ensures.bound.0 c.in_ok-part.ensures.bound.2)
 
 pub returns-clause-below : goal.returns-clause-below
 returns-clause-below c =
-    lower_formed c.args.rows.now.table c.row_laws.ensures c.finish.result c.in_ok-part.ensures.1 (c.finish.ensures c.in_ok-part.ensures.0 c.in_ok-part.ensures.2)
+    lower_formed c.args.rows.now.table c.row_laws.ensures c.finish.result c.in_ok-part.ensures.bound.1 (c.finish.ensures c.in_ok-part.ensures.bound.0 c.in_ok-part.ensures.bound.2)
