@@ -8,6 +8,7 @@
 //! | `rows diamonds N` | those with letters, and N diamonds above one another in the tower: 3 is a 1 and a 2, both are a 0, and so on |
 //! | `rows chain N` | those with letters, and a chain of N variables behind the first, whose bound is num; each is the bound of the next |
 //! | `rows marks N` | the same, each with `?` |
+//! | `rows pairs N` | those with letters, and behind the variables X and Y, whose bounds are int and double, N pairs of variables: the bound of each is a Map of two times the one two places before it |
 //! | `rows doubling N` | N classes of the tower, each of which is the one before it of a pair of its parameter, and one behind them that is the last of its own parameter |
 //!
 //! No call takes the time of all ways up, and none goes too deep.
@@ -146,6 +147,37 @@ fn chain(alloc: Global, count: u32, with_marks: bool) -> Result<ExtendedRows, Fa
     rows_of(alloc, sample_classes(alloc)?, vars)
 }
 
+// A variable whose bound is a Map of two times another one.
+fn pair_of(alloc: Global, of: u32, index: u32) -> Result<VarRow, Fail> {
+    let mut pair = TypeList::new(alloc);
+    pair.push(link(of))?;
+    pair.push(link(of))?;
+    let class_map = ClassId {
+        lib: CORE,
+        index: 9,
+    };
+    Ok(VarRow {
+        var: var(index),
+        bound: DartType::interface(alloc, class_map, pair)?,
+    })
+}
+
+// The classes with letters, two variables whose bounds are `int` and `double`, and so many pairs of
+// variables behind them, each of which has a Map of two times the one before it on its side as its bound.
+fn pairs(alloc: Global, count: u32) -> Result<ExtendedRows, Fail> {
+    let mut vars = sample_params(alloc)?;
+    vars.push(var_row(alloc, VARS, 0, "i")?)?;
+    vars.push(var_row(alloc, VARS, 1, "d")?)?;
+    let mut before: u32 = 0;
+    for _ in 0..count {
+        let next = before.saturating_add(1);
+        vars.push(pair_of(alloc, before, before.saturating_add(2))?)?;
+        vars.push(pair_of(alloc, next, next.saturating_add(2))?)?;
+        before = before.saturating_add(2);
+    }
+    rows_of(alloc, sample_classes(alloc)?, vars)
+}
+
 // A class that is the one before it of `Map<T, T>`, of its own parameter T.
 fn doubled(alloc: Global, class: u32, above: u32, depth: u64) -> Result<ClassRow, Fail> {
     let mut pair = TypeList::new(alloc);
@@ -236,6 +268,7 @@ pub(crate) fn rows_in(alloc: Global, text: &str) -> Result<ExtendedRows, Fail> {
         "diamonds" => diamonds(alloc, count),
         "chain" => chain(alloc, count, false),
         "marks" => chain(alloc, count, true),
+        "pairs" => pairs(alloc, count),
         "doubling" => doubling(alloc, count),
         _ => Err("no such rows".into()),
     }
