@@ -5,3 +5,5 @@ pub mod Hidden
 pub mod Interface
 pub mod Runs
 pub mod Order
+pub mod Numbers
+pub mod Keys

@@ -1,5 +1,5 @@
 -- Which tokens of a text are seen, where its tokens and what it hides stand in the order of the text.
-use Rattle.std.specs.Prelude.{ℕ, ◌≤◌, Bool, true, false, ◌&&◌, ◌||◌, not, nat_lt, List, [], ◌∷◌, if◌then◌else◌}
+use Rattle.std.specs.Prelude.{ℕ, ◌<◌, ◌≤◌, Bool, true, false, ◌&&◌, ◌||◌, not, nat_lt, List, [], ◌∷◌, if◌then◌else◌}
 use Rattle.std.specs.List.{filter}
 use Rattle.dart_tokens.specs.declared.token.Token.{Token}
 use Rattle.interface_part.specs.declared.hidden.Hidden.{Hidden}
@@ -10,6 +10,11 @@ use Rattle.interface_part.specs.Interface.{is_seen, lexeme_of}
 abbrev pub TokensInOrder : (from : ℕ) → List Token → Type 0
 TokensInOrder from [] = Unit {0}
 TokensInOrder from (t ∷ ts) = (from ≤ t.start) × TokensInOrder t.start ts
+
+-- no token is empty, and each begins behind the end of the one before it, the first no sooner than at an offset
+abbrev pub TokensApart : (from : ℕ) → List Token → Type 0
+TokensApart from [] = Unit {0}
+TokensApart from (t ∷ ts) = (from ≤ t.start) × (t.start < t.end) × TokensApart t.end ts
 
 -- each range begins behind the end of the one before it, and the first no sooner than at an offset
 abbrev pub RangesInOrder : (from : ℕ) → List Hidden → Type 0

@@ -47,7 +47,7 @@ fn with_token(
 }
 
 /// The tokens behind the first ones.
-fn behind(tokens: &[Token], count: usize) -> &[Token]
+pub(crate) fn behind(tokens: &[Token], count: usize) -> &[Token]
     requires { count ≤ length tokens.now }
     ensures { result.now ≡ drop count tokens.now }
 {
@@ -73,7 +73,7 @@ fn with_lexemes(
 
 /// How many tokens come before the first that begins at an offset of the text, or behind it.
 #[tactic(auto, using(crate::proofs::Walks::count_more, crate::proofs::Walks::count_stop))]
-fn count_before(tokens: &[Token], offset: u32) -> usize
+pub(crate) fn count_before(tokens: &[Token], offset: u32) -> usize
     ensures count { result ≡ count_before offset tokens.now }
     ensures within { result ≤ length tokens.now }
 {
@@ -98,7 +98,7 @@ fn has_super(tokens: &[Token]) -> bool
 }
 
 /// Of what stands in a mixin, that is seen in which the word `super` stands.
-fn is_seen(hidden: Hidden, within: &[Token]) -> bool
+pub(crate) fn is_seen(hidden: Hidden, within: &[Token]) -> bool
     ensures { result ≡ is_seen hidden within.now }
 {
     hidden.in_mixin && has_super(within)
